@@ -10,8 +10,8 @@
 //!   `into_vec` returns the `Vec`; neither allocates. `Sequence::from_slice` copies a slice, `try_copy` a sequence.
 //!   `as_slice` borrows the items. Sequences are compared, ordered and hashed as the lists of their items.
 //! - The definitions in `specs/`, for the crates above: sets kept as ascending lists (`Sets`), with their laws (`SetLaws`),
-//!   what is in a list (`ListLaws`), small laws of answers (`Answers`), how calls are counted (`Counting`), and the greatest number
-//!   of 32 bits (`Bounds`). In `proofs/`: steps of loops over lists (`Loops`).
+//!   what is in a list (`ListLaws`), small laws of answers (`Answers`), how calls are counted (`Counting`), and the greatest
+//!   numbers of 32 and of 64 bits (`Bounds`). In `proofs/`: steps of loops over lists (`Loops`).
 #![tactic(auto)]
 
 mod compared;

@@ -10,11 +10,13 @@
 //!   objects and 800 facts. The answer is the number of these entries, and how many questions to the prover that took.
 //! - `pushes N`: which entries may be pushed for one thing to stand on another, of N things, where standing on is transitive.
 //! - `gaps N`: what is missing for this. The answer is the number of gaps.
+//! - `taking N`: which entries may be pushed for a thing to be taken, of N things, where three have the sort of what can be taken.
 #![tactic(auto)]
 
 mod building;
 mod corridor;
 mod standing;
+mod taking;
 
 use building::{building, facts};
 use corridor::{corridor, corridor_facts, in_first_room, long_way};
@@ -28,6 +30,7 @@ use px_terms::{Atom, NoMemory, Problem, Term, are_atoms_of, is_valid};
 use standing::{first_on_second, standing};
 use std::alloc::Global;
 use std::io;
+use taking::{first_held, taking, third_is_held};
 
 /// What the questions are about: the building, what holds in it, and a box and the robot that are to be in another room; and the corridor,
 /// what holds there, and the learned table.
@@ -64,6 +67,7 @@ enum LineQuestion {
     Box,
     Pushes(u32),
     Gaps(u32),
+    Taking(u32),
 }
 
 /// Returns what the line asks, if it is a question.
@@ -79,6 +83,7 @@ fn question_of(line: &str) -> Option<LineQuestion> {
     match word {
         "pushes" => Some(LineQuestion::Pushes(objects)),
         "gaps" => Some(LineQuestion::Gaps(objects)),
+        "taking" => Some(LineQuestion::Taking(objects)),
         _ => None,
     }
 }
@@ -151,6 +156,14 @@ fn gaps_of_things(alloc: Global, objects: u32) -> Option<usize> {
     }
 }
 
+/// Returns what may be pushed for a thing to be taken.
+fn pushes_of_taking(alloc: Global, objects: u32) -> Option<Pushes> {
+    match (taking(alloc, objects), first_held(alloc)) {
+        (Ok(problem), Ok(model)) => count_pushes(alloc, &problem, &model, third_is_held(), &[]),
+        _ => None,
+    }
+}
+
 /// Prints the answer to a question about what may be pushed.
 fn print_pushes(rt: &HostRuntime, pushes: Option<Pushes>) -> io::Result<()> {
     match pushes {
@@ -187,6 +200,7 @@ fn answer(rt: &HostRuntime, asked: &Asked, line: &str) -> io::Result<()> {
         }
         Some(LineQuestion::Pushes(objects)) => print_pushes(rt, pushes_of_things(alloc, objects)),
         Some(LineQuestion::Gaps(objects)) => print_gaps(rt, gaps_of_things(alloc, objects)),
+        Some(LineQuestion::Taking(objects)) => print_pushes(rt, pushes_of_taking(alloc, objects)),
         None => println!(rt; "no question"),
     }
 }

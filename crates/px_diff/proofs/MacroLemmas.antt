@@ -1,35 +1,33 @@
 -- MACROPs whose objects are chosen one after the other, part by part.
-use Rattle.std.proofs.Common.{◌≡◌, ◌∙◌, ◌⊎◌, ◌+◌, ◌<◌, ◌≤◌, ℕ, zero, suc, Some, List, [], ◌∷◌, length, map, set, take, slice_get, ap, sym, subst, inl, inr, arith}
+use Rattle.std.proofs.Common.{◌≡◌, ◌∙◌, ◌⊎◌, ◌+◌, ◌<◌, ◌≤◌, ℕ, Some, List, [], length, map, set, take, slice_get, ap, sym, subst, inl, inr, arith}
 use Rattle.std.specs.Prelude.{All, Contains, slice_index}
-use Rattle.std.proofs.lemmas.List.{length-map, take-map}
+use Rattle.std.proofs.lemmas.List.{take-map}
 use Rattle.std.proofs.lemmas.Option.{slice_get_within}
-use Rattle.px_base.specs.ListLaws.{All-at, All-each, Contains-cases, Contains-first, Contains-later, Contains-none}
+use Rattle.px_base.specs.ListLaws.{All-at, All-each}
 use Rattle.px_table.specs.declared.entry.Entry.{Entry}
 use Rattle.px_table.specs.declared.entry.Entry.TheVariants.{Macro}
 use Rattle.px_table.specs.declared.mark.Mark.{Mark}
 use Rattle.px_table.specs.declared.table.Table.{Table}
 use Rattle.px_table.specs.Kernels.{instance_under, steps_under}
-use Rattle.px_table.specs.Prefixes.{IsMacro, IsUsed}
-use Rattle.px_table.specs.Tables.{IsStepOf, IsTable}
-use Rattle.px_terms.specs.Language.{substitute}
+use Rattle.px_table.specs.Prefixes.{IsMacro}
+use Rattle.px_table.specs.Tables.{IsTable}
 use Rattle.px_terms.specs.Operators.{IsAdded}
-use Rattle.px_terms.specs.Validity.{IsAtomOf, IsInstanceOf, IsTermOf}
+use Rattle.px_terms.specs.Validity.{IsAtomOf}
 use Rattle.px_terms.specs.declared.atom.Atom.{Atom}
 use Rattle.px_terms.specs.declared.instance.OpInst.{OpInst}
 use Rattle.px_terms.specs.declared.problem.Problem.{Problem}
 use Rattle.px_terms.specs.declared.term.Term.{Term}
-use Rattle.px_terms.specs.declared.term.Term.TheVariants.{Obj, Var, Any as Wild}
+use Rattle.px_terms.specs.declared.term.Term.TheVariants.{Obj, Var}
 use Rattle.px_gaps.specs.Bindings.{ExtendsTerms, IsPlain, first_values}
 use Rattle.px_gaps.specs.Closings.{OneOf}
 use Rattle.px_diff.specs.Macros.{IsMacroBefore, IsMacroBy, IsOfFront}
 use Rattle.px_entries.specs.Parameters.{AreFirstTerms, Matches}
 use Rattle.px_diff.specs.Pushes.{IsRelevant}
-use Rattle.px_gaps.proofs.Choosing.{bound-extends, term-at}
+use Rattle.px_gaps.proofs.Choosing.{bound-extends}
 use Rattle.px_gaps.proofs.Describing.{atom-plain}
 use Rattle.px_diff.proofs.EntryLemmas.{effect_is, macro_entry, relevant_macro}
 use Rattle.px_base.proofs.Loops.{level_or_below}
 use Rattle.px_entries.proofs.ParameterLemmas.{first-extends, zero-values}
-use Rattle.px_table.specs.KernelLaws.{Contains-from_map}
 
 -- ---- the objects of one parameter, one after the other
 
@@ -56,50 +54,6 @@ module _ (limit number prefix : ℕ) (terms : List Term) (v : ℕ) (is_open : sl
 
   pub macro_before-none : (entry : Entry) → ¬ IsMacroBefore limit number prefix terms v 0 entry
   macro_before-none entry w = omega (arith, w.2)
-
--- ---- the instances of the first steps
-
-used-first : (table : Table) (prefix v : ℕ) (inst : OpInst) → Contains (take prefix table.steps) inst → Contains inst.args (Var v)
-    → IsUsed table prefix v
-used-first table prefix v inst has inside = inl (has.0, inst, has.1, has.2, inside)
-
-among-taken : {X : Type 0} (n : ℕ) (xs : List X) (x : X) → Contains (take n xs) x → Contains xs x
-among-taken zero xs x has = absurd (Contains-none x has)
-among-taken (suc n) [] x has = absurd (Contains-none x has)
-among-taken (suc n) (y ∷ xs) x has = elim (Contains-cases y (take n xs) x has) [
-  | inl here ↦ subst (λ (z : _). Contains (y ∷ xs) z) here (Contains-first y xs)
-  | inr later ↦ Contains-later y xs x (among-taken n xs x later)
-]
-
-module _ (problem : Problem) (table : Table) (prefix : ℕ) (sigma : List ℕ) (is_table : IsTable problem table)
-    (is : IsMacro problem table prefix sigma) where
-  term-instance : (inst : OpInst) → Contains (take prefix table.steps) inst → (t : Term) → IsTermOf problem table.params t
-      → Contains inst.args t → IsTermOf problem 0 (substitute (map Obj sigma) t)
-  term-instance inst has (Obj n) of inside = of
-  term-instance inst has (Var v) of inside =
-      subst (IsTermOf problem 0) (sym (term-at sigma v (omega (arith, of, is.count))))
-      (is.used v of (used-first table prefix v inst has inside))
-  term-instance inst has Wild of inside = absurd of
-
-  step-instance : (inst : OpInst) → Contains (take prefix table.steps) inst → IsInstanceOf problem (instance_under sigma inst)
-  step-instance inst has =
-      let step : IsStepOf problem table.params inst =
-      All-at (IsStepOf problem table.params) table.steps inst is_table.in_range.steps (among-taken prefix table.steps inst has) in
-      record {
-        op = step.op;
-        count = length-map inst.args (substitute (map Obj sigma)) ∙ step.count;
-        objects = All-each (IsTermOf problem 0) (map (substitute (map Obj sigma)) inst.args) (λ t there.
-            let from = Contains-from_map (substitute (map Obj sigma)) inst.args t there in
-            subst (IsTermOf problem 0) from.2 (term-instance inst has from.0
-            (All-at (IsTermOf problem table.params) inst.args from.0 step.terms from.1) from.1));
-      }
-
-  pub prefix-instances : All (IsInstanceOf problem) (take prefix (steps_under table sigma))
-  prefix-instances =
-      subst (All (IsInstanceOf problem)) (sym (take-map (instance_under sigma) prefix table.steps))
-      (All-each (IsInstanceOf problem) (map (instance_under sigma) (take prefix table.steps)) (λ inst there.
-      let from = Contains-from_map (instance_under sigma) (take prefix table.steps) inst there in
-      subst (IsInstanceOf problem) from.2 (step-instance from.0 from.1)))
 
 -- the marks' atoms have parameters for variables
 pub marks-plain : (problem : Problem) (table : Table) (terms : List Term) → IsTable problem table → length terms ≡ table.params

@@ -1,5 +1,6 @@
 -- What questions of gaps say of a row of a table, where some of its parameters have objects.
 use Rattle.std.specs.Prelude.{◌≡◌, ◌⊎◌, ◌<◌, ◌≤◌, ◌+◌, ℕ, List, [], ◌∷◌, length, get_or, All}
+use Rattle.px_prover.specs.Limits.{most_gap_variables}
 use Rattle.px_prover.specs.PatternLists.{lists_of}
 use Rattle.px_prover.specs.Patterns.{AreGapPatterns}
 use Rattle.px_prover.specs.declared.pattern.GapPattern.{GapPattern}
@@ -32,7 +33,7 @@ pub record CanAskRows (problem : Problem) (table : Table) (terms : List Term) : 
   pub is_table : IsTable problem table
   pub long : length terms ≡ table.params
   pub binding : IsBinding problem.objects terms
-  pub few : table.params ≤ 4096
+  pub few : table.params ≤ most_gap_variables
 
 -- the objects fit one of the choices
 abbrev pub FitsOne : List (List Term) → List ℕ → Type 0

@@ -14,7 +14,7 @@ use crate::pushes::gather;
 use crate::request::Request;
 use px_entries::{PartialInstance, filled};
 use px_gaps::{AskErr, Asker, Bounds};
-use px_terms::{OpInst, Problem};
+use px_terms::{MOST_PARAMETERS, OpInst, Problem};
 
 /// Returns the least of the instances that the partial one stands for: object 0 for each variable.
 fn least_of(problem: &Problem, partial: &PartialInstance) -> OpInst
@@ -23,7 +23,7 @@ fn least_of(problem: &Problem, partial: &PartialInstance) -> OpInst
 {
     // what stands behind a reference is known to be in range once it is read
     let _objects = problem.objects;
-    filled(partial, &[0; 8][..partial.vars as usize])
+    filled(partial, &[0; MOST_PARAMETERS][..partial.vars as usize])
 }
 
 /// Returns the lesser of the two.

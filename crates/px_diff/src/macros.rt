@@ -28,6 +28,7 @@ use px_entries::{
     steps_with,
 };
 use px_gaps::{AskErr, Asker, Known, bound, unbound};
+use px_prover::MOST_GAP_VARIABLES;
 use px_table::{Entry, Table, is_macro};
 use px_terms::{Atom, NoMemory, OpInst, Problem, Sequence, Term, fits_sort};
 use std::alloc::Global;
@@ -352,7 +353,7 @@ pub fn choices_of_table(
     ensures { IfOk result (λ found. IfSome found (AreTableChoices request.now.problem.now request.now.model.now.atoms table.now)) }
 {
     let problem = request.problem;
-    if problem.objects == 0 || table.params > 4096 {
+    if problem.objects == 0 || table.params > MOST_GAP_VARIABLES {
         return Ok(None);
     }
     let made = unbound(asker.alloc, table.params)?;

@@ -1,5 +1,6 @@
 //! The part of a formula that decides whether it is open, and one question of gaps about it alone.
 ghost use Rattle.std.specs.Prelude.{◌↔◌, ◌≤◌, ◌<◌, All, IfOk, IfSome, IsTrue};
+ghost use Rattle.px_prover.specs.Limits.{most_gap_variables};
 ghost use Rattle.px_terms.specs.Validity.{IsValid, IsAtomOf};
 ghost use Rattle.px_gaps.specs.Bounds.{AreBounds};
 ghost use Rattle.px_entries.specs.Rest.{IsOnlyAdded, IsRest, IsRestAnswer};
@@ -43,7 +44,7 @@ pub fn rest_answer(
     requires problem { IsValid request.now.problem.now }
     requires bounds { AreBounds request.now.problem.now request.now.problem.now.height bounds.now.table }
     requires formula { All (IsAtomOf request.now.problem.now vars) formula.now }
-    requires few_variables { vars ≤ 4096 }
+    requires few_variables { vars ≤ most_gap_variables }
     requires some_object { 0 < vars → 0 < request.now.problem.now.objects }
     ensures { IfOk result (λ found. IfSome found (λ answer. IsRestAnswer request.now.problem.now request.now.model.now.atoms formula.now
         vars answer.patterns.items answer.provable.atoms)) }

@@ -9,6 +9,7 @@
 //! asked in the same way. Where each parameter of the row has an object and a question still meets the limit, the terms are kept
 //! as terms at which it does.
 ghost use Rattle.std.specs.Prelude.{◌≡◌, ◌<◌, ◌≤◌, ◌∷◌, [], ℕ, Some, List, length, slice_get, All, IsTrue, IfSome, IfOk, OnOk};
+ghost use Rattle.px_prover.specs.Limits.{most_gap_variables};
 ghost use Rattle.px_ops.specs.Models.{IsModel};
 ghost use Rattle.px_prover.specs.declared.pattern.GapPattern.{GapPattern as PatternValue};
 ghost use Rattle.px_question.specs.Limits.{AreFewGapShapes};
@@ -93,7 +94,7 @@ fn ask_row(
 ) -> Result<Option<Vec<GapPattern>>, NoMemory>
     requires problem { IsValid problem.now }
     requires formula { All (IsAtomOf problem.now vars) formula.now }
-    requires few_variables { vars ≤ 4096 }
+    requires few_variables { vars ≤ most_gap_variables }
     requires some_object { 0 < vars → 0 < problem.now.objects }
     ensures { IfOk result (λ answer. IfSome answer (λ patterns. IsRowAnswer (setting_of problem.now model.now.atoms) formula.now vars
         patterns.items)) }
@@ -147,6 +148,9 @@ fn is_covered(choices: &[Sequence<Term>], terms: &[Term]) -> bool
     false
 }
 
+/// With how many of the last choices one more is compared: enough to leave out most of those that say no more, and few enough to be fast.
+const COMPARED_CHOICES: usize = 32;
+
 /// Appends the terms to the choices, unless one of the last ones covers them.
 fn push_choice(
     choices: &mut Vec<Sequence<Term>>,
@@ -158,7 +162,7 @@ fn push_choice(
     ensures kept { OnOk result ((sigma : List ℕ) → FitsOne choices.old.items sigma → FitsOne choices.new.items sigma) }
     ensures covers { OnOk result ((sigma : List ℕ) → FitsTerms terms.now sigma → FitsOne choices.new.items sigma) }
 {
-    let last = choices.len().saturating_sub(32);
+    let last = choices.len().saturating_sub(COMPARED_CHOICES);
     if is_covered(&choices[last..], terms) {
         return Ok(());
     }

@@ -17,10 +17,10 @@ use px_entries::PartialInstance;
 use px_gaps::{Sorting, sort_of};
 use px_ops::schema_of;
 use px_table::Table;
-use px_terms::{OpInst, Problem, Term, apply_inst, fits_sort, sort_at};
+use px_terms::{MOST_PARAMETERS, OpInst, Problem, Term, apply_inst, fits_sort, sort_at};
 
 /// Returns false only where an object among the terms is of another sort than its place.
-fn may_stand(sorting: &Sorting, terms: &[Term]) -> bool
+fn objects_may_stand(sorting: &Sorting, terms: &[Term]) -> bool
     ensures { result ≡ false → (values : List ℕ)
         → ¬ ObjectsFit sorting.now.object_sorts.now sorting.now.wanted.now (map_list (object_under values) terms.now) }
 {
@@ -48,11 +48,11 @@ pub fn may_fit(problem: &Problem, partial: &PartialInstance) -> bool
         object_sorts: problem.object_sorts.as_slice(),
         wanted: schema_of(problem, &partial.inst).param_sorts.as_slice(),
     };
-    may_stand(&sorting, partial.inst.args())
+    objects_may_stand(&sorting, partial.inst.args())
 }
 
 /// Returns the sort that the object of each variable has to have, or 0: the first sort other than 0 of the places at which it stands.
-pub fn variable_sorts(problem: &Problem, partial: &PartialInstance) -> [u32; 8]
+pub fn variable_sorts(problem: &Problem, partial: &PartialInstance) -> [u32; MOST_PARAMETERS]
     requires problem { IsValid problem.now }
     requires partial { IsPartialInstance problem.now partial.now }
     ensures { (objects : List ℕ) → AreObjectsFor problem.now partial.now objects
@@ -62,7 +62,7 @@ pub fn variable_sorts(problem: &Problem, partial: &PartialInstance) -> [u32; 8]
         object_sorts: problem.object_sorts.as_slice(),
         wanted: schema_of(problem, &partial.inst).param_sorts.as_slice(),
     };
-    let mut sorts = [0; 8];
+    let mut sorts = [0; MOST_PARAMETERS];
     for variable in 0..partial.vars {
         sorts[variable as usize] = sort_of(&sorting, partial.inst.args(), variable);
     }
@@ -82,7 +82,7 @@ fn step_may_fit(problem: &Problem, step: &OpInst, terms: &[Term]) -> bool
         wanted: schema_of(problem, step).param_sorts.as_slice(),
     };
     let here = apply_inst(terms, step);
-    may_stand(&sorting, here.args())
+    objects_may_stand(&sorting, here.args())
 }
 
 /// Returns false only where no objects that extend the terms make these steps of the table fit.

@@ -1,6 +1,6 @@
 //! What is known of formulas.
 
-use crate::reference::assert_asked;
+use crate::asking::assert_asked;
 use crate::sample_problems::{blocks, chain};
 use px_gaps::{Known, Tried, addable_alike, known_formula, try_formula};
 use px_ops::Model;

@@ -3,6 +3,8 @@
 #![tactic(auto)]
 
 #[cfg(test)]
+mod asking;
+#[cfg(test)]
 mod bounds_tests;
 #[cfg(test)]
 mod entry_tests;
@@ -11,13 +13,9 @@ mod first_tests;
 #[cfg(test)]
 mod known_tests;
 #[cfg(test)]
-mod macro_reference;
-#[cfg(test)]
 mod macro_tests;
 #[cfg(test)]
 mod plain_tests;
-#[cfg(test)]
-mod reference;
 #[cfg(test)]
 mod relevance_tests;
 #[cfg(test)]

@@ -1,7 +1,6 @@
-//! The first steps of tables as entries, beside the plain, slow program.
-
-use crate::reference::Case;
-use crate::relevance_tests::{agreed, are_entries, has_count, is_limited, pushes_of};
+//! The first steps of tables as entries.
+use crate::asking::Case;
+use crate::relevance_tests::{are_entries, has_count, is_limited, pushes_of};
 use crate::sample_problems::{entry_of, things, two_steps};
 use crate::sample_tables::{both_steps, take_and_use};
 use px_ops::Model;
@@ -21,7 +20,7 @@ fn two_of(alloc: Global, rt: &impl Abort, sigma: &[u32]) -> Entry {
     }
 }
 
-/// The box may be pushed into room 1, or the robot goes to it first, from room 1 or from room 3. The plain program agrees.
+/// The box may be pushed into room 1, or the robot goes to it first, from room 1 or from room 3.
 #[test]
 fn the_robot_goes_to_the_box(rt: HostRuntime) {
     let alloc = rt.alloc();
@@ -35,7 +34,7 @@ fn the_robot_goes_to_the_box(rt: HostRuntime) {
         model: &model,
         tables: &tables,
     };
-    let found = agreed(alloc, &rt, &case);
+    let found = pushes_of(alloc, &rt, &case);
     let expected = [
         entry_of(1, &[o(6), o(4), o(2), o(1)]),
         two_of(alloc, &rt, &[1, 4, 2, 6, 4, 1]),
@@ -44,9 +43,9 @@ fn the_robot_goes_to_the_box(rt: HostRuntime) {
     assert!(&rt; are_entries(&found, &expected));
 }
 
-/// The plain program agrees on what may be pushed for the atom. Using a thing has two shapes; at that limit it is met by what
-/// adds the atom, unless this is taking alone, and else there are `count` entries.
-fn agree_on_count(
+/// There are `count` entries that may be pushed for the atom, unless the limit is two. Using a thing has two shapes, so then the limit is
+/// met by what adds the atom, unless this is taking alone.
+fn assert_count(
     alloc: Global,
     rt: &impl Abort,
     problem: &Problem,
@@ -62,7 +61,7 @@ fn agree_on_count(
         model,
         tables,
     };
-    let found = agreed(alloc, rt, &case);
+    let found = pushes_of(alloc, rt, &case);
     let is_met = problem.shapes == 2 && wanted.pred() != 2;
     assert!(rt; is_limited(&found) == is_met && has_count(&found, count) != is_met);
 }
@@ -72,7 +71,7 @@ fn agree_on_count(
 /// it is used, it is used after another is taken, whatever is taken last. A thing that is taken first isn't here for the use,
 /// though it could be brought. With two steps the third thing is object 0.
 #[test]
-fn a_plain_program_agrees_on_taking_and_using(rt: HostRuntime) {
+fn taking_and_using(rt: HostRuntime) {
     let alloc = rt.alloc();
     let mut problem = things(alloc, &rt);
     let tables = [take_and_use(alloc, &rt, 3)];
@@ -82,8 +81,8 @@ fn a_plain_program_agrees_on_taking_and_using(rt: HostRuntime) {
         problem.shapes = shapes;
         for (pred, count) in [(0, 1 + 2 + 4), (2, 1 + 2 + 10), (3, 1 + 2 + 6)] {
             let wanted = atom(pred, &[o(1)]);
-            agree_on_count(alloc, &rt, &problem, &one_here, &tables, wanted, count);
-            agree_on_count(alloc, &rt, &problem, &nothing, &tables, wanted, count);
+            assert_count(alloc, &rt, &problem, &one_here, &tables, wanted, count);
+            assert_count(alloc, &rt, &problem, &nothing, &tables, wanted, count);
         }
     }
 }
@@ -107,7 +106,7 @@ fn a_table_of_4097_parameters(rt: HostRuntime) {
     assert!(&rt; has_count(&found, 1 + 2 + 4));
 }
 
-/// What stands on the stack isn't pushed again: thing 1 is taken, and it is taken before thing 0 is used. The plain program agrees.
+/// What stands on the stack isn't pushed again: thing 1 is taken, and it is taken before thing 0 is used.
 #[test]
 fn what_is_stacked_is_not_pushed(rt: HostRuntime) {
     let alloc = rt.alloc();
@@ -122,12 +121,12 @@ fn what_is_stacked_is_not_pushed(rt: HostRuntime) {
         model: &model,
         tables: &tables,
     };
-    let found = agreed(alloc, &rt, &case);
+    let found = pushes_of(alloc, &rt, &case);
     assert!(&rt; has_count(&found, 1 + 2 + 10 - 2));
 }
 
 /// What adds atom 2 is the first operator, which needs nothing, and both steps of the table, of which the second needs atom 1. That
-/// has two shapes, since it may follow from atom 0: at that limit it is met by the row alone. The plain program agrees.
+/// has two shapes, since it may follow from atom 0: at that limit it is met by the row alone.
 #[test]
 fn a_row_alone_meets_the_limit(rt: HostRuntime) {
     let alloc = rt.alloc();
@@ -143,7 +142,7 @@ fn a_row_alone_meets_the_limit(rt: HostRuntime) {
             model: &nothing,
             tables: &tables,
         };
-        let found = agreed(alloc, &rt, &case);
+        let found = pushes_of(alloc, &rt, &case);
         assert!(&rt; is_limited(&found) == (shapes == 2) && has_count(&found, 2) == (shapes == 3));
     }
 }

@@ -1,6 +1,6 @@
-//! Gaps and entries beside a plain, slow program, and the benchmark's counts.
-use crate::reference::{Case, Limit, ask, assert_asked, limit_of, plain_gaps, plain_relevant};
-use crate::sample_problems::{blocks, chain, entry_of, stacked, transitive};
+//! Gaps and entries, and how many questions they take.
+use crate::asking::{Case, ask, assert_asked};
+use crate::sample_problems::{chain, entry_of, transitive};
 use px_diff::{
     Measured, relevance_over_models, relevance_over_stacks, relevant, relevant_measured,
 };
@@ -8,7 +8,7 @@ use px_entries::are_learned;
 use px_gaps::{AskErr, gaps};
 use px_ops::Model;
 use px_prover::ProveErr;
-use px_samples::{atom, is_in, model_of, o, opening, rooms, sorted_rooms, v};
+use px_samples::{atom, is_in, o, opening, rooms, sorted_rooms};
 use px_table::Entry;
 use px_terms::{Atom, Problem, is_valid};
 use std::alloc::Global;
@@ -71,75 +71,6 @@ pub fn is_limited(found: &Result<Vec<Entry>, AskErr>) -> bool {
     matches!(found, Err(AskErr::ShapeLimit { .. }))
 }
 
-/// Returns whether the answer is what the plain program finds: the same entries, or one of its limits.
-fn is_plain(
-    alloc: Global,
-    rt: &impl Abort,
-    found: &Result<Vec<Entry>, AskErr>,
-    entries: &[Entry],
-    limits: &[Limit],
-) -> bool {
-    match found {
-        Ok(pushes) => limits.is_empty() && pushes.as_slice() == entries,
-        Err(AskErr::ShapeLimit { formula, shapes }) => {
-            limits.contains(&limit_of(alloc, rt, formula.as_slice(), shapes.as_slice()))
-        }
-        Err(AskErr::NoMemory) => false,
-    }
-}
-
-/// Returns the entries that may be pushed, which have to be what the plain program finds.
-pub fn agreed(alloc: Global, rt: &impl Abort, case: &Case) -> Result<Vec<Entry>, AskErr> {
-    let mut limits = Vec::new(alloc);
-    let entries = plain_relevant(alloc, rt, case, &mut limits);
-    let found = pushes_of(alloc, rt, case);
-    let is_same = is_plain(alloc, rt, &found, entries.as_slice(), limits.as_slice());
-    assert!(rt; is_same);
-    found
-}
-
-/// Returns the entries that may be pushed over an empty stack, without tables, which have to be what the plain program finds.
-fn agreed_alone(
-    alloc: Global,
-    rt: &impl Abort,
-    problem: &Problem,
-    model: &Model,
-    wanted: &[Atom],
-) -> Result<Vec<Entry>, AskErr> {
-    let case = Case {
-        problem,
-        model,
-        tables: &[],
-        stack: &[],
-        wanted,
-    };
-    agreed(alloc, rt, &case)
-}
-
-/// Returns the gaps of a formula, which have to be what the plain program finds.
-fn agreed_gaps(
-    alloc: Global,
-    rt: &impl Abort,
-    problem: &mut Problem,
-    formula: &[Atom],
-    vars: u32,
-    model: &Model,
-) -> Result<Option<Vec<Atom>>, AskErr> {
-    let mut limits = Vec::new(alloc);
-    let plain = plain_gaps(alloc, rt, problem, formula, vars, model, &mut limits);
-    let found = gaps_of(alloc, rt, problem, formula, vars, model);
-    let is_same = match &found {
-        Ok(Some(gaps)) => limits.is_empty() && gaps.as_slice() == plain.atoms(),
-        Ok(None) => true,
-        Err(AskErr::ShapeLimit { formula, shapes }) => {
-            limits.contains(&limit_of(alloc, rt, formula.as_slice(), shapes.as_slice()))
-        }
-        Err(AskErr::NoMemory) => false,
-    };
-    assert!(rt; is_same);
-    found
-}
-
 /// Returns the entries that may be pushed, with the number of questions that this took.
 fn measured_of(
     alloc: Global,
@@ -170,40 +101,6 @@ fn questions_are_counted(rt: HostRuntime) {
     assert!(&rt; measured.questions > 0 && measured.entries.as_slice() == push.as_slice());
 }
 
-/// Returns whether it is shown that nothing is on that object while it is on something. The plain program has to agree on what is missing
-/// then, and on what may be pushed so that block 0 is on it, or that it is clear.
-fn agree_on_block(
-    alloc: Global,
-    rt: &impl Abort,
-    problem: &mut Problem,
-    model: &Model,
-    below: u32,
-) -> bool {
-    let wanted = [atom(0, &[o(0), o(below)]), atom(1, &[o(below)])];
-    let _found = agreed_alone(alloc, rt, problem, model, &wanted);
-    let goal = [atom(0, &[v(0), o(below)]), atom(0, &[o(below), v(1)])];
-    !matches!(agreed_gaps(alloc, rt, problem, &goal, 2, model), Ok(None))
-}
-
-/// The plain program agrees on blocks, where several adds match, and an atom of a gap list may be provable. Something is on block 0, which
-/// is on something; of the blocks 1 and 2 it is shown at each limit that this isn't so, of the table from a limit of 4 on.
-#[test]
-fn a_plain_program_agrees_on_blocks(rt: HostRuntime) {
-    let alloc = rt.alloc();
-    let mut problem = blocks(alloc, &rt);
-    let model = stacked(alloc, &rt);
-    let mut asked = 0u32;
-    for shapes in 2..11 {
-        problem.shapes = shapes;
-        for below in 0..4 {
-            if agree_on_block(alloc, &rt, &mut problem, &model, below) {
-                asked = asked.saturating_add(1);
-            }
-        }
-    }
-    assert!(&rt; asked == 25);
-}
-
 /// Returns whether the limit is met where one atom is to be proved.
 fn is_limited_at(found: &Result<Vec<Entry>, AskErr>, atom: &Atom) -> bool {
     match found {
@@ -222,31 +119,16 @@ fn one_atom_meets_the_limit(rt: HostRuntime) {
     let wanted = [atom(2, &[])];
     for shapes in 2..7 {
         problem.shapes = shapes;
-        let found = agreed_alone(alloc, &rt, &problem, &model, &wanted);
+        let case = Case {
+            problem: &problem,
+            wanted: &wanted,
+            stack: &[],
+            model: &model,
+            tables: &[],
+        };
+        let found = pushes_of(alloc, &rt, &case);
         assert!(&rt; is_limited_at(&found, &between) == (shapes == 3 || shapes == 4));
         assert!(&rt; has_count(&found, 1) == (shapes > 4));
-    }
-}
-
-/// The plain program agrees on what may be pushed and on what is missing so that the first object is on the second.
-fn agree_on_standing(alloc: Global, rt: &impl Abort, problem: &mut Problem, model: &Model) {
-    let wanted = [atom(0, &[o(0), o(1)])];
-    let _found = agreed_alone(alloc, rt, problem, model, &wanted);
-    let gaps = agreed_gaps(alloc, rt, problem, &wanted, 0, model);
-    assert!(rt; !matches!(&gaps, Ok(None)));
-}
-
-/// With a transitive axiom over what operators add the plain program agrees, over two and three objects, where nothing
-/// stands on anything and where the second object stands on the first.
-#[test]
-fn a_plain_program_agrees_on_a_transitive_axiom(rt: HostRuntime) {
-    let alloc = rt.alloc();
-    let nothing = Model::new(alloc);
-    let one = model_of(alloc, &[atom(0, &[o(1), o(0)])]).expect(&rt, "memory");
-    for objects in [2, 3] {
-        let mut problem = transitive(alloc, &rt, objects);
-        agree_on_standing(alloc, &rt, &mut problem, &nothing);
-        agree_on_standing(alloc, &rt, &mut problem, &one);
     }
 }
 

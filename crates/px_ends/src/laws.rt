@@ -18,7 +18,8 @@ pub fn tables_are_one()
     ensures { TablesAreOne }
 {}
 
-/// The smallest searches: nothing to reach, the goal among the facts, and a goal out of reach.
+/// The smallest searches: nothing to reach, the goal among the facts, a goal out of reach, one that an operator makes true, and one for
+/// which there is no room.
 pub fn worked_ends()
     ensures { EndFacts }
 {}

@@ -1,5 +1,6 @@
--- Operator instances with variables, and the instances that they stand for.
+-- Operator instances with variables, and the instances that they stand for, whatever the sorts.
 use Rattle.std.specs.Prelude.{◌≡◌, ◌⊎◌, ◌<◌, ◌≤◌, ◌-◌, ℕ, length, List, All}
+use Rattle.px_terms.specs.Limits.{most_parameters}
 use Rattle.px_terms.specs.declared.instance.OpInst.{OpInst}
 use Rattle.px_terms.specs.declared.problem.Problem.{Problem}
 use Rattle.px_terms.specs.declared.term.Term.{Term}
@@ -11,12 +12,12 @@ use Rattle.px_question.specs.Answers.{object_terms}
 use Rattle.px_gaps.specs.Closings.{OneOf}
 use Rattle.px_entries.specs.declared.partial.PartialInstance.{PartialInstance}
 
--- an instance of an operator of the problem, over its objects and the variables
+-- an instance of an operator of the problem, over its objects and the variables, whatever the sorts
 pub record IsPartialInstance (problem : Problem) (partial : PartialInstance) : Type 0 where
   pub op : partial.inst.op < length problem.schemas
   pub count : length partial.inst.args ≡ (schema_of problem partial.inst).params
   pub terms : All (IsTermOf problem partial.vars) partial.inst.args
-  pub few : partial.vars ≤ 8
+  pub few : partial.vars ≤ most_parameters
   pub objects : 0 < partial.vars → 0 < problem.objects
 
 -- the objects are the problem's, one for each variable, and with them the partial instance is the other one

@@ -1,5 +1,6 @@
 //! The instances of a schema as entries that may be pushed: from a match with variables to all its objects.
 ghost use Rattle.std.specs.Prelude.{◌≡◌, ◌+◌, ◌<◌, ◌≤◌, ℕ, List, length, slice_index, All};
+ghost use Rattle.px_terms.specs.Limits.{most_parameters};
 ghost use Rattle.px_question.specs.Answers.{object_terms};
 ghost use Rattle.px_terms.specs.declared.problem.Problem.{Problem};
 ghost use Rattle.px_terms.specs.declared.instance.OpInst.{OpInst};
@@ -10,10 +11,10 @@ ghost use Rattle.px_terms.specs.Validity.{IsValid, IsInstanceOf};
 ghost use Rattle.px_entries.specs.Instances.{IsPartialInstance, Fills, StandsFor, IsRenamed};
 
 use crate::partial::PartialInstance;
-use px_terms::{OpInst, Problem, Schema, Term, apply_inst};
+use px_terms::{MOST_PARAMETERS, OpInst, Problem, Schema, Term, apply_inst};
 
 // Alike: px_table_tests (`limits`) writes out six of them, as the arguments of an atom.
-const VARIABLES: [Term; 8] = [
+const VARIABLES: [Term; MOST_PARAMETERS] = [
     Term::Var(0),
     Term::Var(1),
     Term::Var(2),
@@ -59,7 +60,7 @@ fn renamed_term(variable: u32, object: u32, k: u32) -> Term
 /// Returns the instance with the object for the variable. The variables after it are numbered one less, so that no number is left
 /// out.
 pub fn bound_instance(partial: &PartialInstance, variable: u32, object: u32) -> PartialInstance
-    requires few { partial.now.vars ≤ 8 }
+    requires few { partial.now.vars ≤ most_parameters }
     requires terms { All (IsVariableBelow partial.now.vars) partial.now.inst.args }
     requires variable { variable < partial.now.vars }
     ensures vars { result.vars + 1 ≡ partial.now.vars }
@@ -71,7 +72,7 @@ pub fn bound_instance(partial: &PartialInstance, variable: u32, object: u32) -> 
     ensures only { (problem : Problem) (full : OpInst) → object < problem.objects → StandsFor problem result full → (objects : List ℕ)
         × Fills problem partial.now full objects × (slice_index objects variable ≡ object) }
 {
-    let mut terms = [Term::Any; 8];
+    let mut terms = [Term::Any; MOST_PARAMETERS];
     for k in 0..partial.vars {
         terms[k as usize] = renamed_term(variable, object, k);
     }
@@ -83,11 +84,11 @@ pub fn bound_instance(partial: &PartialInstance, variable: u32, object: u32) -> 
 
 /// Returns the instance with these objects for its variables.
 pub fn filled(partial: &PartialInstance, objects: &[u32]) -> OpInst
-    requires few { length objects.now ≤ 8 }
+    requires few { length objects.now ≤ most_parameters }
     requires terms { All (IsVariableBelow (length objects.now)) partial.now.inst.args }
     ensures { result ≡ substitute_instance (object_terms objects.now) partial.now.inst }
 {
-    let mut terms = [Term::Any; 8];
+    let mut terms = [Term::Any; MOST_PARAMETERS];
     for (k, object) in objects.iter().enumerate() {
         terms[k] = Term::Obj(*object);
     }

@@ -5,19 +5,19 @@ ghost use Rattle.px_terms.specs.Validity.{IsValid};
 ghost use Rattle.px_entries.specs.Entries.{IsEntry};
 ghost use Rattle.px_entries.specs.Learned.{AreLearned};
 
-use px_table::{Entry, Table, check_table, is_macro};
+use px_table::{Entry, MOST_STEPS, MOST_TABLES, Table, check_table, is_macro};
 use px_terms::{Problem, fits, is_instance_of};
 
-/// Returns whether they are at most 32 tables for the problem, of at most 64 steps each. Entries may be taken from such tables.
-/// Does not allocate.
+/// Returns whether they are at most [`MOST_TABLES`] tables for the problem, of at most [`MOST_STEPS`] steps each. Entries may be taken
+/// from such tables. Does not allocate.
 pub fn are_learned(problem: &Problem, tables: &[Table]) -> bool
     requires problem { IsValid problem.now }
     ensures { IsTrue result ↔ AreLearned problem.now tables.now }
 {
-    if tables.len() > 32 {
+    if tables.len() > MOST_TABLES {
         return false;
     }
-    let all_short = tables.iter().all(|table| table.steps.len() <= 64);
+    let all_short = tables.iter().all(|table| table.steps.len() <= MOST_STEPS);
     all_short && tables.iter().all(|table| check_table(problem, table))
 }
 

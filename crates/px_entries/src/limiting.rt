@@ -1,5 +1,6 @@
 //! Whether any question about an entry can meet the limit of shapes, by the numbers that the predicates have.
 ghost use Rattle.std.specs.Prelude.{◌≡◌, ◌≤◌, length, All, IfOk, IsTrue};
+ghost use Rattle.px_table.specs.Limits.{most_steps};
 ghost use Rattle.px_terms.specs.Validity.{IsValid};
 ghost use Rattle.px_terms.specs.declared.atom.Atom.{Atom as AtomValue};
 ghost use Rattle.px_terms.specs.declared.problem.Schema.{Schema as SchemaValue};
@@ -67,7 +68,7 @@ fn rows_have_few(
     table: &Table,
 ) -> Result<bool, NoMemory>
     requires bounds { AreBounds problem.now problem.now.height bounds.now.table }
-    requires short { length table.now.steps ≤ 64 }
+    requires short { length table.now.steps ≤ most_steps }
     ensures { IfOk result (λ few. IsTrue few → RowsHaveFew problem.now table.now) }
 {
     let steps = table.steps.len() as u32;
@@ -88,7 +89,7 @@ fn tables_have_few(
     tables: &[Table],
 ) -> Result<bool, NoMemory>
     requires bounds { AreBounds problem.now problem.now.height bounds.now.table }
-    requires short { All (λ table. length table.steps ≤ 64) tables.now }
+    requires short { All (λ table. length table.steps ≤ most_steps) tables.now }
     ensures { IfOk result (λ few. IsTrue few → All (RowsHaveFew problem.now) tables.now) }
 {
     for table in tables {

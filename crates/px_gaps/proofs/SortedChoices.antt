@@ -9,6 +9,8 @@ use Rattle.px_terms.specs.Sorts.{FitsSort, ObjectsFit}
 use Rattle.px_terms.specs.declared.atom.Atom.{Atom}
 use Rattle.px_terms.specs.declared.term.Term.{Term}
 use Rattle.px_terms.specs.declared.term.Term.TheVariants.{Var, Any as Wild}
+use Rattle.px_table.specs.WellSorted.{first_sort, paired}
+use Rattle.px_table.specs.WellSortedLaws.{first_sort-stands, paired-place}
 use Rattle.px_gaps.specs.Bindings.{CanAvoid, ExtendsTerms, IsOpenAs, IsOpenBefore}
 use Rattle.px_gaps.specs.Closings.{OneOf}
 use Rattle.px_gaps.proofs.Choosing.{term-at}
@@ -35,6 +37,16 @@ pub variable-fits : (sorts wanted values : List ℕ) (terms : List Term) (k v : 
 variable-fits sorts wanted values terms k v within is below fits =
     subst (FitsSort sorts (slice_index wanted k)) (ap (object_under values) is ∙ ap object_of (term-at values v below))
     (place-fits sorts wanted values terms k within fits)
+
+-- and it fits the first sort of the places at which the variable stands
+pub first-fits : (sorts wanted values : List ℕ) (terms : List Term) (v : ℕ) → v < length values
+    → ObjectsFit sorts wanted (map (object_under values) terms)
+    → FitsSort sorts (first_sort (paired wanted terms) v) (slice_index values v)
+first-fits sorts wanted values terms v below fits = λ some.
+    let first = first_sort (paired wanted terms) v in
+    let found = paired-place wanted terms first (Var v) (first_sort-stands (paired wanted terms) v some) in
+    subst (λ (sort : ℕ). FitsSort sorts sort (slice_index values v)) found.3
+    (variable-fits sorts wanted values terms found.0 v found.1 found.2 below fits) some
 
 -- ---- what is left out
 

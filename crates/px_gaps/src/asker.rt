@@ -1,5 +1,7 @@
 //! Asking the prover, and counting. Apart from this, only [`try_formula`](crate::try_formula) asks it.
 ghost use Rattle.std.specs.Prelude.{◌≡◌, ◌≤◌, ◌<◌, List, map as map_list, IfOk, All};
+ghost use Rattle.px_prover.specs.Limits.{most_gap_variables};
+ghost use Rattle.px_terms.specs.Limits.{most_formula_variables};
 ghost use Rattle.px_proof.specs.Derivation.{derivations};
 ghost use Rattle.px_proof.specs.ProofTerm.{derivation_of};
 ghost use Rattle.px_proof.specs.declared.shape.Tick.{Tick};
@@ -47,7 +49,7 @@ impl Asker {
     ) -> Result<Vec<GapPattern>, GapErr>
         requires problem { IsValid problem.now }
         requires formula { All (IsAtomOf problem.now vars) formula.now }
-        requires few_variables { vars ≤ 4096 }
+        requires few_variables { vars ≤ most_gap_variables }
         requires some_object { 0 < vars → 0 < problem.now.objects }
         ensures counted { self.new.questions ≡ next_count self.old.questions }
         ensures patterns { IfOk result (λ patterns. AreGapPatterns (setting_of problem.now model.now.atoms) formula.now vars
@@ -69,7 +71,7 @@ impl Asker {
     ) -> Result<Answer, ProveErr>
         requires problem { IsValid problem.now }
         requires formula { All (IsAtomOf problem.now vars) formula.now }
-        requires few_variables { vars ≤ 12 }
+        requires few_variables { vars ≤ most_formula_variables }
         requires objects { 0 < vars → 0 < problem.now.objects }
         ensures counted { self.new.questions ≡ next_count self.old.questions }
         ensures first { IfOk result (λ answer. IsFirst (setting_of problem.now model.now.atoms) formula.now vars answer.objects

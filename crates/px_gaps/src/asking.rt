@@ -2,6 +2,7 @@
 //! one question, and only where the answer isn't that none of its instances has a proof, one of its variables is bound to each object in
 //! turn.
 ghost use Rattle.std.specs.Prelude.{◌≡◌, ◌↔◌, ◌⊎◌, ◌≤◌, ◌<◌, [], ◌∷◌, length, List, All, Contains, MatchBool, IsTrue, IfOk, OnOk};
+ghost use Rattle.px_terms.specs.Limits.{most_arguments};
 ghost use Rattle.px_proof.specs.declared.shape.Tick.{Tick};
 ghost use Rattle.px_question.specs.Answers.{IsAnswer, IsProvable};
 ghost use Rattle.px_question.specs.Limits.{AreFewShapes, IsLimited};
@@ -85,7 +86,7 @@ fn has_none(
 ) -> Result<bool, NoMemory>
     requires problem { IsValid problem.now }
     requires atom { IsAtomOf problem.now vars atom.now }
-    requires few_variables { vars ≤ 6 }
+    requires few_variables { vars ≤ most_arguments }
     requires some_object { 0 < vars → 0 < problem.now.objects }
     ensures none { IfOk result (λ none. IsTrue none → ¬ IsAnswer (setting_of problem.now model.now.atoms) (atom.now ∷ []) vars) }
     ensures few { IfOk result (λ none. IsTrue none → AreFewShapes (setting_of problem.now model.now.atoms) (atom.now ∷ []) vars) }
@@ -110,7 +111,7 @@ fn insert_instances(
 ) -> Result<(), AskErr>
     requires problem { IsValid problem.now }
     requires form { IsAtomOf problem.now (length terms.now) form.now }
-    requires few { length terms.now ≤ 6 }
+    requires few { length terms.now ≤ most_arguments }
     requires binding { IsBinding problem.now.objects terms.now }
     ensures found { OnOk result (FindsProvable (setting_of problem.now model.now.atoms)
         (IsInstanceUnder problem.now.objects terms.now form.now) found.old.atoms found.new.atoms) }

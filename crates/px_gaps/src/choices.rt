@@ -12,11 +12,11 @@ ghost use Rattle.px_gaps.specs.Closings.{IsChosenIn};
 ghost use Rattle.px_gaps.specs.Described.{IsChosenBy, IsPlainPattern};
 
 use crate::bindings::{Avoidance, bound, can_avoid, meets_under, unbound};
-use crate::sorting::{Sorting, are_fitting, sort_of};
+use crate::sorting::{Sorting, sort_of};
 use px_base::push;
 use px_ops::Model;
 use px_prover::GapPattern;
-use px_terms::{NoMemory, Sequence, Term, apply_term, fits_sort, object_of};
+use px_terms::{NoMemory, Sequence, Term, apply_term, fits_sort, object_of, objects_fit};
 use std::alloc::Global;
 
 /// Returns the variable that the term is, if it is one.
@@ -73,7 +73,7 @@ fn push_objects(
         × ObjectsFit sorting.now.object_sorts.now sorting.now.wanted.now objects))) }
 {
     let objects = objects_by(alloc, terms, targets)?;
-    if !are_fitting(sorting, &objects) {
+    if !objects_fit(sorting.object_sorts, sorting.wanted, &objects) {
         return Ok(());
     }
     push(found, Sequence::from_vec(objects))

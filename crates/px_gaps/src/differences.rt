@@ -1,5 +1,6 @@
 //! The gaps of a formula.
 ghost use Rattle.std.specs.Prelude.{◌<◌, ◌≤◌, ◌↔◌, List, All, Contains, IfOk};
+ghost use Rattle.px_terms.specs.Limits.{most_formula_variables};
 ghost use Rattle.px_proof.specs.declared.shape.Tick.{Tick};
 ghost use Rattle.px_question.specs.Answers.{IsAnswer};
 ghost use Rattle.px_question.specs.Gaps.{IsGapOf, MeetsGapLimit, StaysBelowGapLimit};
@@ -33,7 +34,7 @@ pub fn gaps(
     requires problem { IsValid problem.now }
     requires formula { All (IsAtomOf problem.now vars) formula.now }
     requires some_object { 0 < vars → 0 < problem.now.objects }
-    requires few_variables { vars ≤ 12 }
+    requires few_variables { vars ≤ most_formula_variables }
     requires no_answer { ¬ IsAnswer (setting_of problem.now model.now.atoms) formula.now vars }
     ensures order { IfOk result (λ gaps. IsAtomSet gaps.items) }
     ensures exact { IfOk result (λ gaps. (atom : Atom) → Contains gaps.items atom

@@ -1,17 +1,18 @@
 //! Atoms with their variables named anew, so that atoms that differ only by the names of their variables are asked once.
 ghost use Rattle.std.specs.Prelude.{◌≡◌, ◌↔◌, ◌⊎◌, ◌≤◌, length, Contains, IfOk, OnOk};
+ghost use Rattle.px_terms.specs.Limits.{most_arguments};
 ghost use Rattle.px_prover.specs.declared.pattern.GapPattern.{GapPattern as PatternValue};
 ghost use Rattle.px_terms.specs.declared.atom.Atom.{Atom as AtomValue};
 ghost use Rattle.px_gaps.specs.Closings.{OneOf};
 ghost use Rattle.px_gaps.specs.Forms.{form_by, named_by, place_in};
 
 use px_prover::GapPattern;
-use px_terms::{Atom, NoMemory, Term};
+use px_terms::{Atom, MOST_ARGUMENTS, NoMemory, Term};
 use std::alloc::Global;
 
 /// Returns the place at which the term stands first; the number of the terms, where it stands nowhere.
 fn place_of(args: &[Term], term: Term) -> u32
-    requires { length args.now ≤ 6 }
+    requires { length args.now ≤ most_arguments }
     ensures { result ≡ place_in args.now term }
 {
     for (place, other) in args.iter().enumerate() {
@@ -24,7 +25,7 @@ fn place_of(args: &[Term], term: Term) -> u32
 
 /// Returns the term, in which a variable gets the place at which it stands first as its number.
 fn named(args: &[Term], term: Term) -> Term
-    requires { length args.now ≤ 6 }
+    requires { length args.now ≤ most_arguments }
     ensures { result ≡ named_by args.now term }
 {
     match term {
@@ -38,7 +39,7 @@ fn form_of(atom: &Atom) -> Atom
     ensures { result ≡ form_by atom.now }
 {
     let args = atom.args();
-    let mut terms = [Term::Any; 6];
+    let mut terms = [Term::Any; MOST_ARGUMENTS];
     for (k, term) in args.iter().enumerate() {
         terms[k] = named(args, *term);
     }

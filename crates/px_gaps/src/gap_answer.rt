@@ -1,5 +1,6 @@
 //! One question of gaps, and what it says of a formula.
 ghost use Rattle.std.specs.Prelude.{◌<◌, ◌≤◌, All, IfOk};
+ghost use Rattle.px_prover.specs.Limits.{most_gap_variables};
 ghost use Rattle.px_question.specs.Gaps.{MeetsGapLimit};
 ghost use Rattle.px_question.specs.Limits.{AreFewGapShapes};
 ghost use Rattle.px_question.specs.Settings.{setting_of};
@@ -36,7 +37,7 @@ fn patterns_of(
 ) -> Result<Vec<GapPattern>, AskErr>
     requires problem { IsValid problem.now }
     requires formula { All (IsAtomOf problem.now vars) formula.now }
-    requires few_variables { vars ≤ 4096 }
+    requires few_variables { vars ≤ most_gap_variables }
     requires some_object { 0 < vars → 0 < problem.now.objects }
     ensures patterns { IfOk result (λ patterns. AreGapPatterns (setting_of problem.now model.now.atoms) formula.now vars patterns.items) }
     ensures few { IfOk result (λ patterns. AreFewGapShapes (setting_of problem.now model.now.atoms) formula.now vars) }
@@ -67,7 +68,7 @@ pub fn ask_gaps(
 ) -> Result<GapAnswer, AskErr>
     requires problem { IsValid problem.now }
     requires formula { All (IsAtomOf problem.now vars) formula.now }
-    requires few_variables { vars ≤ 4096 }
+    requires few_variables { vars ≤ most_gap_variables }
     requires some_object { 0 < vars → 0 < problem.now.objects }
     ensures answer { IfOk result (λ answer. IsGapAnswer (setting_of problem.now model.now.atoms) formula.now vars answer.patterns.items
         answer.provable.atoms) }

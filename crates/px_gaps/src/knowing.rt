@@ -1,5 +1,6 @@
 //! Whether a formula has an answer, and what is known of one that has none.
 ghost use Rattle.std.specs.Prelude.{◌<◌, ◌≤◌, ◌∷◌, [], All, IfOk};
+ghost use Rattle.px_terms.specs.Limits.{most_formula_variables};
 ghost use Rattle.px_terms.specs.Validity.{IsValid, IsAtomOf};
 ghost use Rattle.px_gaps.specs.Needs.{HasAnswer};
 ghost use Rattle.px_gaps.specs.Known.{IsKnownOf, IsTriedOf};
@@ -26,7 +27,7 @@ pub fn try_formula(
 ) -> Result<Tried, NoMemory>
     requires problem { IsValid problem.now }
     requires formula { All (IsAtomOf problem.now vars) formula.now }
-    requires few_variables { vars ≤ 12 }
+    requires few_variables { vars ≤ most_formula_variables }
     requires some_object { 0 < vars → 0 < problem.now.objects }
     ensures { IfOk result (IsTriedOf problem.now (record { formula = formula.now; vars = vars; facts = model.now.atoms })) }
 {
@@ -56,7 +57,7 @@ pub fn known_formula(
 ) -> Result<Known, NoMemory>
     requires problem { IsValid problem.now }
     requires formula { All (IsAtomOf problem.now vars) formula.now }
-    requires few_variables { vars ≤ 12 }
+    requires few_variables { vars ≤ most_formula_variables }
     requires some_object { 0 < vars → 0 < problem.now.objects }
     requires no_answer { ¬ HasAnswer problem.now (record { formula = formula.now; vars = vars; facts = model.now.atoms }) }
     ensures { IfOk result (IsKnownOf problem.now (record { formula = formula.now; vars = vars; facts = model.now.atoms } ∷ [])) }

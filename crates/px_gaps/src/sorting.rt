@@ -1,9 +1,10 @@
 //! Which objects fit the variables of a formula, by the sorts of the places at which they stand.
-ghost use Rattle.std.specs.Prelude.{◌≡◌, ◌↔◌, ◌<◌, ℕ, List, length, map as map_list, slice_index, IsTrue};
+ghost use Rattle.std.specs.Prelude.{◌≡◌, ◌<◌, ℕ, List, length, map as map_list, slice_index};
 ghost use Rattle.px_prover.specs.Patterns.{object_under};
 ghost use Rattle.px_terms.specs.Sorts.{FitsSort, ObjectsFit};
 
-use px_terms::{Term, fits_sort, sort_at};
+use px_table::sort_in_step;
+use px_terms::Term;
 
 /// The sorts of the objects, and those that are wanted at some places. Where a list is short, the sort past its end is 0, which is none.
 #[derive(Clone, Copy)]
@@ -14,19 +15,6 @@ pub struct Sorting<'a> {
     pub wanted: &'a [u32],
 }
 
-/// Returns whether each object fits its place.
-pub fn are_fitting(sorting: &Sorting, objects: &[u32]) -> bool
-    ensures { IsTrue result ↔ ObjectsFit sorting.now.object_sorts.now sorting.now.wanted.now objects.now }
-{
-    for place in 0..objects.len() {
-        let wanted = sort_at(sorting.wanted, place);
-        if !fits_sort(sorting.object_sorts, wanted, objects[place]) {
-            return false;
-        }
-    }
-    true
-}
-
 /// Returns the sort that a variable has to have which stands at these places, of terms whose objects fit: the first sort other than 0 that
 /// is wanted at one of them, or 0.
 pub fn sort_of(sorting: &Sorting, terms: &[Term], variable: u32) -> u32
@@ -34,11 +22,5 @@ pub fn sort_of(sorting: &Sorting, terms: &[Term], variable: u32) -> u32
         → ObjectsFit sorting.now.object_sorts.now sorting.now.wanted.now (map_list (object_under values) terms.now)
         → FitsSort sorting.now.object_sorts.now result (slice_index values variable) }
 {
-    for place in 0..terms.len() {
-        let wanted = sort_at(sorting.wanted, place);
-        if wanted != 0 && terms[place] == Term::Var(variable) {
-            return wanted;
-        }
-    }
-    0
+    sort_in_step(sorting.wanted, terms, variable)
 }

@@ -21,6 +21,7 @@ use Rattle.px_table.specs.Once.{each_once}
 use Rattle.px_table.specs.Supports.{variables}
 use Rattle.px_table.specs.Tables.{IsTable, rows_of}
 use Rattle.px_table.specs.WellSorted.{ParametersFit, sorts_by_places}
+use Rattle.px_table.specs.WellSortedLaws.{sorts_of_places-computed}
 use Rattle.px_general.specs.General.{Generalises, GeneralIsOne, goal_terms, is_parameter, row_terms, step_terms, terms_in}
 use Rattle.px_general.proofs.Deleting.{new-proper}
 use Rattle.px_general.proofs.Instances.{has_instance}
@@ -289,4 +290,5 @@ general_is_one problem plan one other valid is_table proper is_one is_other =
     let back = shared problem plan one other valid is_table proper is_one is_other in
     let by = shared problem plan other one valid is_table proper is_other is_one in
     same_tables problem one other is_one.table is_other.table by.0 back.0 by.1 back.1 by.2 back.2 is_one.numbered is_other.numbered
-    (is_one.goal_vars ∙ sym is_other.goal_vars) is_one.sorts is_other.sorts
+    (is_one.goal_vars ∙ sym is_other.goal_vars) (sorts_of_places-computed problem one is_one.sorts)
+    (sorts_of_places-computed problem other is_other.sorts)

@@ -5,6 +5,7 @@ use Rattle.px_terms.specs.declared.term.Term.{Term}
 use Rattle.px_terms.specs.Validity.{IsValid}
 use Rattle.px_table.specs.declared.table.Table.{Table}
 use Rattle.px_table.specs.Tables.{IsTable}
+use Rattle.px_table.specs.WellSortedLaws.{sorts_by_places-said}
 use Rattle.px_general.specs.General.{Generalises, IsNumbered}
 use Rattle.px_general.specs.Replayed.{IsReplayed}
 use Rattle.px_general.proofs.GeneralTable.{general-is_table}
@@ -20,7 +21,7 @@ generalises problem plan general names roots valid is_table no_params replayed n
       table = is_general;
       goal_vars = replayed.goal_vars;
       numbered = numbered;
-      sorts = replayed.sorts;
+      sorts = sorts_by_places-said problem general is_general.sorted replayed.sorts;
       sound = sound_for problem valid plan general names roots is_table no_params replayed is_general;
       all = general_for problem plan general names roots is_table no_params replayed;
     }

@@ -16,6 +16,7 @@ use Rattle.px_table.specs.declared.mark.Mark.{Mark}
 use Rattle.px_table.specs.Marks.{IsKept, IsNamed}
 use Rattle.px_table.specs.Supports.{IsProofOf, Supports}
 use Rattle.px_table.specs.SupportShapes.{shape_of_support}
+use Rattle.px_table.specs.WellSortedLaws.{sorts_of_places-computed}
 use Rattle.px_general.specs.General.{Generalises, IsNumbered, shape_of_table}
 use Rattle.px_replay.specs.FreshVariables.{fresh_in, fresh_variables}
 use Rattle.px_general.specs.WorkedGeneral.{GeneralFacts, of_second, plan, touch, touched, touching, touching_twice}
@@ -95,7 +96,10 @@ merges_things is =
     two_things (substitute (map Obj found.0) (Var 0)) found.1.steps_are
 
 drops_sorts : ¬ Generalises touching plan (touching_twice (0 ∷ 0 ∷ []) (Var 1) (Var 0))
-drops_sorts is = let wrong : 0 ∷ 0 ∷ [] ≡ two_sorts = is.sorts in cc
+drops_sorts is =
+    let wrong : 0 ∷ 0 ∷ [] ≡ two_sorts =
+    sorts_of_places-computed touching (touching_twice (0 ∷ 0 ∷ []) (Var 1) (Var 0)) is.sorts in
+    cc
 
 -- ---- how many variables it takes
 

@@ -12,7 +12,7 @@ use Rattle.px_table.specs.Kernels.{IsInstantiation, IsProper, steps_under, goal_
 use Rattle.px_table.specs.Supports.{Supports}
 use Rattle.px_table.specs.SupportShapes.{SupportShape, shape_of_support}
 use Rattle.px_table.specs.Tables.{IsTable, rows_of}
-use Rattle.px_table.specs.WellSorted.{ParametersFit, sorts_by_places}
+use Rattle.px_table.specs.WellSorted.{HasSortsOfPlaces, ParametersFit}
 
 -- the shape of a table's own steps, goal and proofs
 abbrev pub shape_of_table : Table → SupportShape
@@ -50,13 +50,13 @@ IsGeneralFor problem plan general =
     → (objects : List ℕ) × IsTableInstance problem (problem.object_sorts ++ more) general objects atoms steps goal rows
 
 -- The plan's table has no parameters, and the proper instances of the general one are the supports of the plan's shape. Any whole
--- number may stand for an object. Each parameter has the sort of the sorted places of steps at which it stands, or none.
+-- number may stand for an object. Each parameter has the sort of the sorted places of steps at which it stands, or 0 where there is none.
 pub record Generalises (problem : Problem) (plan general : Table) : Type 0 where
   pub no_params : plan.params ≡ 0
   pub table : IsTable problem general
   pub goal_vars : general.goal_vars ≡ plan.goal_vars
   pub numbered : IsNumbered general
-  pub sorts : general.param_sorts ≡ sorts_by_places problem general.steps general.params
+  pub sorts : HasSortsOfPlaces problem general
   pub sound : IsSoundFor problem plan general
   pub all : IsGeneralFor problem plan general
 

@@ -1,14 +1,12 @@
 -- When a plan is too long, its proofs too high, or its generalisation too wide.
 use Rattle.std.specs.Prelude.{◌<◌, ℕ, length, Any}
+use Rattle.px_table.specs.Limits.{most_steps}
 use Rattle.px_proof.specs.Derivation.{height}
 use Rattle.px_table.specs.declared.table.Table.{Table}
 use Rattle.px_table.specs.Tables.{rows_of}
 use Rattle.px_replay.specs.FreshVariables.{fresh_variables}
 
--- the most steps of a plan that is generalised, the greatest height of its proofs, and the most fresh variables that it takes
-abbrev pub most_steps : ℕ
-most_steps = 64
-
+-- the greatest height of the proofs of a plan that is generalised, and the most fresh variables that it takes
 abbrev pub most_proof_height : ℕ
 most_proof_height = 56
 

@@ -15,13 +15,13 @@ ghost use Rattle.px_general.specs.Naming.{IsMadeOf, IsSolutionOf};
 
 use crate::building::{named_rows, named_steps};
 use crate::general_err::GeneralErr;
-use crate::limits::{MOST_STEPS, is_too_deep};
+use crate::limits::is_too_deep;
 use crate::naming::{labels_along, resolve_all};
 use crate::walking::walk;
 use px_base::{NoMemory, Sequence};
 use px_proof::substitute_terms;
 use px_replay::{Opened, fresh_count, named_goal, open_plan, replay_rows};
-use px_table::{Table, marks, sorts_by_places};
+use px_table::{MOST_STEPS, Table, marks, sorts_by_places};
 use px_terms::{Problem, Term};
 use px_unify::{Bind, BindErr, MOST_VARIABLES};
 use std::alloc::Global;
@@ -137,7 +137,7 @@ fn build_general(
     requires few { length names.now ≤ MOST_VARIABLES }
     requires steps { All (IsVariableBelow (length names.now)) (step_terms plan.now.steps.items) }
     requires objects { plan.now.first_object + goal_objects table.now.goal ≤ length names.now }
-    requires goal { All (λ atom. All (IsVariableBelow (2 ^ 32 - params)) atom.args) table.now.goal }
+    requires goal { All (λ atom. All (IsVariableBelow (u32_max + 1 - params)) atom.args) table.now.goal }
     requires rows { All (IsVariableBelow (length names.now)) (row_terms (rows_of plan.now.rows.items)) }
     requires short { length plan.now.rows.items ≤ u32_max }
     ensures params { IfOk result (λ general. general.params ≡ params) }

@@ -16,7 +16,8 @@
 //!   supports its steps, which fit, and its goal, and has the plan's shape (`IsSoundFor`), and each support of the plan's shape whose
 //!   steps fit is a proper instance (`IsGeneralFor`). Any whole number may stand for an object there, and the numbers past the
 //!   problem's objects may have any sorts. The parameters are numbered in the order in which they first occur in the marks, then in the
-//!   steps, the goal and the proofs (`IsNumbered`); each has the first sort of the places of steps at which it stands, or none.
+//!   steps, the goal and the proofs (`IsNumbered`); each has the sort of the sorted places of steps at which it stands,
+//!   or 0 where there is none.
 //! - Whether or not any instance is proper, the general table keeps the plan (`KeepsPlan`): its operators, and its proofs without their
 //!   terms; with some of the problem's objects it has just the plan's steps, goal and proofs.
 //! - A plan whose own steps delete nothing that its later rows rest on has at most one general table, proofs included

@@ -7,9 +7,7 @@ ghost use Rattle.px_general.specs.Limits.{IsTooDeep, most_proof_height};
 use px_proof::{Proof, higher_than};
 use px_table::{Row, Table};
 
-/// The most steps of a plan that is generalised.
-pub const MOST_STEPS: usize = 64;
-/// The greatest height of its proofs.
+/// The greatest height of the proofs of a plan that is generalised.
 const MOST_PROOF_HEIGHT: u32 = 56;
 
 /// Returns whether a proof of the plan is higher than 56.

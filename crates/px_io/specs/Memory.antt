@@ -1,5 +1,6 @@
 -- The source and the sink in memory.
 use Rattle.std.specs.Prelude.{◌<◌, ◌≤◌, ℕ, ◌+◌, min, ◌^◌, ◌-◌, ◌⊎◌, List, [], ◌∷◌, length, Contains, Bool, true, false, cond, Option, Some, None}
+use Rattle.px_base.specs.Bounds.{u32_max}
 
 -- A source: the bytes that are left, how many were taken, how many it gives at most at a read, the numbers of the
 -- reads that fail, the number of the next read, and how many failed.
@@ -20,9 +21,9 @@ pub record SinkValue : Type 0 where
   pub call : ℕ
   pub faults : ℕ
 
--- the number of the next call, which stops at the last value of 32 bits
+-- the number of the next call, which stops at the greatest number of 32 bits
 abbrev pub next_call : ℕ → ℕ
-next_call call = min (call + 1) (2 ^ 32 - 1)
+next_call call = min (call + 1) u32_max
 
 -- no call is listed as one that fails
 abbrev pub lists_none : List ℕ → Bool

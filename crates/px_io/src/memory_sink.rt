@@ -2,6 +2,7 @@
 ghost use Rattle.std.specs.Prelude.{◌≡◌, ◌≤◌, ◌<◌, ◌+◌, ◌-◌, ◌^◌, ◌++◌, ◌↔◌, ◌⊎◌, [], ℕ, length, take, min, Contains, IsErr, IsTrue, IfOk, OnErr, Some};
 ghost use Rattle.std.specs.Io.{WritesAtMost};
 ghost use Rattle.std.specs.Io.KnownBytes.{WriteAppends};
+ghost use Rattle.px_base.specs.Bounds.{u32_max};
 ghost use Rattle.px_base.specs.Counting.{next_count};
 ghost use Rattle.px_io.specs.Causes.{HasCause};
 ghost use Rattle.px_io.specs.Writing.{FillsItsRoom};
@@ -41,7 +42,7 @@ impl MemSink {
     /// # Errors
     /// `NoMemory` where there is no memory for the room.
     pub fn new(alloc: Global, room: usize, failing: Vec<u32>) -> Result<MemSink, NoMemory>
-        requires { ¬ Contains failing.items (2 ^ 32 - 1) }
+        requires { ¬ Contains failing.items u32_max }
         ensures { IfOk result (λ sink. sink ≡ record { written = []; room = room; failing = failing.items; call = 0; faults = 0 }) }
     {
         Ok(MemSink {

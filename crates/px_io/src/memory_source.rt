@@ -3,6 +3,7 @@ ghost use Rattle.std.specs.Prelude.{◌≡◌, ◌≤◌, ◌+◌, ◌-◌, ◌^
 ghost use Rattle.std.specs.Result.{result_unwrap_or};
 ghost use Rattle.std.specs.Io.{ReadsAtMost};
 ghost use Rattle.std.specs.Io.KnownBytes.{ReadConsumes};
+ghost use Rattle.px_base.specs.Bounds.{u32_max};
 ghost use Rattle.px_base.specs.Counting.{next_count};
 ghost use Rattle.px_io.specs.Causes.{HasCause};
 ghost use Rattle.px_io.specs.Memory.{next_call, lists_none};
@@ -45,7 +46,7 @@ impl MemSource {
     /// `failing`; the counting stops at the last number of 32 bits, which can't be listed. Does not allocate.
     pub fn new(bytes: Vec<u8>, most: usize, failing: Vec<u32>) -> MemSource
         requires most { 1 ≤ most }
-        requires failing { ¬ Contains failing.items (2 ^ 32 - 1) }
+        requires failing { ¬ Contains failing.items u32_max }
         ensures { result ≡ record { left = bytes.items; taken = 0; most = most; failing = failing.items; call = 0; faults = 0 } }
     {
         MemSource {

@@ -1,5 +1,6 @@
 -- Tables by their names.
 use Rattle.std.specs.Prelude.{◌≡◌, ◌≢◌, ◌≤◌, ◌==◌, ◌++◌, ℕ, Option, Some, None, List, [], ◌∷◌, length, AllPairs, if◌then◌else◌}
+use Rattle.px_table.specs.Limits.{most_tables}
 use Rattle.px_table.specs.declared.table.Table.{Table}
 
 -- the names, and their tables in the same order, that of learning
@@ -9,10 +10,6 @@ pub record LibraryValue : Type 0 where
 
 abbrev pub no_tables : LibraryValue
 no_tables = record { names = []; tables = [] }
-
--- how many tables a library keeps at most
-abbrev pub most_tables : ℕ
-most_tables = 32
 
 -- as many tables as names, no name twice, and not too many of them
 pub record IsLibrary (library : LibraryValue) : Type 0 where

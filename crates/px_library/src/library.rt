@@ -1,14 +1,12 @@
 //! Learned tables by name.
 ghost use Rattle.std.specs.Prelude.{◌≡◌, ◌↔◌, Contains, length, OnOk, OnErr, option_map};
-ghost use Rattle.px_library.specs.Libraries.{most_tables, no_tables, table_named, with_table};
+ghost use Rattle.px_table.specs.Limits.{most_tables};
+ghost use Rattle.px_library.specs.Libraries.{no_tables, table_named, with_table};
 
 use px_base::push_within;
-use px_table::Table;
+use px_table::{MOST_TABLES, Table};
 use std::alloc::Global;
 use thiserror::Error;
-
-/// How many tables a library keeps at most.
-const MOST_TABLES: usize = 32;
 
 /// Why a table isn't learned.
 #[derive(Clone, Copy, PartialEq, Eq, Debug, Error)]

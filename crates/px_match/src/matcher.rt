@@ -157,8 +157,8 @@ impl<'a> Matcher<'a> {
         })
     }
 
-    /// Returns the highest kernel of which an instance that extends the binding and is proper holds in the model; `None` exactly where
-    /// there is no such kernel. Does not allocate.
+    /// Returns the highest kernel of which an instance that extends the binding, is proper and has objects that fit the table's parameters
+    /// holds in the model; `None` exactly where there is no such kernel. Does not allocate.
     pub fn best(&mut self, model: &Model) -> Option<u32>
         requires room { length model.now.atoms ≤ self.old.room }
         ensures none { (result ≡ None) ↔ NoKernelFits self.old.problem self.old.table self.old.bound model.now.atoms }

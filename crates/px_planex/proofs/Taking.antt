@@ -1,7 +1,11 @@
 -- Acting by a kernel: which step it is, the marks of its row one after the other, and worlds with the problem's rules.
-use Rattle.std.proofs.Common.{◌≡◌, ◌<◌, ◌≤◌, ◌-◌, ℕ, zero, suc, List, length, get_or, refl, sym, ap, ◌∙◌, subst, arith}
+use Rattle.std.proofs.Common.{◌≡◌, ◌<◌, ◌≤◌, ◌-◌, ◌++◌, ℕ, zero, suc, List, [], length, get_or, refl, sym, ap, ◌∙◌, subst, arith}
 use Rattle.std.specs.Prelude.{Contains, Some, slice_index_or}
 use Rattle.std.proofs.lemmas.Option.{slice_get_read}
+use Rattle.std.proofs.lemmas.List.{append-nil}
+use Rattle.px_table.specs.WellSortedLaws.{step-fits}
+use Rattle.px_table.specs.WellSorted.{IsWellSortedStep, ParametersFit}
+use Rattle.px_terms.specs.Sorts.{IsWellSorted, IsWellSortedBy}
 use Rattle.px_base.proofs.Loops.{AllBefore, all_whole, contains_here}
 use Rattle.px_base.specs.ListLaws.{All-at, All-each}
 use Rattle.px_terms.specs.declared.atom.Atom.{Atom}
@@ -11,7 +15,7 @@ use Rattle.px_terms.specs.declared.problem.Schema.{Schema}
 use Rattle.px_terms.specs.declared.term.Term.{Term}
 use Rattle.px_terms.specs.declared.term.Term.TheVariants.{Obj, Var, Any as WildCard}
 use Rattle.px_terms.specs.Operators.{adds, atoms_of, no_schema, result_by, result_of}
-use Rattle.px_terms.specs.Validity.{IsInstanceOf, IsTermOf}
+use Rattle.px_terms.specs.Validity.{IsInstanceOf, IsTermOf, IsValid}
 use Rattle.px_table.specs.declared.mark.Mark.{Mark}
 use Rattle.px_table.specs.declared.table.Table.{Table}
 use Rattle.px_table.specs.Kernels.{IsInstantiation, atom_under, instance_under}
@@ -77,3 +81,20 @@ instance_here problem table objects number step inst low high is made whole give
     let has = contains_here table.steps (number - 1) step (omega (arith, low, high)) is in
     subst (IsInstanceOf problem) (sym made)
     (step_under-is_of problem table objects step given (All-at (IsStepOf problem table.params) table.steps step whole.in_range.steps has))
+
+-- the step fits, where the objects fit the parameters
+pub step_fits : (problem : Problem) (table : Table) (objects : List ℕ) (number : ℕ) (step inst : OpInst) → 1 ≤ number
+    → number ≤ length table.steps
+    → step ≡ get_or table.steps (number - 1) step → inst ≡ instance_under objects step → IsValid problem → IsTable problem table
+    → IsInstantiation problem table objects → ParametersFit problem.object_sorts table objects
+    → IsWellSorted problem inst
+step_fits problem table objects number step inst low high is made valid whole given fitting =
+    let has = contains_here table.steps (number - 1) step (omega (arith, low, high)) is in
+    let same : problem.object_sorts ++ [] ≡ problem.object_sorts = append-nil problem.object_sorts in
+    subst (IsWellSorted problem) (sym made)
+    (subst (λ (sorts : List ℕ). IsWellSortedBy sorts problem (instance_under objects step)) same
+    (step-fits problem table.param_sorts table.params [] objects step valid
+    (All-at (IsStepOf problem table.params) table.steps step whole.in_range.steps has)
+    (All-at (IsWellSortedStep problem table.param_sorts) table.steps step whole.sorted.steps has)
+    given.count
+    (subst (λ (sorts : List ℕ). ParametersFit sorts table objects) (sym same) fitting)))

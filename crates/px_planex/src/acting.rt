@@ -1,5 +1,7 @@
 //! Acting by a kernel: its step is taken where each mark of its row is true.
 ghost use Rattle.std.specs.Prelude.{◌≡◌, ◌↔◌, ◌≤◌, ◌+◌, All, MatchBool, Some, length};
+ghost use Rattle.px_terms.specs.Sorts.{IsWellSorted};
+ghost use Rattle.px_table.specs.WellSorted.{ParametersFit};
 ghost use Rattle.px_terms.specs.declared.instance.OpInst.{OpInst};
 ghost use Rattle.px_terms.specs.Operators.{adds};
 ghost use Rattle.px_terms.specs.Validity.{IsInstanceOf, IsValid};
@@ -14,13 +16,16 @@ use px_table::{Table, atom_with, instance_with};
 use px_terms::{OpInst as Instance, Problem};
 use px_world::World;
 
-/// Returns the step of that number, with these objects for the parameters.
+/// Returns the step of that number, with these objects for the parameters, which they fit.
 pub(crate) fn step_of(problem: &Problem, table: &Table, objects: &[u32], number: u32) -> Instance
+    requires problem { IsValid problem.now }
     requires table { IsTable problem.now table.now }
     requires objects { IsInstantiation problem.now table.now objects.now }
+    requires fitting { ParametersFit problem.now.object_sorts table.now objects.now }
     requires number { (1 ≤ number) × (number ≤ length table.now.steps) }
     ensures step { step_of_kernel table.now (kernel_with objects.now number) ≡ Some result }
     ensures instance { IsInstanceOf problem.now result }
+    ensures fits { IsWellSorted problem.now result }
 {
     instance_with(objects, &table.steps.as_slice()[number as usize - 1])
 }
@@ -54,9 +59,11 @@ pub(crate) fn act_by<W: World>(
     number: u32,
     world: &mut W,
 ) -> bool
+    requires problem { IsValid problem.now }
     requires table { IsTable problem.now table.now }
     requires rules { HaveSameRules (W.rules world.old) problem.now }
     requires objects { IsInstantiation problem.now table.now objects.now }
+    requires fitting { ParametersFit problem.now.object_sorts table.now objects.now }
     requires number { (1 ≤ number) × (number ≤ length table.now.steps) }
     requires places { places_for problem.now (step_of_kernel table.now (kernel_with objects.now number)) ≤ W.spare world.old }
     ensures taken { MatchBool result (IsKernelStepTaken problem.now table.now (kernel_with objects.now number) (W.atoms world.old)

@@ -21,8 +21,8 @@ pub fn traces_exist<W: World>()
     ensures { TracesExist W.leaves }
 {}
 
-/// Where an edit leaves at most one atom more, an event leaves at most as many more as it may want places for, and the same atoms where
-/// its outcome changes nothing.
+/// Where an edit leaves at most one atom more, as the edits of `px_world` and `px_rooms` do, an event leaves at most as many more as it
+/// may want places for, and the same atoms where its outcome changes nothing.
 pub fn events_take_places<W: World>()
     ensures { EventsTakePlaces W.leaves }
 {}

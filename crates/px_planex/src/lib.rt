@@ -14,7 +14,7 @@
 //!   `happens` of `step`. A sensing remembers the highest kernel that fits; if it is the last one, that is the goal. An action takes
 //!   the remembered step if each mark of its row is true, and slips if one isn't. The world is as it was unless it was disturbed or a
 //!   step was taken (`unchanged`). No world refuses a step whose row is true, so no outcome says that one did.
-//! - [`Planex::action`] is the remembered step: `None` exactly where an action would have the outcome `NotSensed`.
+//! - [`Planex::action`] is the remembered step, which fits: `None` exactly where an action would have the outcome `NotSensed`.
 //!   [`Planex::instance`] has the objects of the last kernel that was sensed.
 //! - `Traces` is a list of events with their outcomes. Each list of events has one ([`traces_exist`]), and it is determined
 //!   ([`traces_are_one`]). `RunsTable` in `specs/Turns` is a run: turn by

@@ -1,5 +1,6 @@
 //! The executor of a triangle table in a world.
-ghost use Rattle.std.specs.Prelude.{◌≡◌, ◌≢◌, ◌⊎◌, ◌↔◌, ◌<◌, ◌≤◌, ◌+◌, ℕ, All, AllPairs, Contains, IfOk, IsErrOf, IsTrue, MatchBool, None, OnOk, Some, length};
+ghost use Rattle.std.specs.Prelude.{◌≡◌, ◌≢◌, ◌⊎◌, ◌↔◌, ◌<◌, ◌≤◌, ◌+◌, ℕ, All, AllPairs, Contains, IfOk, IfSome, IsErrOf, IsTrue, MatchBool, None, OnOk, Some, length};
+ghost use Rattle.px_terms.specs.Sorts.{IsWellSorted};
 ghost use Rattle.px_terms.specs.declared.instance.OpInst.{OpInst};
 ghost use Rattle.px_terms.specs.Operators.{adds};
 ghost use Rattle.px_terms.specs.Validity.{IsInstanceOf, IsValid};
@@ -103,11 +104,12 @@ impl<'a> Planex<'a> {
         })
     }
 
-    /// Returns the step that the next action will take, unless a mark of its row isn't true then. `None` exactly where an action would
-    /// have the outcome `NotSensed`: no step is remembered. Does not allocate.
+    /// Returns the step that the next action will take, unless a mark of its row isn't true then. Each of its objects fits its parameter.
+    /// `None` exactly where an action would have the outcome `NotSensed`: no step is remembered. Does not allocate.
     pub fn action(&self) -> Option<StepInst>
         ensures step { result ≡ remembered_step self.now.table self.now.memory }
         ensures sensed { (result ≡ None) ↔ (self.now.memory.remembered ≡ None) }
+        ensures fits { IfSome result (λ step. IsWellSorted self.now.problem step) }
     {
         match self.remembered {
             None => None,

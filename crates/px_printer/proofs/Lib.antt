@@ -1,2 +1,3 @@
 -- The files of lemmas.
-pub mod NamedLemmas
+pub mod BlockLemmas
+pub mod WorkedOut

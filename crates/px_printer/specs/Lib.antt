@@ -2,6 +2,11 @@
 pub mod Notices
 pub mod Texts
 pub mod Rows
+pub mod Blocks
 pub mod Turns
+pub mod DuoLines
+pub mod PursuitEnds
 pub mod Whys
 pub mod Replies
+pub mod Worked
+pub mod NamedLaws

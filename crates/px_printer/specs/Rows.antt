@@ -7,6 +7,7 @@ use Rattle.px_table.specs.declared.mark.Mark.{Mark}
 use Rattle.px_table.specs.declared.table.Table.{Table}
 use Rattle.px_terms.specs.declared.atom.Atom.{Atom}
 use Rattle.px_terms.specs.declared.instance.OpInst.{OpInst}
+use Rattle.px_printer.specs.declared.spelling.Spelling.TheVariants.{InRows}
 use Rattle.px_printer.specs.Texts.{IsNamedAtom, IsNamedInstance, after_spaces, atom_text, indented_line, instance_text, text_line}
 
 -- each number that the table's rows print as a name has one
@@ -17,7 +18,7 @@ pub record IsNamedTable (names : NameLists) (table : Table) : Type 0 where
 
 -- a mark is its column and its atom
 abbrev pub mark_line : NameLists → ℕ → Mark → List ℕ
-mark_line names params mark = indented_line (decimal mark.column ∷ atom_text names params mark.atom ∷ [])
+mark_line names params mark = indented_line (decimal mark.column ∷ atom_text names (InRows params) mark.atom ∷ [])
 
 -- the marks of the row of that number, in order
 abbrev pub mark_lines : NameLists → ℕ → List Mark → ℕ → List ℕ
@@ -27,13 +28,13 @@ mark_lines names params marks row = flat_map (mark_line names params) (filter (�
 abbrev pub step_rows : NameLists → ℕ → List Mark → ℕ → List OpInst → List ℕ
 step_rows names params marks row [] = []
 step_rows names params marks row (step ∷ steps) =
-    text_line (codes "row" ∷ decimal row ∷ instance_text names params step ∷ [])
+    text_line (codes "row" ∷ decimal row ∷ instance_text names (InRows params) step ∷ [])
     ++ (mark_lines names params marks row ++ step_rows names params marks (row + 1) steps)
 
 -- the line of the last row: the goal's atoms, each after a space
 abbrev pub goal_line : NameLists → ℕ → ℕ → List Atom → List ℕ
 goal_line names params row goal =
-    codes "row " ++ (decimal row ++ (codes " goal" ++ (after_spaces (map (atom_text names params) goal) ++ codes "\n")))
+    codes "row " ++ (decimal row ++ (codes " goal" ++ (after_spaces (map (atom_text names (InRows params)) goal) ++ codes "\n")))
 
 -- the last row: the goal, then its marks
 abbrev pub goal_row : NameLists → Table → List ℕ

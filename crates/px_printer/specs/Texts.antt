@@ -9,6 +9,8 @@ use Rattle.px_terms.specs.declared.atom.Atom.{Atom}
 use Rattle.px_terms.specs.declared.instance.OpInst.{OpInst}
 use Rattle.px_terms.specs.declared.term.Term.{Term}
 use Rattle.px_terms.specs.declared.term.Term.TheVariants.{Obj, Var, Any}
+use Rattle.px_printer.specs.declared.spelling.Spelling.{Spelling}
+use Rattle.px_printer.specs.declared.spelling.Spelling.TheVariants.{InBlock, InRows}
 
 -- ---- names
 
@@ -36,13 +38,22 @@ pub record IsNamedInstance (names : NameLists) (inst : OpInst) : Type 0 where
   pub operator : HasName names kind.Operator inst.op
   pub objects : All (IsNamedTerm names) inst.args
 
--- An object is its name. The variables below `params` are parameters, `p1` and on; those that follow are variables of
--- a goal, `?1` and on. The wild card is `$`.
-abbrev pub term_text : NameLists → ℕ → Term → List ℕ
-term_text names params (Obj number) = name_text names kind.Object number
-term_text names params (Var number) =
-    if nat_lt number params then codes "p" ++ decimal (number + 1) else codes "?" ++ decimal (number - params + 1)
-term_text names params Any = codes "$"
+-- The first variables are parameters and the others are a goal's own, each a word and its number, from 1.
+abbrev pub numbered_variable : (params : ℕ) (parameter own : List ℕ) (number : ℕ) → List ℕ
+numbered_variable params parameter own number =
+    if nat_lt number params then parameter ++ decimal (number + 1) else own ++ decimal (number - params + 1)
+
+-- parameters are `p1` and on in the rows of a shown table, and `?p1` and on in the block of a saved one; the variables of a goal are
+-- `?1` and on, and `?g1` and on
+abbrev pub variable_text : Spelling → ℕ → List ℕ
+variable_text (InRows params) number = numbered_variable params (codes "p") (codes "?") number
+variable_text (InBlock params) number = numbered_variable params (codes "?p") (codes "?g") number
+
+-- An object is its name, and the wild card is `$`.
+abbrev pub term_text : NameLists → Spelling → Term → List ℕ
+term_text names spelling (Obj number) = name_text names kind.Object number
+term_text names spelling (Var number) = variable_text spelling number
+term_text names spelling Any = codes "$"
 
 -- texts, each after a comma
 abbrev pub after_commas : List (List ℕ) → List ℕ
@@ -54,16 +65,16 @@ in_parentheses [] = []
 in_parentheses (first ∷ rest) = codes "(" ++ (first ++ (after_commas rest ++ codes ")"))
 
 -- the texts of the arguments, in parentheses
-abbrev pub arguments_text : NameLists → ℕ → List Term → List ℕ
-arguments_text names params terms = in_parentheses (map (term_text names params) terms)
+abbrev pub arguments_text : NameLists → Spelling → List Term → List ℕ
+arguments_text names spelling terms = in_parentheses (map (term_text names spelling) terms)
 
 -- the predicate's name, then the arguments
-abbrev pub atom_text : NameLists → ℕ → Atom → List ℕ
-atom_text names params atom = name_text names kind.Predicate atom.pred ++ arguments_text names params atom.args
+abbrev pub atom_text : NameLists → Spelling → Atom → List ℕ
+atom_text names spelling atom = name_text names kind.Predicate atom.pred ++ arguments_text names spelling atom.args
 
 -- the operator's name, then the arguments
-abbrev pub instance_text : NameLists → ℕ → OpInst → List ℕ
-instance_text names params inst = name_text names kind.Operator inst.op ++ arguments_text names params inst.args
+abbrev pub instance_text : NameLists → Spelling → OpInst → List ℕ
+instance_text names spelling inst = name_text names kind.Operator inst.op ++ arguments_text names spelling inst.args
 
 -- ---- lines
 

@@ -4,6 +4,7 @@ use Rattle.std.specs.Fmt.{decimal}
 use Rattle.px_names.specs.Lists.{NameLists}
 use Rattle.px_terms.specs.declared.instance.OpInst.{OpInst}
 use Rattle.px_printer.specs.Texts.{IsNamedInstance, indented_line, instance_text}
+use Rattle.px_printer.specs.declared.spelling.Spelling.TheVariants.{InRows}
 use Rattle.px_printer.specs.declared.turn.Turn.{Turn}
 use Rattle.px_printer.specs.declared.turn.TurnEnd.{TurnEnd}
 use Rattle.px_printer.specs.declared.turn.TurnEnd.TheVariants.{Acted, Slipped, Goal, NoKernel}
@@ -19,7 +20,7 @@ IsNamedTurn names turn = IsNamedStep names turn.op
 -- the step, if there is one
 abbrev pub step_words : NameLists → Option OpInst → List (List ℕ)
 step_words names None = []
-step_words names (Some inst) = instance_text names 0 inst ∷ []
+step_words names (Some inst) = instance_text names (InRows 0) inst ∷ []
 
 abbrev pub end_words : NameLists → ℕ → Option OpInst → TurnEnd → List (List ℕ)
 end_words names kernel op Acted = codes "kernel" ∷ decimal kernel ∷ (step_words names op ++ codes "acted" ∷ [])

@@ -1,6 +1,6 @@
 //! The texts of the program that answer no command.
 ghost use Rattle.std.specs.Prelude.{◌≡◌, IfOk};
-ghost use Rattle.px_printer.specs.Notices.{refused_text, usage_text};
+ghost use Rattle.px_printer.specs.Notices.{no_text, refused_text, usage_text, yes_text};
 
 use px_base::NoMemory;
 use std::alloc::Global;
@@ -24,4 +24,23 @@ pub fn refused_text(alloc: Global, line: u32, code: u8, limit: u8) -> Result<Vec
     let mut text = String::new(alloc);
     write!(text, "refused line {line} code {code} limit {limit}\n")?;
     Ok(text.into_bytes())
+}
+
+/// Returns the text that says that a certificate's table, of these numbers of parameters and steps, is one.
+///
+/// # Errors
+/// `NoMemory` where there is no memory for the text.
+pub fn yes_text(alloc: Global, params: u32, steps: usize) -> Result<Vec<u8>, NoMemory>
+    ensures text { IfOk result (λ text. text.items ≡ yes_text params steps) }
+{
+    let mut text = String::new(alloc);
+    write!(text, "yes {params} parameters {steps} steps\n")?;
+    Ok(text.into_bytes())
+}
+
+/// Returns the text that says that a certificate's table is none. Does not allocate.
+pub fn no_text() -> &'static str
+    ensures { result.now ≡ no_text }
+{
+    "no\n"
 }

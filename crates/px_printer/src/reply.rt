@@ -1,6 +1,8 @@
 //! What commands answer.
 ghost use Rattle.std.specs.Prelude.{◌≡◌};
 
+use crate::duo_line::DuoLine;
+use crate::pursue_end::PursueEnd;
 use crate::turn::Turn;
 use px_base::Sequence;
 use px_numbers::FirstNodes;
@@ -33,6 +35,64 @@ impl Why {
             Why::TooDeep => "toodeep",
             Why::TooWide => "toowide",
             Why::Full => "full",
+        }
+    }
+}
+
+/// Why a table isn't saved or certified.
+#[derive(Clone, Copy, PartialEq, Eq, Debug)]
+pub enum SaveWhy {
+    /// It has more than 64 steps.
+    TooLong,
+    /// A proof in it is higher than 56.
+    TooDeep,
+    /// It has more than 9,999 parameters.
+    TooMany,
+}
+
+impl SaveWhy {
+    ghost use Rattle.px_printer.specs.Whys.{save_why_text};
+
+    /// Returns the word for it.
+    pub(crate) fn text(self) -> &'static str
+        ensures { result.now ≡ save_why_text self }
+    {
+        match self {
+            SaveWhy::TooLong => "toolong",
+            SaveWhy::TooDeep => "toodeep",
+            SaveWhy::TooMany => "toomany",
+        }
+    }
+}
+
+/// Why a table isn't edited.
+#[derive(Clone, Copy, PartialEq, Eq, Debug)]
+pub enum EditWhy {
+    /// It has no prefix of so many steps.
+    Prefix,
+    /// One of the pairs names no add of a step of the prefix, or stands twice.
+    Want,
+    /// More than 64 steps would be kept.
+    TooLong,
+    /// A proof in the row of a kept step is higher than 56.
+    TooDeep,
+    /// There are 32 learned tables.
+    Full,
+}
+
+impl EditWhy {
+    ghost use Rattle.px_printer.specs.Whys.{edit_why_text};
+
+    /// Returns the word for it.
+    pub(crate) fn text(self) -> &'static str
+        ensures { result.now ≡ edit_why_text self }
+    {
+        match self {
+            EditWhy::Prefix => "prefix",
+            EditWhy::Want => "want",
+            EditWhy::TooLong => "toolong",
+            EditWhy::TooDeep => "toodeep",
+            EditWhy::Full => "full",
         }
     }
 }
@@ -123,5 +183,69 @@ pub enum Reply {
     UnknownParam {
         /// The parameter, counted from 1.
         param: u32,
+    },
+    /// A table is saved: its block can be read back.
+    Saved {
+        /// The number of the table's name.
+        name: u32,
+        /// The table.
+        table: Table,
+    },
+    /// The table isn't saved.
+    SaveRefused {
+        /// The number of the table's name.
+        name: u32,
+        /// Why it isn't saved.
+        why: SaveWhy,
+    },
+    /// A table was made of the steps of another that are needed.
+    Edited {
+        /// The number of the new table's name.
+        name: u32,
+        /// How many parameters it has.
+        params: u32,
+        /// How many steps it has.
+        steps: u32,
+    },
+    /// The table isn't edited.
+    EditRefused {
+        /// The number of the new table's name.
+        name: u32,
+        /// Why it isn't made.
+        why: EditWhy,
+    },
+    /// The certificate of a table.
+    Certified {
+        /// The number of the table's name.
+        name: u32,
+        /// The certificate's bytes.
+        bytes: Sequence<u8>,
+    },
+    /// The table has no certificate.
+    CertifyRefused {
+        /// The number of the table's name.
+        name: u32,
+        /// Why it has none.
+        why: SaveWhy,
+    },
+    /// Two tables were executed in one world.
+    DuoRan {
+        /// The number of the first table's name.
+        first: u32,
+        /// The number of the second table's name.
+        second: u32,
+        /// What the executors did, in order.
+        lines: Sequence<DuoLine>,
+    },
+    /// A goal was pursued.
+    Pursuit {
+        /// The number of the pursuit's name.
+        name: u32,
+        /// How many searches were made.
+        searches: u32,
+        /// The turns of all runs, from the first to the last.
+        turns: Sequence<Turn>,
+        /// How it ended.
+        end: PursueEnd,
     },
 }

@@ -3,9 +3,11 @@ ghost use Rattle.std.specs.Prelude.{◌≡◌, ◌∷◌, [], ◌++◌, All, OnO
 ghost use Rattle.std.specs.Fmt.{decimal};
 ghost use Rattle.px_table.specs.declared.mark.Mark.{Mark};
 ghost use Rattle.px_printer.specs.Rows.{IsNamedTable, goal_line, goal_row, mark_line, mark_lines, row_lines};
+ghost use Rattle.px_printer.specs.declared.spelling.Spelling.TheVariants.{InRows};
 ghost use Rattle.px_printer.specs.Texts.{IsNamedAtom, IsNamedInstance, after_spaces, atom_text, instance_text, text_line};
 
 use crate::shown::{ShownAtom, ShownInstance};
+use crate::spelling::Spelling;
 use px_names::Names;
 use px_table::{Mark, Table};
 use px_terms::{Atom, OpInst};
@@ -25,21 +27,22 @@ pub(crate) fn push_table(
         ++ (text_line (codes "table" ∷ name.now ∷ decimal table.now.params ∷ codes "parameters" ∷ decimal (length table.now.steps)
         ∷ codes "steps" ∷ []) ++ row_lines names.now table.now)) }
 {
-    push_table_line(text, name, table.params, table.steps.len())?;
+    push_table_line(text, "table", name, table.params, table.steps.len() as u64)?;
     push_rows(text, table, names)
 }
 
-/// Appends the line of a table, with the numbers of its parameters and steps.
-fn push_table_line(
+/// Appends a word, the name of a table, and the numbers of its parameters and steps.
+pub(crate) fn push_table_line(
     text: &mut String,
+    word: &str,
     name: &str,
     params: u32,
-    count: usize,
+    steps: u64,
 ) -> Result<(), AllocError>
     ensures { OnOk result (string_bytes text.new ≡ string_bytes text.old
-        ++ text_line (codes "table" ∷ name.now ∷ decimal params ∷ codes "parameters" ∷ decimal count ∷ codes "steps" ∷ [])) }
+        ++ text_line (word.now ∷ name.now ∷ decimal params ∷ codes "parameters" ∷ decimal steps ∷ codes "steps" ∷ [])) }
 {
-    write!(text, "table {name} {params} parameters {count} steps\n")
+    write!(text, "{word} {name} {params} parameters {steps} steps\n")
 }
 
 /// Appends the rows of a table, the goal's last.
@@ -64,13 +67,13 @@ fn push_step_row(
     requires step { IsNamedInstance names.now step.now }
     requires marks { All (λ (mark : Mark). IsNamedAtom names.now mark.atom) table.now.marks }
     ensures { OnOk result (string_bytes text.new ≡ string_bytes text.old
-        ++ (text_line (codes "row" ∷ decimal row ∷ instance_text names.now table.now.params step.now ∷ [])
+        ++ (text_line (codes "row" ∷ decimal row ∷ instance_text names.now (InRows table.now.params) step.now ∷ [])
         ++ mark_lines names.now table.now.params table.now.marks row)) }
 {
     let step = ShownInstance {
         inst: step,
         names,
-        params: table.params,
+        spelling: Spelling::InRows(table.params),
     };
     write!(text, "row {row} {step}\n")?;
     push_marks(text, row, table, names)
@@ -98,25 +101,25 @@ fn push_goal_line(
     ensures { OnOk result (string_bytes text.new ≡ string_bytes text.old ++ goal_line names.now params row goal.now) }
 {
     write!(text, "row {row} goal")?;
-    push_after_spaces(text, goal, params, names)?;
+    push_after_spaces(text, goal, Spelling::InRows(params), names)?;
     write!(text, "\n")
 }
 
 /// Appends atoms, each after a space.
-fn push_after_spaces(
+pub(crate) fn push_after_spaces(
     text: &mut String,
     atoms: &[Atom],
-    params: u32,
+    spelling: Spelling,
     names: &Names,
 ) -> Result<(), AllocError>
     requires { All (IsNamedAtom names.now) atoms.now }
-    ensures { OnOk result (string_bytes text.new ≡ string_bytes text.old ++ after_spaces (map (atom_text names.now params) atoms.now)) }
+    ensures { OnOk result (string_bytes text.new ≡ string_bytes text.old ++ after_spaces (map (atom_text names.now spelling) atoms.now)) }
 {
     for atom in atoms {
         let atom = ShownAtom {
             atom,
             names,
-            params,
+            spelling,
         };
         write!(text, " {atom}")?;
     }
@@ -145,7 +148,7 @@ fn push_mark(text: &mut String, mark: &Mark, params: u32, names: &Names) -> Resu
     let atom = ShownAtom {
         atom: &mark.atom,
         names,
-        params,
+        spelling: Spelling::InRows(params),
     };
     write!(text, "  {column} {atom}\n")
 }

@@ -1,6 +1,8 @@
 -- Attempts at the axioms, each from a place on.
 use Rattle.std.specs.Prelude.{◌≡◌, ◌≢◌, ◌⊎◌, ℕ, ◌+◌, ◌<◌, ◌≤◌, Bool, true, Some, List, length, slice_get}
 use Rattle.px_terms.specs.Clauses.{ArePlainBelow}
+use Rattle.px_terms.specs.Limits.{most_formula_variables}
+use Rattle.px_unify.specs.declared.change.TheConstants.{MOST_VARIABLES}
 use Rattle.px_terms.specs.declared.clause.Clause.{Clause}
 use Rattle.px_terms.specs.declared.clause.Lit.{Lit}
 use Rattle.px_proof_state.specs.declared.open.OpenGoal.{OpenGoal}
@@ -10,8 +12,8 @@ use Rattle.px_proof_state.specs.States.{ProofStateValue}
 
 -- what an attempt at the clause needs: room for its variables, and literals over these
 pub record IsFit (variables : ℕ) (clause : Clause) : Type 0 where
-  pub few : clause.vars ≤ 12
-  pub small : variables + clause.vars ≤ 1000000
+  pub few : clause.vars ≤ most_formula_variables
+  pub small : variables + clause.vars ≤ MOST_VARIABLES
   pub plain : ArePlainBelow clause.vars clause.lits
 
 -- the parts of a step with these literals have a height

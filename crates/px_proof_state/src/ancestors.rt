@@ -1,5 +1,6 @@
 //! Closing a place by the complement of a literal above it.
 ghost use Rattle.std.specs.Prelude.{◌≡◌, ◌<◌, ◌≤◌, IfOk, All, length};
+ghost use Rattle.px_base.specs.Bounds.{u32_max};
 ghost use Rattle.px_unify.specs.Changes.{variables_of};
 ghost use Rattle.px_proof_state.specs.Arena.{path_at, AreOlder};
 ghost use Rattle.px_proof_state.specs.Parts.{IsLitBelow};
@@ -34,7 +35,7 @@ fn try_ancestor(
 /// # Errors
 /// `NoMemory` if memory for the choice runs out. The state is then of no further use.
 pub fn try_ancestors(state: &mut ProofState, goal: &OpenGoal, from: usize) -> Result<bool, NoMemory>
-    requires few { length (path_at state.old.goals goal.now.above) < 4294967296 }
+    requires few { length (path_at state.old.goals goal.now.above) ≤ u32_max }
     requires above_older { goal.now.above ≤ length state.old.goals }
     requires arena { AreOlder state.old.goals }
     requires goal_below { IsLitBelow (variables_of state.old.changes) goal.now.lit }

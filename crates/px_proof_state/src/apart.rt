@@ -4,7 +4,7 @@ ghost use Rattle.px_terms.specs.Language.{IsPlainBelow};
 ghost use Rattle.px_unify.specs.Changes.{variables_of};
 ghost use Rattle.px_proof_state.specs.Apart.{AreApart, AreLiteralsApart, AreOneAtomUnder, AreTermsApart};
 
-use px_terms::{Atom, Lit, Term};
+use px_terms::{Atom, Lit, MOST_ARGUMENTS, Term};
 use px_unify::Bind;
 
 /// Returns the atom with each argument followed to the end of its bindings.
@@ -13,7 +13,7 @@ pub(crate) fn followed(bind: &Bind, atom: &Atom) -> Atom
     ensures { AreOneAtomUnder bind.now atom.now result }
 {
     let args = atom.args();
-    let mut terms = [Term::Any; 6];
+    let mut terms = [Term::Any; MOST_ARGUMENTS];
     for (place, term) in args.iter().enumerate() {
         terms[place] = bind.resolve(*term);
     }

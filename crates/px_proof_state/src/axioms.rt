@@ -1,5 +1,6 @@
 //! Closing a place by an axiom, where the height leaves room.
 ghost use Rattle.std.specs.Prelude.{◌≡◌, ◌↔◌, ◌+◌, ◌<◌, ◌≤◌, IfOk, IsTrue, All, length};
+ghost use Rattle.px_terms.specs.Limits.{most_literals};
 ghost use Rattle.px_unify.specs.Changes.{variables_of};
 ghost use Rattle.px_proof_state.specs.Parts.{IsLitBelow};
 ghost use Rattle.px_proof_state.specs.Ranges.{TriesRange};
@@ -34,7 +35,7 @@ fn try_clause(
     from: usize,
 ) -> Result<bool, NoMemory>
     requires fit { IsFit (variables_of state.old.changes) (record { vars = vars; lits = lits.now }) }
-    requires short { length lits.now ≤ 6 }
+    requires short { length lits.now ≤ most_literals }
     requires goal_below { IsLitBelow (variables_of state.old.changes) goal.now.lit }
     requires next_older { goal.now.next ≤ length state.old.goals }
     requires first_older { state.old.first ≤ length state.old.goals }

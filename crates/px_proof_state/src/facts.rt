@@ -1,5 +1,6 @@
 //! Closing a place by a fact.
 ghost use Rattle.std.specs.Prelude.{◌≡◌, ◌<◌, ◌≤◌, ℕ, IfOk, length};
+ghost use Rattle.px_base.specs.Bounds.{u32_max};
 ghost use Rattle.px_terms.specs.AtomSets.{IsAtomSet};
 ghost use Rattle.px_terms.specs.Instances.{IsGround};
 ghost use Rattle.px_unify.specs.Changes.{variables_of};
@@ -51,7 +52,7 @@ pub fn try_facts(
     goal: &OpenGoal,
     from: usize,
 ) -> Result<bool, NoMemory>
-    requires few { length facts.now < 4294967296 }
+    requires few { length facts.now ≤ u32_max }
     requires ascending { IsAtomSet facts.now }
     requires goal_below { IsLitBelow (variables_of state.old.changes) goal.now.lit }
     ensures { IfOk result (λ found. TriesRange (NeverFact objects facts.now state.old goal.now)

@@ -5,7 +5,7 @@ use crate::parts::{open_formula, push_parts, variables_after};
 use crate::stepping::matches_fresh;
 use px_proof::{Tick, apply_literal};
 use px_terms::{Atom, Lit, NoMemory};
-use px_unify::{Bind, BindErr, TrailMark};
+use px_unify::{Bind, BindErr, MOST_VARIABLES, TrailMark};
 use std::alloc::Global;
 use std::marker::Model;
 
@@ -52,6 +52,7 @@ impl ProofState {
     ghost use Rattle.std.specs.Prelude.{◌≡◌, ◌∷◌, ◌-◌, slice_get, Some, ◌+◌, ◌<◌, ◌≤◌, [], ◌↔◌, List, IsTrue, IfSome, IfNone, IfOk, All, length, reverse, MatchOption};
     ghost use Rattle.px_terms.specs.Language.{IsPlainBelow};
     ghost use Rattle.px_terms.specs.Clauses.{ArePlainBelow};
+    ghost use Rattle.px_terms.specs.Limits.{most_formula_variables};
     ghost use Rattle.px_unify.specs.Changes.{variables_of, HasSolutions};
     ghost use Rattle.px_proof_state.specs.Matches.{ClosesBy};
     ghost use Rattle.px_proof_state.specs.Parts.{IsLitBelow};
@@ -69,7 +70,7 @@ impl ProofState {
         vars: u32,
         height: u32,
     ) -> Result<ProofState, NoMemory>
-        requires { vars ≤ 1000000 }
+        requires { vars ≤ MOST_VARIABLES }
         ensures { IfOk result (λ state. IsOpening formula.now vars height state) }
     {
         let mut bind = Bind::new(alloc);
@@ -166,8 +167,8 @@ impl ProofState {
         place: usize,
     ) -> Result<bool, NoMemory>
         requires place { place < length lits.now }
-        requires few { vars ≤ 12 }
-        requires small { variables_of self.old.changes + vars ≤ 1000000 }
+        requires few { vars ≤ most_formula_variables }
+        requires small { variables_of self.old.changes + vars ≤ MOST_VARIABLES }
         requires goal_below { IsLitBelow (variables_of self.old.changes) goal.now.lit }
         requires lits_below { ArePlainBelow vars lits.now }
         requires next_older { goal.now.next ≤ length self.old.goals }

@@ -1,6 +1,7 @@
 //! The goals that a formula or a use of a clause opens.
 ghost use Rattle.std.specs.Prelude.{◌≡◌, ◌+◌, ◌-◌, ◌≤◌, ◌++◌, ◌∷◌, [], ℕ, List, Some, IfOk, All, length, suc, take, map};
 ghost use Rattle.px_terms.specs.Language.{IsVariableBelow};
+ghost use Rattle.px_terms.specs.Limits.{most_formula_variables};
 ghost use Rattle.px_terms.specs.declared.clause.Lit.{Lit as LitValue};
 ghost use Rattle.px_terms.specs.Substitution.{variables_from};
 ghost use Rattle.px_proof.specs.Literals.{positive_of};
@@ -11,18 +12,16 @@ ghost use Rattle.px_proof_state.specs.Parts.{goals_under};
 
 use crate::open::OpenGoal;
 use px_proof::{apply_literal, complement};
-use px_terms::{Atom, Lit, NoMemory, Term};
-
-/// The greatest number of variables of an axiom.
-pub(crate) const MOST: usize = 12;
+use px_terms::{Atom, Lit, MOST_FORMULA_VARIABLES, NoMemory, Term};
+use px_unify::MOST_VARIABLES;
 
 /// Returns the variables from number `first` on: the first `count` terms of the array.
-pub(crate) fn variables_after(first: u32, count: u32) -> [Term; MOST]
-    requires few { count ≤ 12 }
-    requires small { first + count ≤ 1000000 }
+pub(crate) fn variables_after(first: u32, count: u32) -> [Term; MOST_FORMULA_VARIABLES]
+    requires few { count ≤ most_formula_variables }
+    requires small { first + count ≤ MOST_VARIABLES }
     ensures { take count result ≡ variables_from first count }
 {
-    let mut terms = [Term::Any; MOST];
+    let mut terms = [Term::Any; MOST_FORMULA_VARIABLES];
     for k in 0..count {
         terms[k as usize] = Term::Var(first + k);
     }

@@ -6,7 +6,7 @@ ghost use Rattle.px_proof_state.specs.Steps.{MatchesFresh};
 
 use crate::matching::matches;
 use px_terms::{Lit, NoMemory};
-use px_unify::{Bind, BindErr};
+use px_unify::{Bind, BindErr, MOST_VARIABLES};
 
 /// Adds variables and makes the two literals equal, or leaves the bindings as they are. Returns whether they are equal.
 pub(crate) fn matches_fresh(
@@ -15,7 +15,7 @@ pub(crate) fn matches_fresh(
     goal: &Lit,
     lit: &Lit,
 ) -> Result<bool, NoMemory>
-    requires small { variables_of bind.old + count ≤ 1000000 }
+    requires small { variables_of bind.old + count ≤ MOST_VARIABLES }
     requires goal_below { IsLitBelow (variables_of bind.old) goal.now }
     requires lit_below { IsLitBelow (variables_of bind.old + count) lit.now }
     ensures { IfOk result (λ found. MatchesFresh bind.old bind.new count goal.now lit.now found) }

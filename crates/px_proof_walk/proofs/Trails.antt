@@ -1,11 +1,22 @@
 -- What the trail of a walk says of the lists that were seen.
-use Rattle.std.proofs.Common.{◌≡◌, ℕ, zero, suc, ◌+◌, ◌<◌, List, [], ◌∷◌, ◌++◌, length, map, take, replicate, refl, ap, sym, ◌∙◌}
-use Rattle.std.specs.Prelude.{get_or}
+use Rattle.std.proofs.Common.{◌≡◌, ℕ, zero, suc, ◌+◌, ◌<◌, List, [], ◌∷◌, ◌++◌, length, map, take, replicate, refl, ap, sym, ◌∙◌, subst, arith}
+use Rattle.std.specs.Prelude.{get_or, slice_index_or}
+use Rattle.std.specs.List.{AllZip}
 use Rattle.std.proofs.lemmas.List.{take_more}
 use Rattle.px_proof.specs.declared.shape.Tick.{Tick}
-use Rattle.px_proof_walk.proofs.Visits.{shapes-push}
-use Rattle.px_proof_walk.specs.Trail.{BranchesOff, IsVisit, last_of, led_to, moved_to, shape_with, shapes_along}
+use Rattle.px_proof_walk.specs.Possible.{shape_with}
+use Rattle.px_proof_walk.specs.Trail.{AreVisits, BranchesOff, IsVisit, tick_or_none, moved_to}
 use Rattle.px_proof_walk.specs.declared.visit.Visit.{Visit}
+
+-- the list that the visits lead to
+abbrev pub led_to : List Tick → List Visit → List Tick
+led_to ticks [] = ticks
+led_to ticks (visit ∷ trail) = led_to (moved_to ticks visit) trail
+
+-- the shapes of the lists that are visited
+abbrev pub shapes_along : List Tick → List Visit → List (List Tick)
+shapes_along ticks [] = []
+shapes_along ticks (visit ∷ trail) = shape_with (moved_to ticks visit) visit.places ∷ shapes_along (moved_to ticks visit) trail
 
 pub replicate-push : {X : Type 0} (n : ℕ) (x : X) → replicate (suc n) x ≡ replicate n x ++ x ∷ []
 replicate-push zero x = refl
@@ -45,27 +56,61 @@ module _ (trail : List Visit) (i : ℕ) (d : Visit) (below : i < length trail) (
 pub moved-here : (before here : List Tick) (places : ℕ) (visit : Visit) → BranchesOff before here → IsVisit here places visit
     → moved_to before visit ≡ here
 moved-here before here places visit branches is =
-    ap (λ xs. xs ++ last_of visit.last) (ap (λ n. take n before) is.kept ∙ branches ∙ sym (ap (λ n. take n here) is.kept)) ∙ sym is.ends
+    ap (λ xs. xs ++ tick_or_none visit.last) (ap (λ n. take n before) is.kept ∙ branches ∙ sym (ap (λ n. take n here) is.kept))
+    ∙ sym is.ends
 
--- the trail has the shapes of the lists that were seen, and the next list branches off the one that it leads to
+-- the shapes along the visits are those of the lists
+pub along-visits : (places : List Tick → ℕ) (before : List Tick) (seen : List (List Tick)) (trail : List Visit)
+    → AllZip (λ ticks visit. IsVisit ticks (places ticks) visit) seen trail
+    → ((k : ℕ) → k < length seen → BranchesOff (slice_index_or (before ∷ seen) k []) (slice_index_or seen k []))
+    → shapes_along before trail ≡ map (λ ticks. shape_with ticks (places ticks)) seen
+along-visits places before [] [] each branches = refl
+along-visits places before [] (visit ∷ trail) each branches = absurd each
+along-visits places before (here ∷ seen) [] each branches = absurd each
+along-visits places before (here ∷ seen) (visit ∷ trail) each branches =
+    ap (λ ticks. shape_with ticks visit.places ∷ shapes_along ticks trail)
+    (moved-here before here (places here) visit (branches 0 (omega arith)) each.0)
+    ∙ ap (λ n. shape_with here n ∷ shapes_along here trail) each.0.left
+    ∙ ap (λ shapes. shape_with here (places here) ∷ shapes)
+    (along-visits places here seen trail each.1 (λ k below. branches (suc k) (omega (arith, below))))
+
+-- the trail has the visits of the lists that were seen, and the next list branches off the last of them
 pub record Follows (places : List Tick → ℕ) (trail : List Visit) (seen : List (List Tick)) (here : List Tick) : Type 0 where
-  pub branches : BranchesOff (led_to [] trail) here
-  pub shapes : shapes_along [] trail ≡ map (λ ticks. shape_with ticks (places ticks)) seen
+  pub visits : AreVisits places seen trail
+  pub branches : BranchesOff (slice_index_or ([] ∷ seen) (length seen) []) here
+
+zip-push : {A B : Type 0} (R : A → B → Type 0) (xs : List A) (ys : List B) (x : A) (y : B) → AllZip R xs ys → R x y
+    → AllZip R (xs ++ x ∷ []) (ys ++ y ∷ [])
+zip-push R [] [] x y all last = (last, tt)
+zip-push R [] (b ∷ ys) x y all last = absurd all
+zip-push R (a ∷ xs) [] x y all last = absurd all
+zip-push R (a ∷ xs) (b ∷ ys) x y all last = (all.0, zip-push R xs ys x y all.1 last)
+
+branches-push : (before : List Tick) (seen : List (List Tick)) (here : List Tick)
+    → ((k : ℕ) → k < length seen → BranchesOff (slice_index_or (before ∷ seen) k []) (slice_index_or seen k []))
+    → BranchesOff (slice_index_or (before ∷ seen) (length seen) []) here → (k : ℕ) → k < length (seen ++ here ∷ [])
+    → BranchesOff (slice_index_or (before ∷ (seen ++ here ∷ [])) k []) (slice_index_or (seen ++ here ∷ []) k [])
+branches-push before [] here branches last zero below = last
+branches-push before [] here branches last (suc k) below = absurd (omega (arith, below))
+branches-push before (t ∷ seen) here branches last zero below = branches 0 (omega arith)
+branches-push before (t ∷ seen) here branches last (suc k) below =
+    branches-push t seen here (λ j inside. branches (suc j) (omega (arith, inside))) last k (omega (arith, below))
+
+last-push : (before : List Tick) (seen : List (List Tick)) (here : List Tick)
+    → slice_index_or (before ∷ (seen ++ here ∷ [])) (length (seen ++ here ∷ [])) [] ≡ here
+last-push before [] here = refl
+last-push before (t ∷ seen) here = last-push t seen here
 
 module _ (places : List Tick → ℕ) (trail : List Visit) (seen : List (List Tick)) (here : List Tick) (visit : Visit)
     (follows : Follows places trail seen here) (is : IsVisit here (places here) visit) where
-  moved : moved_to (led_to [] trail) visit ≡ here
-  moved = moved-here (led_to [] trail) here (places here) visit follows.branches is
-
-  pub trail-shapes : shapes_along [] (trail ++ visit ∷ []) ≡ map (λ ticks. shape_with ticks (places ticks)) (seen ++ here ∷ [])
-  trail-shapes =
-      along-push [] trail visit
-      ∙ ap (λ ticks. shapes_along [] trail ++ shape_with ticks visit.places ∷ []) moved
-      ∙ ap (λ n. shapes_along [] trail ++ shape_with here n ∷ []) is.left
-      ∙ shapes-push (λ ticks. shape_with ticks (places ticks)) (shapes_along [] trail) seen here follows.shapes
+  pub trail-visits : AreVisits places (seen ++ here ∷ []) (trail ++ visit ∷ [])
+  trail-visits = record {
+    each = zip-push (λ ticks visit. IsVisit ticks (places ticks) visit) seen trail here visit follows.visits.each is;
+    branches = branches-push [] seen here follows.visits.branches follows.branches;
+  }
 
   pub trail-next : (next : List Tick) → BranchesOff here next → Follows places (trail ++ visit ∷ []) (seen ++ here ∷ []) next
   trail-next next branches = record {
-    branches = rw (led-push [] trail visit, moved) branches;
-    shapes = trail-shapes;
+    visits = trail-visits;
+    branches = subst (λ (ticks : List Tick). BranchesOff ticks next) (sym (last-push [] seen here)) branches;
   }

@@ -1,6 +1,6 @@
 -- What a walk in order has seen.
 use Rattle.px_proof_walk.proofs.Every.{all-push, all-weaker}
-use Rattle.std.proofs.Common.{◌≡◌, ◌⊎◌, ℕ, ◌+◌, ◌<◌, List, [], ◌∷◌, ◌++◌, length, map, refl, ap, sym, ◌∙◌, arith, inl, inr, length-append}
+use Rattle.std.proofs.Common.{◌≡◌, ◌⊎◌, ℕ, ◌+◌, ◌<◌, List, [], ◌∷◌, ◌++◌, length, ◌∙◌, arith, inl, inr, length-append}
 use Rattle.std.specs.Prelude.{Contains}
 use Rattle.std.specs.List.{AllByRecursion}
 use Rattle.std.proofs.lemmas.List.Elements.{Contains-append_left, Contains-push}
@@ -15,10 +15,6 @@ ascending-push : (seen : List (List Tick)) (here : List Tick) → IsAscending se
     → IsAscending (seen ++ here ∷ [])
 ascending-push [] here up before = (tt, tt)
 ascending-push (t ∷ seen) here up before = (all-push (ShapeBefore t) seen here up.0 before.0, ascending-push seen here up.1 before.1)
-
-map-push : {X Y : Type 0} (f : X → Y) (xs : List X) (x : X) → map f (xs ++ x ∷ []) ≡ map f xs ++ f x ∷ []
-map-push f [] x = refl
-map-push f (y ∷ xs) x = ap (λ ys. f y ∷ ys) (map-push f xs x)
 
 module _ (P F : List Tick → Type 0) where
   pub seen-start : AreSeen P F [] []
@@ -117,8 +113,3 @@ module _ (P F : List Tick → Type 0) where
 
     pub length-seen : length (seen ++ here ∷ []) ≡ length seen + 1
     length-seen = length-append seen (here ∷ [])
-
--- the shapes that are kept are those of the lists that were seen
-pub shapes-push : (shape_of : List Tick → List Tick) (shapes seen : List (List Tick)) (here : List Tick) → shapes ≡ map shape_of seen
-    → shapes ++ shape_of here ∷ [] ≡ map shape_of (seen ++ here ∷ [])
-shapes-push shape_of shapes seen here are = ap (λ xs. xs ++ shape_of here ∷ []) are ∙ sym (map-push shape_of seen here)

@@ -36,9 +36,13 @@ open_count loose s formula vars ticks = left_of (open_after loose s vars (goals_
 abbrev pub IsFinished : Bool → Setting → List Atom → ℕ → List Tick → Type 0
 IsFinished loose s formula vars ticks = open_count loose s formula vars ticks ≡ 0
 
--- the shape has a tick for each open place too
+-- the ticks, and a tick for each open place
+abbrev pub shape_with : List Tick → ℕ → List Tick
+shape_with ticks places = ticks ++ replicate places Open
+
+-- the shape has a tick for each place that is open after the ticks
 abbrev pub shape_of : Bool → Setting → List Atom → ℕ → List Tick → List Tick
-shape_of loose s formula vars ticks = ticks ++ replicate (open_count loose s formula vars ticks) Open
+shape_of loose s formula vars ticks = shape_with ticks (open_count loose s formula vars ticks)
 
 -- possible, and some place is open
 abbrev pub IsGoingOn : Bool → Setting → List Atom → ℕ → List Tick → Type 0

@@ -2,7 +2,7 @@
 ghost use Rattle.std.specs.Prelude.{◌≡◌, ◌<◌, ◌≤◌, ◌+◌, ◌++◌, ◌∷◌, [], length, map, List, IfOk, IfSome, IfNone, OnOk};
 ghost use Rattle.px_proof.specs.declared.shape.Tick.{Tick};
 ghost use Rattle.px_proof_walk.specs.Search.{AreAll, LimitComes};
-ghost use Rattle.px_proof_walk.specs.Trail.{shape_with};
+ghost use Rattle.px_proof_walk.specs.Possible.{shape_with};
 
 use crate::steps::advance;
 use crate::visit::shapes_of;

@@ -27,7 +27,7 @@
 //! and `specs/Search` what is visited, and `specs/Trail` how visits give the lists and their shapes. Of `proofs/`: `Attempts`
 //! and `Objects` have what unification says of one more tick, `Outcomes` and `GapOutcomes` what the ends of a walk say of the
 //! definitions in `px_question`, `Values` and `Answering` which objects the bindings then give, and `Gathering` which gap lists.
-//! No public clause cites `specs/GapAtoms`, `specs/Possible`, `specs/Scope` and `specs/Values`.
+//! No public clause cites `specs/GapAtoms`, `specs/Scope` and `specs/Values`, and of `specs/Possible` these cite `shape_with` alone.
 #![tactic(auto)]
 
 mod end;

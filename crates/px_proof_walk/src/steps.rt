@@ -4,7 +4,8 @@ ghost use Rattle.px_proof.specs.declared.shape.Tick.{Tick};
 ghost use Rattle.px_proof_walk.specs.Ends.{MatchEnd};
 ghost use Rattle.px_proof_walk.specs.Order.{IsNext, NoneAfter};
 ghost use Rattle.px_proof_walk.specs.Search.{ComesFirst, NoneComes, LimitComes};
-ghost use Rattle.px_proof_walk.specs.Trail.{BranchesOff, shape_with};
+ghost use Rattle.px_proof_walk.specs.Possible.{shape_with};
+ghost use Rattle.px_proof_walk.specs.Trail.{BranchesOff};
 
 use crate::end::End;
 use crate::visit::shapes_of;

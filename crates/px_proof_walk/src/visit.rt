@@ -1,6 +1,8 @@
 //! What is kept of the lists that a walk visits, and the shapes that it gives back.
-ghost use Rattle.std.specs.Prelude.{◌≡◌, ◌++◌, [], IfOk, replicate};
-ghost use Rattle.px_proof_walk.specs.Trail.{moved_to, shape_with, shapes_along};
+ghost use Rattle.std.specs.Prelude.{◌≡◌, ℕ, List, map, IfOk};
+ghost use Rattle.px_proof.specs.declared.shape.Tick.{Tick as TickValue};
+ghost use Rattle.px_proof_walk.specs.Possible.{shape_with};
+ghost use Rattle.px_proof_walk.specs.Trail.{AreVisits, moved_to};
 
 use px_base::{NoMemory, push};
 use px_proof::{Shape, Tick};
@@ -42,7 +44,8 @@ fn shape_of(alloc: Global, ticks: &[Tick], places: usize) -> Result<Shape, NoMem
 
 /// Returns the shapes of the lists that were visited, from the empty list on.
 pub(crate) fn shapes_of(alloc: Global, trail: &[Visit]) -> Result<Vec<Shape>, NoMemory>
-    ensures { IfOk result (λ shapes. shapes.items ≡ shapes_along [] trail.now) }
+    ensures { IfOk result (λ shapes. (places : List TickValue → ℕ) (seen : List (List TickValue)) → AreVisits places seen trail.now
+        → shapes.items ≡ map (λ ticks. shape_with ticks (places ticks)) seen) }
 {
     let mut ticks = Vec::new(alloc);
     let mut shapes = Vec::new(alloc);

@@ -4,6 +4,7 @@ use Rattle.std.specs.Prelude.{All, reverse}
 use Rattle.std.specs.List.{AllByRecursion}
 use Rattle.std.proofs.lemmas.List.{length-replicate}
 use Rattle.std.proofs.lemmas.List.Elements.{All-take, All-drop}
+use Rattle.px_prover.specs.Limits.{most_gap_variables}
 use Rattle.px_ops.specs.Models.{IsModel}
 use Rattle.px_prover.specs.Building.{AreLeast, IsThere, built, fresh_sum}
 use Rattle.px_prover.specs.Standing.{ticks_in, IsProperQuestion, IsSound, IsStanding}
@@ -47,7 +48,7 @@ use Rattle.px_proof_walk.proofs.Values.{values-least, zero_at}
 
 -- a valid problem, a formula of it and a model are as the walk asks
 pub asked-of : (problem : Problem) (atoms formula : List Atom) (vars : ℕ) → IsValid problem → IsModel atoms
-    → All (IsAtomOf problem vars) formula → vars ≤ 4096 → (0 < vars → 0 < problem.objects)
+    → All (IsAtomOf problem vars) formula → vars ≤ most_gap_variables → (0 < vars → 0 < problem.objects)
     → IsProperQuestion (setting_of problem atoms) formula vars
 asked-of problem atoms formula vars valid model scope few some = record {
   setting = setting_of-is problem atoms valid model;

@@ -2,6 +2,7 @@
 use Rattle.std.proofs.Common.{◌≡◌, ℕ, ◌+◌, ◌≤◌, Bool, true, Some, List, [], ◌∷◌, ◌++◌, length, take, slice_get, refl, ap, sym, ◌∙◌, arith, length-append}
 use Rattle.std.specs.Prelude.{All}
 use Rattle.std.proofs.Math.Seq.{take-append_seam, take-length}
+use Rattle.px_terms.specs.Limits.{most_formula_variables}
 use Rattle.px_prover.specs.Tries.{IsReadyToTry, IsLonger}
 use Rattle.px_prover.proofs.Ready.{ready-next}
 use Rattle.px_proof.specs.Proves.{IsObjectOrParameter}
@@ -61,7 +62,8 @@ module _ (loose : Bool) (s : Setting) (formula : List Atom) (vars : ℕ) (ticks 
       }
 
   -- a closing by a clause
-  pub longer-stepped : (clause : Clause) (place : ℕ) → clause.vars ≤ 12 → ClosesByStep old new tick goal clause place true
+  pub longer-stepped : (clause : Clause) (place : ℕ) → clause.vars ≤ most_formula_variables
+      → ClosesByStep old new tick goal clause place true
       → IsLonger loose s formula vars ticks old tick new
   longer-stepped clause place few closes =
       let grown = closes.grown refl in

@@ -26,7 +26,7 @@ use Rattle.px_proof_walk.specs.Order.{IsAfter, TriesAfter}
 use Rattle.px_proof_walk.specs.Pending.{Goal, Pending, open_after, goals_of, Closing, closing_at, fresh_of}
 use Rattle.px_proof_walk.proofs.Lifting.{open_after-step}
 use Rattle.px_proof_walk.specs.Possible.{IsPossible, IsFinished, open_count, left_of}
-use Rattle.px_proof_walk.specs.Trail.{IsVisit, last_of}
+use Rattle.px_proof_walk.specs.Trail.{IsVisit, tick_or_none}
 use Rattle.px_proof_walk.proofs.Objects.{feasible-from_bindings}
 
 module _ (loose : Bool) (s : Setting) (formula : List Atom) (vars : ℕ) where
@@ -252,7 +252,7 @@ open-none arena at none = ap length (ap (goals_at arena) none ∙ goals_at-nothi
 -- the visit is that of the ticks of the choices
 pub visit-made : (loose : Bool) (s : Setting) (formula : List Atom) (vars : ℕ) (v : ProofStateValue) → IsStanding loose s formula vars v
     → (choices : List Choice) → reverse choices ≡ v.choices → (kept : ℕ) (last : Option Tick) (places : ℕ) → kept ≡ length choices - 1
-    → map (λ (c : Choice). c.tick) choices ≡ take (length choices - 1) (map (λ (c : Choice). c.tick) choices) ++ last_of last
+    → map (λ (c : Choice). c.tick) choices ≡ take (length choices - 1) (map (λ (c : Choice). c.tick) choices) ++ tick_or_none last
     → places ≡ length (goals_at v.goals v.first)
     → IsVisit (ticks_in v.choices) (open_count loose s formula vars (ticks_in v.choices))
     (record { kept = kept; last = last; places = places })
@@ -263,7 +263,7 @@ visit-made loose s formula vars v standing choices are kept last places kept_is 
     record {
       kept = kept_is ∙ ap (λ n. n - 1) count;
       ends =
-          subst (λ (ts : List Tick). ts ≡ take kept ts ++ last_of last) ticks_are
-          (ends ∙ ap (λ n. take n (map (λ (c : Choice). c.tick) choices) ++ last_of last) (sym kept_is));
+          subst (λ (ts : List Tick). ts ≡ take kept ts ++ tick_or_none last) ticks_are
+          (ends ∙ ap (λ n. take n (map (λ (c : Choice). c.tick) choices) ++ tick_or_none last) (sym kept_is));
       left = places_are ∙ sym (count-open loose s formula vars v standing);
     }

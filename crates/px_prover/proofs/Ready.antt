@@ -1,7 +1,9 @@
 -- What a sound state says of its first open goal.
-use Rattle.std.proofs.Common.{◌≡◌, ℕ, suc, ◌+◌, ◌-◌, ◌<◌, ◌≤◌, Bool, Some, List, ◌∷◌, length, get_or, slice_get, ap, ◌∙◌, arith}
+use Rattle.std.proofs.Common.{◌≡◌, ℕ, suc, ◌+◌, ◌-◌, ◌≤◌, Bool, Some, List, ◌∷◌, length, get_or, slice_get, ap, ◌∙◌, arith}
 use Rattle.std.specs.Prelude.{All}
 use Rattle.std.specs.List.{AllByRecursion}
+use Rattle.px_base.specs.Bounds.{u32_max}
+use Rattle.px_terms.specs.Limits.{most_formula_variables}
 use Rattle.px_prover.specs.Tries.{IsReadyToTry}
 use Rattle.px_prover.proofs.Scopes.{open-in, open-near, goals-near, lit-plain, lits-plain, IsNear}
 use Rattle.px_proof.specs.PlaceLaws.{All-got, slice_get-read}
@@ -67,7 +69,7 @@ module _ (loose : Bool) (s : Setting) (formula : List Atom) (vars : ℕ) (ticks 
   head-near : (k : ℕ) (gs : List Goal) (g : Goal) (rest : List Goal) → gs ≡ g ∷ rest → AllByRecursion (IsNear k) gs → IsNear k g
   head-near k gs g rest is all = (rw is at all).0
 
-  pub ready-near : length (path_at old.goals goal.above) < 4294967296
+  pub ready-near : length (path_at old.goals goal.above) ≤ u32_max
   ready-near =
       let near = head-near (0 + length ticks) (goals_at old.goals old.first) (goal_in old goal) (goals_at old.goals goal.next) ready-open
       (open-near loose s ticks vars 0 (goals_of s formula)
@@ -77,7 +79,8 @@ module _ (loose : Bool) (s : Setting) (formula : List Atom) (vars : ℕ) (ticks 
 
   fit-at : (number : ℕ) (clause : Clause) → slice_get s.axioms number ≡ Some clause → IsFit (variables_of old.changes) clause
   fit-at number clause is =
-      let few : clause.vars ≤ 12 = All-got (λ (c : Clause). c.vars ≤ 12) s.axioms number clause ready.asked.clauses is in
+      let few : clause.vars ≤ most_formula_variables =
+      All-got (λ (c : Clause). c.vars ≤ most_formula_variables) s.axioms number clause ready.asked.clauses is in
       record {
         few = few;
         small = omega (arith, few, ready.sound.few, ready.asked.few_variables, ready.room);

@@ -3,6 +3,7 @@ use Rattle.std.proofs.Common.{◌≡◌, ◌⊎◌, ℕ, zero, suc, ◌<◌, ◌
 use Rattle.std.specs.Prelude.{nat_eq}
 use Rattle.std.specs.List.{list_any}
 use Rattle.std.proofs.lemmas.Bool.{cases_lt}
+use Rattle.px_terms.specs.Limits.{most_formula_variables}
 use Rattle.px_prover.specs.Tries.{IsLonger, IsReadyToTry, IsSince, TriesAmong}
 use Rattle.px_prover.proofs.Attempted.{fact-stands, fact-nowhere, ancestor-stands, ancestor-nowhere}
 use Rattle.px_prover.proofs.AttemptedSteps.{axiom-first, axiom-nowhere}
@@ -295,8 +296,8 @@ module _ (loose : Bool) (s : Setting) (formula : List Atom) (vars : ℕ) (ticks 
         let first =
         axiom-first loose s formula vars ticks old new ready.sound.stands goal (goal_in old goal)
         (goals_at old.goals goal.next) open_is refl refl path_is refl from place h.0 h.3 in
-        let few : first.clause.vars ≤ 12 =
-        All-got (λ (c : Clause). c.vars ≤ 12) s.axioms h.0 first.clause ready.asked.clauses first.is_at in (
+        let few : first.clause.vars ≤ most_formula_variables =
+        All-got (λ (c : Clause). c.vars ≤ most_formula_variables) s.axioms h.0 first.clause ready.asked.clauses first.is_at in (
           Step h.0 first.p,
           step-since from place h.0 first.start first.p h.1 first.begins first.after,
           longer-stepped loose s formula vars ticks old new goal ready

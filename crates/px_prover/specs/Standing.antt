@@ -1,13 +1,16 @@
 -- What holds of the prover's state at each moment of a walk.
 use Rattle.std.specs.Prelude.{ℕ, ◌+◌, ◌*◌, ◌<◌, ◌≤◌, Bool, List, [], ◌∷◌, ◌++◌, length, take, All}
 use Rattle.std.specs.List.{AllByRecursion}
+use Rattle.px_base.specs.Bounds.{u32_max}
 use Rattle.px_proof.specs.declared.shape.Tick.{Tick}
 use Rattle.px_question.specs.Settings.{Setting}
 use Rattle.px_proof_state.specs.Arena.{AreOlder}
 use Rattle.px_proof_state.specs.States.{ProofStateValue, Stands}
 use Rattle.px_proof_state.specs.declared.open.Choice.{Choice}
 use Rattle.px_proof_state.specs.declared.open.OpenGoal.{OpenGoal}
+use Rattle.px_prover.specs.Limits.{most_gap_variables}
 use Rattle.px_terms.specs.AtomSets.{IsAtomSet}
+use Rattle.px_terms.specs.Limits.{most_formula_variables, most_shapes}
 use Rattle.px_terms.specs.declared.atom.Atom.{Atom}
 use Rattle.px_terms.specs.declared.clause.Clause.{Clause}
 use Rattle.px_unify.specs.declared.change.Change.{Change}
@@ -26,11 +29,11 @@ pub record IsProperQuestion (s : Setting) (formula : List Atom) (vars : ℕ) : T
   pub setting : IsSetting s
   pub scope : AllByRecursion (IsAtomIn s.objects vars) formula
   pub some_object : 0 < vars → 0 < s.objects
-  pub clauses : All (λ (clause : Clause). clause.vars ≤ 12) s.axioms
+  pub clauses : All (λ (clause : Clause). clause.vars ≤ most_formula_variables) s.axioms
   pub ascending : IsAtomSet s.facts
-  pub short : length s.facts < 4294967296
-  pub few_variables : vars ≤ 4096
-  pub few_ticks : s.limit ≤ 70000
+  pub short : length s.facts ≤ u32_max
+  pub few_variables : vars ≤ most_gap_variables
+  pub few_ticks : s.limit ≤ most_shapes
 
 -- the state is that after its ticks, which close places, by facts over the objects; its goals name older ones; its bindings can be met
 pub record IsSound (loose : Bool) (s : Setting) (formula : List Atom) (vars : ℕ) (ticks : List Tick) (v : ProofStateValue) : Type 0 where
@@ -40,7 +43,7 @@ pub record IsSound (loose : Bool) (s : Setting) (formula : List Atom) (vars : �
   pub arena : AreOlder v.goals
   pub within : v.first ≤ length v.goals
   pub solvable : HasSolutions v.changes
-  pub few : variables_of v.changes ≤ vars + 12 * length ticks
+  pub few : variables_of v.changes ≤ vars + most_formula_variables * length ticks
 
 -- it is sound, and so is each state before, which the marks of the choices give back
 abbrev pub WasSound : Bool → Setting → List Atom → ℕ → List Choice → List Change → List OpenGoal → ℕ → Type 0

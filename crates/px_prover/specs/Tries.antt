@@ -9,6 +9,7 @@ use Rattle.px_question.specs.Settings.{Setting}
 use Rattle.px_proof_state.specs.Matches.{choice_by}
 use Rattle.px_proof_state.specs.States.{ProofStateValue}
 use Rattle.px_proof_state.specs.declared.open.OpenGoal.{OpenGoal}
+use Rattle.px_terms.specs.Limits.{most_shapes}
 use Rattle.px_terms.specs.declared.atom.Atom.{Atom}
 use Rattle.px_proof_walk.specs.Order.{IsAfter}
 use Rattle.px_proof_walk.specs.Possible.{IsPossible}
@@ -20,7 +21,7 @@ pub record IsReadyToTry (loose : Bool) (s : Setting) (formula : List Atom) (vars
   pub sound : IsSound loose s formula vars ticks old
   pub some : 0 < old.first
   pub at : slice_get old.goals (old.first - 1) ≡ Some goal
-  pub room : length ticks < 70000
+  pub room : length ticks < most_shapes
 
 -- the tick is the given one, or stands after it
 abbrev pub IsSince : Tick → Tick → Type 0

@@ -1,5 +1,6 @@
 //! The first proof of a formula.
 ghost use Rattle.std.specs.Prelude.{◌≡◌, ◌≤◌, ◌<◌, List, map as map_list, IfOk, All, false};
+ghost use Rattle.px_terms.specs.Limits.{most_formula_variables};
 ghost use Rattle.px_proof.specs.Derivation.{derivations};
 ghost use Rattle.px_proof.specs.ProofTerm.{derivation_of};
 ghost use Rattle.px_proof.specs.Range.{IsDerivationOf};
@@ -63,7 +64,7 @@ pub fn prove(
 ) -> Result<Answer, ProveErr>
     requires problem { IsValid problem.now }
     requires formula { All (IsAtomOf problem.now vars) formula.now }
-    requires few_variables { vars ≤ 12 }
+    requires few_variables { vars ≤ most_formula_variables }
     requires objects { 0 < vars → 0 < problem.now.objects }
     ensures first { IfOk result (λ answer. IsFirst (setting_of problem.now model.now.atoms) formula.now vars answer.objects
         (derivations (map_list derivation_of answer.proofs))) }

@@ -6,7 +6,7 @@
 //! there is a variable, the problem has an object. They ask for objects that make each atom of the formula provable: by a
 //! fact of the model, or by linear resolution with ancestors from the problem's axioms, within the problem's height.
 //!
-//! [`prove`] is for at most twelve variables. It returns one of these.
+//! [`prove`] is for at most twelve variables (`MOST_FORMULA_VARIABLES` of `px_terms`). It returns one of these.
 //!
 //! - [`Answer`]: the first finished list of proofs, one for each atom, with the objects for the variables. Lists are
 //!   ordered by their shapes: at the first place where they differ, a fact comes before an ancestor and an ancestor
@@ -20,7 +20,7 @@
 //!   all where no list is finished. The answer has the first of them, as many as the limit.
 //! - `NoMemory`, of which nothing more is said.
 //!
-//! [`gap_lists`] is for at most 4,096 variables. Here an atom may also be left as a gap, if some operator of the problem
+//! [`gap_lists`] is for at most [`MOST_GAP_VARIABLES`] variables. Here an atom may also be left as a gap, if some operator of the problem
 //! adds its predicate; it need not be unprovable. A denied atom is never a gap, and one under an axiom may be. It returns
 //! one of these.
 //!
@@ -50,7 +50,8 @@
 //! each gathers a pattern for each list that one more closing finishes; equal patterns are kept once. `gap_lists` puts all
 //! objects in the place of their variables.
 //!
-//! Of the files of `specs/`, public clauses cite `Outcomes`, `PatternLists` and `Patterns`; only private functions cite the others.
+//! Of the files of `specs/`, public clauses cite `Limits`, `Outcomes`, `PatternLists` and `Patterns`; only private functions cite the
+//! others.
 #![tactic(auto)]
 
 mod attempts;
@@ -59,6 +60,7 @@ mod first;
 mod gap_question;
 mod gathering;
 mod laws;
+mod limits;
 mod listing;
 mod outcome;
 mod pattern;
@@ -69,6 +71,7 @@ mod walking;
 
 pub use first::prove;
 pub use laws::patterns_are_lists;
+pub use limits::MOST_GAP_VARIABLES;
 pub use listing::gap_lists;
 pub use outcome::{Answer, GapErr, ProveErr};
 pub use pattern::GapPattern;

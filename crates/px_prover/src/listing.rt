@@ -1,6 +1,7 @@
 //! The gap lists of a formula: those that its patterns stand for.
 ghost use Rattle.std.specs.Prelude.{◌≡◌, ◌≤◌, ◌<◌, ◌↔◌, ◌++◌, ℕ, List, IfOk, All, Contains, length, map as map_list};
 ghost use Rattle.std.specs.List.Sorted.{IsStrictlySortedBy};
+ghost use Rattle.px_prover.specs.Limits.{most_gap_variables};
 ghost use Rattle.px_question.specs.Gaps.{AreGapLists, gap_list_cmp};
 ghost use Rattle.px_question.specs.declared.gap_list.GapList.{GapList as GapListValue};
 ghost use Rattle.px_question.specs.Limits.{AreFewGapShapes, IsGapLimited};
@@ -135,7 +136,7 @@ pub fn gap_lists(
 ) -> Result<Vec<GapList>, GapErr>
     requires problem { IsValid problem.now }
     requires formula { All (IsAtomOf problem.now vars) formula.now }
-    requires few_variables { vars ≤ 4096 }
+    requires few_variables { vars ≤ most_gap_variables }
     requires some_object { 0 < vars → 0 < problem.now.objects }
     ensures lists { IfOk result (λ lists. AreGapLists (setting_of problem.now model.now.atoms) formula.now vars lists.items) }
     ensures few { IfOk result (λ lists. AreFewGapShapes (setting_of problem.now model.now.atoms) formula.now vars) }

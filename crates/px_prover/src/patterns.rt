@@ -1,5 +1,6 @@
 //! Gap patterns: gap lists with variables, one for each finished list of loose gap proofs.
 ghost use Rattle.std.specs.Prelude.{◌≡◌, ◌↔◌, ◌<◌, ◌≤◌, true, [], IfOk, length, All, Contains};
+ghost use Rattle.px_prover.specs.Limits.{most_gap_variables};
 ghost use Rattle.px_question.specs.Limits.{AreFewGapShapes, IsGapLimited};
 ghost use Rattle.px_question.specs.Settings.{setting_of};
 ghost use Rattle.px_terms.specs.Language.{IsVariableBelow};
@@ -200,7 +201,7 @@ pub fn gap_patterns(
 ) -> Result<Vec<GapPattern>, GapErr>
     requires problem { IsValid problem.now }
     requires formula { All (IsAtomOf problem.now vars) formula.now }
-    requires few_variables { vars ≤ 4096 }
+    requires few_variables { vars ≤ most_gap_variables }
     requires some_object { 0 < vars → 0 < problem.now.objects }
     ensures patterns { IfOk result (λ patterns. AreGapPatterns (setting_of problem.now model.now.atoms) formula.now vars patterns.items) }
     ensures few { IfOk result (λ patterns. AreFewGapShapes (setting_of problem.now model.now.atoms) formula.now vars) }

@@ -2,7 +2,7 @@
 ghost use Rattle.std.specs.Prelude.{◌≡◌, ◌≤◌, ◌-◌, ◌++◌, take, length, map as map_list};
 ghost use Rattle.px_proof_state.specs.Arena.{goals_at, AreOlder};
 ghost use Rattle.px_proof_state.specs.declared.open.Choice.{Choice as ChoiceValue};
-ghost use Rattle.px_proof_walk.specs.Trail.{last_of};
+ghost use Rattle.px_proof_walk.specs.Trail.{tick_or_none};
 
 use crate::attempts::try_later;
 use crate::question::ProofQuestion;
@@ -29,7 +29,7 @@ fn open_places(state: &ProofState) -> usize
 /// Returns the tick of the last choice.
 fn last_tick(choices: &[Choice]) -> Option<Tick>
     ensures { let ticks = map_list (λ (c : ChoiceValue). c.tick) choices.now in
-        ticks ≡ take (length choices.now - 1) ticks ++ last_of result }
+        ticks ≡ take (length choices.now - 1) ticks ++ tick_or_none result }
 {
     match choices.len().checked_sub(1) {
         Some(last) => Some(choices[last].tick),

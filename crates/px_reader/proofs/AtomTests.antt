@@ -1,7 +1,8 @@
 -- Tests of the code's atoms, as tests of a line's.
 use Rattle.px_reader.proofs.Common.{◌≡◌, ℕ, Bool, List, [], ◌∷◌, ◌++◌, map, length, refl, sym, ap, ◌∙◌, ◌||◌, ◌==◌, not, slice_index, list_any, flat_map, append-nil, length-map, list_any-append, has_name, has_wrong_arity, is_known_argument, Declared, number_in, line_atoms, arguments_of, wanted_by_edit, Line, list_any-map, list_any_flat, position-map, some-position, argument_view, signed_view, room_edit_view, binding_view, lacks, lacks_argument, WrittenBinding, list_all-map, WrittenAtom}
 use Rattle.px_script.specs.Items as items
-use Rattle.px_reader.specs.declared.statement.WrittenRoomEdit.{WrittenRoomEdit}
+use Rattle.px_script.specs.declared.kinds.Named.TheVariants.{Object as an_object}
+use Rattle.px_lines.specs.declared.items.WrittenRoomEdit.{WrittenRoomEdit}
 
 -- a test of all, of items seen otherwise
 pub ruleset all_maps = (list_all-map)
@@ -62,8 +63,10 @@ places-lack d edits = sym (list_any-map (λ e. list_any (lacks d) (wanted_by_edi
     ∙ sym (list_any_flat (lacks d) wanted_by_edit (map room_edit_view edits))
     ∙ ap (list_any (lacks d)) (sym (append-nil (flat_map wanted_by_edit (map room_edit_view edits))))
 
-pub objects-lack : (d : Declared) (bindings : List WrittenBinding) → list_any (λ b. lacks d (items.an_object, b.object.now)) bindings
-    ≡ list_any (lacks d) (map (λ b. (items.an_object, b.object)) (map binding_view bindings) ++ [])
-objects-lack d bindings = sym (list_any-map (λ (b : items.Binding). lacks d (items.an_object, b.object)) binding_view bindings)
-    ∙ sym (list_any-map (lacks d) (λ (b : items.Binding). (items.an_object, b.object)) (map binding_view bindings))
-    ∙ ap (list_any (lacks d)) (sym (append-nil (map (λ (b : items.Binding). (items.an_object, b.object)) (map binding_view bindings))))
+pub objects-lack : (d : Declared) (bindings : List WrittenBinding) → list_any (λ b. lacks d (an_object, b.object.now)) bindings
+    ≡ list_any (lacks d) (map (λ b. (an_object, b.object)) (map binding_view bindings) ++ [])
+objects-lack d bindings = sym (list_any-map (λ (b : items.Binding). lacks d (an_object, b.object)) binding_view bindings)
+    ∙ sym (list_any-map (lacks d) (λ (b : items.Binding). (an_object, b.object)) (map binding_view bindings))
+    ∙ ap (list_any (lacks d)) (sym (append-nil (map (λ (b : items.Binding). (an_object, b.object)) (map binding_view bindings))))
+
+pub ruleset names_lack = (places-lack, objects-lack)

@@ -1,12 +1,12 @@
 -- What a script is about, made of what its lines have declared.
 use Rattle.px_base.specs.Bounds.{u32_max}
-use Rattle.px_reader.proofs.Common.{◌≡◌, ◌<◌, ◌≤◌, ◌+◌, ℕ, List, map, length, sym, ap, ◌∙◌, subst, arith, IfSome, Option, None, Some, option_map, Atom, Problem, content_of, facts_of, own_problem, problem_of, Declared, greatest, command_view, script_of, Thing, most_objects, IsBuilding, first_state, rendering, standings, IsInRange, IsBuildingOf}
+use Rattle.px_reader.proofs.Common.{◌≡◌, ◌<◌, ◌≤◌, ◌+◌, ℕ, List, length, sym, ap, ◌∙◌, subst, arith, IfSome, Option, None, Some, option_map, Atom, Problem, content_of, facts_of, own_problem, problem_of, Declared, greatest, script_of, Thing, most_objects, IsBuilding, first_state, rendering, standings, IsInRange, IsBuildingOf}
 use Rattle.px_ops.specs.ModelValue.{ModelValue}
 use Rattle.px_rooms.specs.declared.building.Building.{Building}
 use Rattle.px_rooms.specs.Domain.{building_problem}
 use Rattle.px_rooms.proofs.Starting.{objects_are}
 use Rattle.px_terms.specs.Validity.{IsValid}
-use Rattle.px_reader.specs.declared.command.Command.{Command}
+use Rattle.px_script.specs.declared.command.Command.{Command}
 
 abbrev pub things_of : Option Building → Option (List Thing)
 things_of b = option_map (λ building. building.things) b
@@ -43,7 +43,7 @@ module _ (d : Declared) (r : IsInRange (content_of d)) (b : Option Building) (is
 module _ (d : Declared) (r : IsInRange (content_of d)) (own problem : Problem) (facts : ModelValue) (b : Option Building)
     (commands : List Command) (own_is : own ≡ own_problem d) (is : things_of b ≡ d.things)
     (problem_is : problem ≡ problem_of own (things_of b)) (facts_are : facts.atoms ≡ facts_of d.facts (things_of b))
-    (commands_are : map command_view commands ≡ d.commands) where
+    (commands_are : commands ≡ d.commands) where
   -- the parts make the content
   pub content_is : script_of d.version d.names problem facts b commands ≡ content_of d
   content_is =

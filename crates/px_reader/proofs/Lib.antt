@@ -1,14 +1,10 @@
 -- The files of lemmas.
 pub mod Common
--- characters and tokens
-pub mod Texts
-pub mod Numbers
-pub mod LineFronts
--- lists of tokens
-pub mod Walks
-pub mod Parameters
 -- tests of a line
 pub mod AtomTests
+pub mod LineTests
+pub mod TableVariables
+pub mod Times
 pub mod Variables
 pub mod Twice
 pub mod Facts

@@ -1,8 +1,13 @@
 -- Lines without what ends them, and what reading a line shows.
-use Rattle.px_reader.proofs.Common.{AllByRecursion, IsNameLexeme, all_scalars, spelling, subst, ◌≡◌, ◌≢◌, ℕ, ◌+◌, ◌-◌, ◌<◌, true, List, [], ◌∷◌, ◌++◌, take, drop, length, get_or, refl, sym, ap, ◌∙◌, inl, inr, arith, Option, None, Some, Result, Ok, Err, IfOk, slice_index, ◌==◌, bytes_eq, eqb-true, take-append-drop, take_more, take_all, bytes_eq-Decides, Lexeme, Lexes, mark, without_mark, without_return, Statement, line_of, Forms, begins_with_word, is_formed, Declared, coded, Stage, Fails, parse-sound, parse-complete, by_test, parse, HasFault, LineEnds, HasCharAt, after_line, MatchOption}
+use Rattle.px_reader.proofs.Common.{AllByRecursion, IsNameLexeme, all_scalars, spelling, subst, ◌≡◌, ◌≢◌, ℕ, ◌+◌, ◌-◌, ◌<◌, Bool, true, List, [], ◌∷◌, ◌++◌, take, drop, length, get_or, refl, sym, ap, ◌∙◌, inl, inr, arith, Option, None, Some, Result, Ok, Err, IfOk, slice_index, ◌==◌, bytes_eq, eqb-true, take-append-drop, take_more, take_all, bytes_eq-Decides, Lexeme, Lexes, mark, without_mark, without_return, Statement, Line, line_of, Forms, begins_with_word, is_formed, Declared, coded, Stage, Fails, parse-sound, parse-complete, by_test, parse, HasFault, LineEnds, HasCharAt, after_line, MatchOption}
 use Rattle.std.specs.Prelude.{encode_utf8}
 use Rattle.px_base.specs.declared.no_memory.NoMemory.{NoMemory}
 use Rattle.px_reader.specs.declared.fault.LineFault.{LineFault}
+use Rattle.std.specs.Option.{option_and_then}
+use Rattle.px_script.proofs.Forms.{there}
+use Rattle.px_script.proofs.ReadRows.{IsLineOf, formed-sound}
+use Rattle.px_script.proofs.Rows.{formed_line, statement_of}
+use Rattle.px_script.specs.Declarations.{has_building}
 use Rattle.px_reader.proofs.Fresh.{lexemes-named}
 use lib.Utf8.{encode}
 
@@ -26,6 +31,21 @@ unreturned [] none = refl
 unreturned (b ∷ bs) none = by_test (slice_index (b ∷ bs) (length (b ∷ bs) - 1) == 13)
     (λ e. absurd (none (take (length (b ∷ bs) - 1) (b ∷ bs))
     (last-of (b ∷ bs) (omega arith) ∙ ap (λ t. take (length (b ∷ bs) - 1) (b ∷ bs) ++ t ∷ []) (eqb-true _ 13 e)))) (λ e. rw e refl)
+
+-- A line in its form was read of the lexemes, or none was, and the statement that it is.
+module _ (d : Declared) (lexemes : List Lexeme) where
+  pub parsed : (b : Bool) (l : Line) (found : Option Statement) → has_building d ≡ b → Some l ≡ formed_line d lexemes
+      → found ≡ statement_of b l → found ≡ parse d lexemes
+  parsed b l found building is made = made ∙ ap (λ t. statement_of t l) (sym building)
+      ∙ ap (option_and_then (statement_of (has_building d))) is
+
+  pub unparsed : None ≡ formed_line d lexemes → None ≡ parse d lexemes
+  unparsed is = ap (option_and_then (statement_of (has_building d))) is
+
+  -- the line is the statement's
+  pub same-line : (l : Line) (s : Statement) → Some l ≡ formed_line d lexemes → Some s ≡ statement_of (has_building d) l → line_of s ≡ l
+  same-line l s is made = (there (λ l. IsLineOf (has_building d) lexemes l × (is_formed d l ≡ true)) (formed_line d lexemes) l
+      (formed-sound d lexemes) (sym is)).0.1 s (sym made)
 
 -- A line has these lexemes, which the parser was given.
 module _ (stage : Stage) (d : Declared) (line : List ℕ) where

@@ -2,9 +2,9 @@
 use Rattle.px_reader.proofs.Common.{◌≡◌, ℕ, ◌+◌, ◌≤◌, List, [], ◌∷◌, map, take, length, refl, sym, ap, ◌∙◌, subst, inr, arith, Some, Result, Ok, Err, IfOk, IfErr, count_by, ◌==◌, IsErrAnd, slice_split, IsUtf8, bytes_eq, chars, length-map, length-drop, map-map, count_by-le-length, ScriptValue, Declared, OpenBlock, Refusal, mark, without_mark, without_return, lines_of, Stage, PassAll, FailsIn, IsScript, FirstFault, ReadsOneWay, by_test, of-stage, characters_of, LinesFail, HasFirstFault, IsRead, IsLineRefused, content, refusal_told, Bor, IsOfStage}
 use Rattle.std.proofs.lemmas.List.Splits.{length-slice_split}
 use Rattle.px_script.proofs.Law.{reads-one-way}
-use Rattle.px_reader.specs.declared.script.Script.{Script}
-use Rattle.px_reader.specs.declared.script.ScriptErr.{ScriptErr}
-use Rattle.px_reader.specs.declared.script.ScriptErr.TheVariants.{Refused, NoMemory}
+use Rattle.px_script.specs.declared.script.Script.{Script}
+use Rattle.px_reader.specs.declared.refused.ScriptErr.{ScriptErr}
+use Rattle.px_reader.specs.declared.refused.ScriptErr.TheVariants.{Refused, NoMemory}
 
 pub text-fails : (stage : Stage) (text : List ℕ) (error : ScriptErr) → IsUtf8 text → LinesFail stage (lines_of text) error
     → HasFirstFault stage text error

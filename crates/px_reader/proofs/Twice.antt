@@ -1,5 +1,5 @@
 -- Names, and numbers, of which one stands twice: there are fewer different ones than all.
-use Rattle.px_reader.proofs.Common.{◌≡◌, ℕ, suc, Bool, true, false, List, [], ◌∷◌, ◌++◌, map, length, refl, sym, ap, ◌∙◌, arith, ◌==◌, ◌||◌, nat_lt, cond, list_any, filter, nat_cmp, is_eq, ordering_then, Ordering, Less, Equal, Greater, nat_tests, list_any-append, length-map, is_eq-slice_cmp, bytes_eq, bytes_eq-Decides, has_name, repeats, repeats-cons, stands_twice, binds_twice, binding_view, by_test, WrittenBinding, Bor, text_cmp, text_of, both_answers, eq_by_cmp, Binding, list_any_none, list_any-map}
+use Rattle.px_reader.proofs.Common.{◌≡◌, ℕ, suc, Bool, true, false, List, [], ◌∷◌, ◌++◌, map, length, refl, sym, ap, ◌∙◌, arith, ◌==◌, ◌||◌, nat_lt, cond, list_any, filter, nat_cmp, is_eq, ordering_then, Ordering, Less, Equal, Greater, nat_tests, list_any-append, length-map, is_eq-slice_cmp, bytes_eq, bytes_eq-Decides, has_name, repeats, repeats-cons, stands_twice, binds_twice, binding_view, by_test, WrittenBinding, Bor, text_cmp, text_of, both_answers, eq_by_cmp, Binding, list_any_none}
 pub use Rattle.std.proofs.Math.Bool.{or-false as or_false}
 use Rattle.std.specs.BTreeSet.{BTreeSet, IsFromIterResult, btree_set_len}
 use Rattle.std.specs.Cmp.{IsTotalOrder}
@@ -66,9 +66,11 @@ pub names-repeat : (others : List (List ℕ)) (names : List (Bor (List ℕ))) (d
 names-repeat others names different are new = ap (λ n. nat_lt n (length names)) (btree_set_len-from_list texts_total names different are)
     ∙ sym (text-fewer others names ∙ rw new refl)
 
--- one name repeats where it is one of the others, among the groups of a line too
-pub group_repeats : (others : List (List ℕ)) (n : List ℕ) (b : Bool) → ((repeats others (n ∷ []) || false) || b) ≡ (has_name n others || b)
-group_repeats others n b = ap (λ t. t || b) (or_false (repeats others (n ∷ [])) ∙ repeats-cons others n [] ∙ or_false (has_name n others))
+-- one name repeats where it is one of the others
+pub one-name : (others : List (List ℕ)) (n : List ℕ) → (repeats others (n ∷ []) || false) ≡ has_name n others
+one-name others n = or_false (repeats others (n ∷ [])) ∙ repeats-cons others n [] ∙ or_false (has_name n others)
+
+pub ruleset one_group = (one-name)
 
 -- numbers, each as a name of one character
 
@@ -119,5 +121,3 @@ binds-fewer bindings different are =
     ∙ binds-repeats bindings
 
 pub ruleset fewer_different = (binds-fewer, names-taken, names-repeat)
-
-pub ruleset long_names = (or_false, list_any-map)

@@ -1,4 +1,5 @@
 -- The different variables of atoms.
+use Rattle.px_terms.specs.Limits.{most_formula_variables}
 use Rattle.px_reader.proofs.Common.{◌≡◌, ℕ, ◌<◌, ◌≤◌, Bool, true, false, List, [], ◌∷◌, ◌++◌, map, take, length, refl, sym, ap, ◌∙◌, append_assoc, arith, fold, nat_lt, if◌then◌else◌, append-nil, map-append, take_all, take-append-drop, drop, nat_tests, has_name, with_variable, variable_names_of, Argument, open_variable, signed_view, WrittenAtom, length-append, flat_map-append, fold-append, length-map}
 use Rattle.px_reader.proofs.AtomTests.{arguments}
 
@@ -26,10 +27,10 @@ pub all-seen : (atoms : List WrittenAtom) (i : ℕ) → length atoms ≤ i
     → fold with_variable [] (arguments (map signed_view (take i atoms))) ≡ variable_names_of (map signed_view atoms)
 all-seen atoms i past = ap (λ xs. fold with_variable [] (arguments (map signed_view xs))) (take_all i atoms past)
 
--- where there are more than twelve in front, there are more than twelve
+-- where there are more than the most variables in front, there are more than these
 pub many-seen : (atoms : List WrittenAtom) (i : ℕ) (seen : List (List ℕ))
-    → seen ≡ fold with_variable [] (arguments (map signed_view (take i atoms))) → 12 < length seen
-    → true ≡ nat_lt 12 (length (variable_names_of (map signed_view atoms)))
+    → seen ≡ fold with_variable [] (arguments (map signed_view (take i atoms))) → most_formula_variables < length seen
+    → true ≡ nat_lt most_formula_variables (length (variable_names_of (map signed_view atoms)))
 many-seen atoms i seen is many = let rest = arguments (map signed_view (drop i atoms)) in
     let parts : arguments (map signed_view atoms) ≡ arguments (map signed_view (take i atoms)) ++ rest =
     ap (λ xs. arguments (map signed_view xs)) (sym (take-append-drop i atoms))

@@ -3,21 +3,24 @@ use Rattle.px_script.specs.Declarations.{Declared, OpenOperator, parameters_here
 use Rattle.px_script.specs.Stages.{Stage}
 use Rattle.std.specs.List.{list_any}
 use Rattle.std.specs.Option.{option_map}
-use Rattle.std.specs.Prelude.{◌≡◌, ◌≤◌, ◌++◌, ℕ, Bool, true, false, List, [], ◌∷◌, All, length, map, not, Option}
+use Rattle.std.specs.Prelude.{◌≡◌, ◌≤◌, ◌++◌, ◌&&◌, ℕ, Bool, true, false, List, [], ◌∷◌, All, length, map, not, Option}
+use Rattle.px_terms.specs.Limits.{most_arguments, most_parameters}
 use Rattle.px_names.specs.Lists.{AreDistinct, NameLists, has_name, limit_of, names_of}
 use Rattle.px_names.specs.Name.{IsName}
 use Rattle.px_names.specs.declared.kind.Kind.{Kind}
 use Rattle.px_names.specs.declared.kind.Kind.TheVariants as kind
-use Rattle.px_script.specs.Causes.{has_long_name, is_known_argument, takes}
+use Rattle.px_script.specs.Causes.{has_long_name, is_known_argument, is_long, is_numbered, repeats, taken_here, takes}
 use Rattle.px_script.specs.Lexemes.{Lexeme, name}
-use Rattle.px_script.specs.Limits.{name_bytes, number_of}
+use Rattle.px_script.specs.Limits.{number_of}
+use Rattle.px_script.specs.declared.limits.Limit.TheVariants.{NameBytes as name_bytes}
 use Rattle.px_script.specs.Faults.{Refusal, causes_with, first_of, grown, own_limits, passed}
-use Rattle.px_script.specs.Statements.{Statement, Manner, line_of, pre, delete, add, fact}
-use Rattle.px_script.specs.Items as spec
+use Rattle.px_script.specs.Statements.{Statement, line_of, pre, delete, add, fact}
+use Rattle.px_script.specs.declared.kinds.Manner.{Manner}
+use Rattle.px_script.specs.declared.kinds.Named.{Named}
 use Rattle.px_reader.specs.FaultViews.{limit_refusal}
-use Rattle.px_reader.specs.StatementViews.{argument_view}
-use Rattle.px_reader.specs.declared.fault.Limit.{Limit}
-use Rattle.px_reader.specs.declared.statement.SignedAtom.{SignedAtom}
+use Rattle.px_lines.specs.ItemViews.{argument_view}
+use Rattle.px_reader.specs.declared.fault.PassedLimit.{PassedLimit}
+use Rattle.px_lines.specs.declared.items.SignedAtom.{SignedAtom}
 
 -- a lexeme that has to be a name is one
 abbrev pub IsNameLexeme : Lexeme → Type 0
@@ -40,10 +43,6 @@ pub record AreOfKinds (names : NameLists) : Type 0 where
 abbrev pub IsFresh : Kind → NameLists → List ℕ → Type 0
 IsFresh kind names n = IsName n × AreOfKind kind (names_of kind names ++ n ∷ [])
 
--- an atom with a variable
-abbrev pub atom_varies : SignedAtom → Bool
-atom_varies atom = list_any (λ a. spec.is_variable (argument_view a)) atom.arguments.items
-
 -- some argument of the atom isn't declared
 abbrev pub lacks_argument : Declared → SignedAtom → Bool
 lacks_argument d atom = list_any (λ a. not (is_known_argument d (argument_view a))) atom.arguments.items
@@ -53,8 +52,16 @@ abbrev pub refuses : Declared → Manner → SignedAtom → Bool
 refuses d manner atom = list_any (λ a. not (takes d manner (argument_view a))) atom.arguments.items
 
 -- a name that a line wants isn't declared in its kind
-abbrev pub lacks : Declared → spec.Named × List ℕ → Bool
+abbrev pub lacks : Declared → Named × List ℕ → Bool
 lacks d wanted = not (has_name wanted.1 (names_here d wanted.0))
+
+-- of a group of names that a line declares one is declared already, or stands twice
+abbrev pub group_repeats : Declared → Named × List (List ℕ) → Bool
+group_repeats d group = repeats (taken_here d group.0) group.1
+
+-- of a group of names that a line declares one is too long; it is so in every version
+abbrev pub group_is_long : Named × List (List ℕ) → Bool
+group_is_long group = is_numbered group.0 && list_any (is_long 1) group.1
 
 -- how many atoms a list of the open operator has with those of the line
 abbrev pub grown_by : Option OpenOperator → Statement → ℕ
@@ -63,10 +70,11 @@ grown_by o (delete atoms) = grown o (λ schema. length schema.del) atoms
 grown_by o (add atoms) = grown o (λ schema. length schema.add) atoms
 grown_by o _ = 0
 
--- the atoms can be given by numbers: none has more than six arguments, and the open operator has no more than eight parameters
+-- the atoms can be given by numbers: none has more arguments than an atom may have, and the open operator no more parameters than one
+-- may have
 pub record AreReadable (d : Declared) (atoms : List SignedAtom) : Type 0 where
-  pub few : length (parameters_here d) ≤ 8
-  pub sizes : All (λ atom. length atom.arguments.items ≤ 6) atoms
+  pub few : length (parameters_here d) ≤ most_parameters
+  pub sizes : All (λ atom. length atom.arguments.items ≤ most_arguments) atoms
 
 -- a line of facts, which are counted once they are added
 abbrev pub is_fact : Statement → Bool
@@ -86,5 +94,5 @@ abbrev pub early_fault : Stage → Declared → Statement → Option Refusal
 early_fault stage d s = first_of (causes_with stage d s (early_limits d s))
 
 -- the first of these limits that is passed, if any is
-abbrev pub IsFirstLimit : Option Limit → List (Bool × ℕ) → Type 0
+abbrev pub IsFirstLimit : Option PassedLimit → List (Bool × ℕ) → Type 0
 IsFirstLimit found tests = option_map limit_refusal found ≡ first_of (map passed tests)

@@ -10,13 +10,13 @@ use Rattle.px_script.specs.Faults.{Refusal, fault_at}
 use Rattle.px_script.specs.Lines.{without_return}
 use Rattle.px_script.specs.Scripts.{Passes, Fails, FailsIn, FirstFault}
 use Rattle.px_reader.specs.declared.fault.LineFault.{LineFault}
-use Rattle.px_reader.specs.declared.script.Refused.{Refused}
-use Rattle.px_reader.specs.declared.script.ScriptErr.{ScriptErr}
-use Rattle.px_reader.specs.declared.script.ScriptErr.TheVariants as script
-use Rattle.px_reader.specs.declared.script.Script.{Script}
+use Rattle.px_reader.specs.declared.refused.Refused.{Refused}
+use Rattle.px_reader.specs.declared.refused.ScriptErr.{ScriptErr}
+use Rattle.px_reader.specs.declared.refused.ScriptErr.TheVariants as script
+use Rattle.px_script.specs.ReadScripts.{content}
+use Rattle.px_script.specs.declared.script.Script.{Script}
 use Rattle.px_reader.specs.FaultViews.{refusal_of}
-use Rattle.px_reader.specs.CommandViews.{script_of}
-use Rattle.px_reader.specs.StatementViews.{text_of}
+use Rattle.px_lines.specs.ItemViews.{text_of}
 use denote.Ref.{Bor}
 
 -- the words of a stage
@@ -52,10 +52,6 @@ LinesFail stage lines script.NoMemory = Unit {0}
 abbrev pub HasFirstFault : Stage → List ℕ → ScriptErr → Type 0
 HasFirstFault stage bytes (script.Refused refused) = FirstFault stage bytes refused.line (refusal_told refused)
 HasFirstFault stage bytes script.NoMemory = Unit {0}
-
--- what a script is about, as contracts see it
-abbrev pub content : Script → ScriptValue
-content s = script_of s.version s.names s.problem s.facts s.building s.commands
 
 -- the script is about this, unless memory ran out
 abbrev pub IsRead : Result Script ScriptErr → ScriptValue → Type 0

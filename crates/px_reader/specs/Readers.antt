@@ -8,7 +8,6 @@ use Rattle.std.specs.String.{string_bytes}
 use Rattle.px_names.specs.declared.kind.Kind.{Kind}
 use Rattle.px_names.specs.declared.kind.Kind.TheVariants as kind
 use Rattle.px_script.specs.Declarations.{Declared, OpenBlock, OpenOperator, BlockKind, of_operator, of_building, declares, declared_by, with_all_names}
-pub use Rattle.px_reader.specs.CommandViews.{command_view}
 use Rattle.px_reader.specs.declared.reader.Reader.{Reader}
 use Rattle.px_reader.specs.declared.blocks.OpenBlock as code
 use Rattle.px_reader.specs.declared.blocks.OpenOperator as operator
@@ -49,7 +48,7 @@ declared_of reader = record {
   height = reader.height;
   nodes = reader.nodes;
   shapes = reader.shapes;
-  commands = map command_view reader.commands.items;
+  commands = reader.commands.items;
   disturbs = reader.disturbs;
   block = option_map (open_block_view (length reader.schemas.items)) reader.block;
   own_domain = reader.own_domain;

@@ -2,13 +2,13 @@
 ghost use Rattle.std.specs.Prelude.{◌≡◌, ◌≤◌, ◌++◌, ◌∷◌, ℕ, [], length, map, IfOk, OnOk};
 ghost use Rattle.px_base.specs.Bounds.{u32_max};
 ghost use Rattle.px_script.specs.Statements as spec;
-ghost use Rattle.px_reader.specs.Common.{AreOfKinds, IsFresh, string_bytes, kind_of_block, with_thing, AreInRange, AreReadable, block_view, declared_of, kind_view, leaves, operator_view, in_role, signed_view, text_of};
+ghost use Rattle.px_reader.specs.Common.{AreOfKinds, IsFresh, string_bytes, kind_of_block, with_thing, AreInRange, AreReadable, declared_of, kind_view, leaves, operator_view, in_role, signed_view, text_of};
 
-use crate::line::Block;
 use crate::reader::Reader;
-use crate::statement::SignedAtom;
 use px_base::{NoMemory, Sequence};
+use px_lines::SignedAtom;
 use px_names::Kind;
+use px_script::Block;
 use px_terms::{Atom, Schema};
 use px_world::Thing;
 use std::alloc::Global;
@@ -46,7 +46,7 @@ pub struct OpenBlock {
 
 impl BlockKind {
     pub fn block(&self) -> Block
-        ensures { (number : ℕ) → block_view result ≡ kind_of_block (kind_view number self.now) }
+        ensures { (number : ℕ) → result ≡ kind_of_block (kind_view number self.now) }
     {
         match self {
             BlockKind::Operator(_) => Block::Operator,

@@ -1,25 +1,28 @@
 //! The commands that lines add.
 ghost use Rattle.std.specs.Prelude.{◌≡◌, ◌≤◌, ◌<◌, ◌∷◌, [], length, map, IfOk, OnOk};
+ghost use Rattle.px_terms.specs.Limits.{most_formula_variables};
+ghost use Rattle.px_script.specs.declared.limits.Limit.TheVariants as limit;
+ghost use Rattle.px_script.specs.Limits.{greatest};
 ghost use Rattle.px_script.specs.Statements as spec;
-ghost use Rattle.px_reader.specs.Common.{IsFresh, variable_names_of, with_command, with_names, a_plan, AreReadable, command_view, declared_of, leaves, signed_view, room_edit_view, binding_view};
+ghost use Rattle.px_reader.specs.Common.{IsFresh, variable_names_of, with_command, with_names, a_plan, AreReadable, declared_of, leaves, signed_view, room_edit_view, binding_view};
 
-use crate::command::Command;
 use crate::reader::Reader;
-use crate::statement::{SignedAtom, WrittenBinding, WrittenRoomEdit};
 use crate::terms::variables;
 use px_base::{NoMemory, Sequence};
+use px_lines::{SignedAtom, WrittenBinding, WrittenRoomEdit};
 use px_names::Kind;
+use px_script::Command;
 
 impl Reader {
     pub fn add_command(&mut self, command: Command) -> Result<(), NoMemory>
-        ensures { OnOk result (declared_of self.new ≡ with_command (command_view command) (declared_of self.old)) }
+        ensures { OnOk result (declared_of self.new ≡ with_command command (declared_of self.old)) }
     {
         self.commands.push(command)?;
         Ok(())
     }
 
     pub fn add_plan(&mut self, name: &str, goal: &[SignedAtom<'_>]) -> Result<(), NoMemory>
-        requires few_variables { length (variable_names_of (map signed_view goal.now)) ≤ 12 }
+        requires few_variables { length (variable_names_of (map signed_view goal.now)) ≤ most_formula_variables }
         requires readable { AreReadable (declared_of self.old) goal.now }
         requires fresh { IsFresh Kind.Result self.old.names name.now }
         ensures { OnOk result (declared_of self.new ≡ leaves 0 (declared_of self.old) (spec.plan name.now (map signed_view goal.now))) }
@@ -69,7 +72,7 @@ impl Reader {
         edits: &[SignedAtom<'_>],
     ) -> Result<(), NoMemory>
         requires readable { AreReadable (declared_of self.old) edits.now }
-        requires room { self.old.disturbs < 64 }
+        requires room { self.old.disturbs < greatest 1 limit.Disturbs }
         ensures { OnOk result (declared_of self.new
             ≡ leaves 0 (declared_of self.old) (spec.disturb_atoms turn between (map signed_view edits.now))) }
     {
@@ -89,7 +92,7 @@ impl Reader {
         between: bool,
         edits: &[WrittenRoomEdit<'_>],
     ) -> Result<(), NoMemory>
-        requires { self.old.disturbs < 64 }
+        requires { self.old.disturbs < greatest 1 limit.Disturbs }
         ensures { OnOk result (declared_of self.new
             ≡ leaves 0 (declared_of self.old) (spec.disturb_rooms turn between (map room_edit_view edits.now))) }
     {

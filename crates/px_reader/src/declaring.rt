@@ -1,5 +1,6 @@
 //! What a line without a fault adds.
 ghost use Rattle.std.specs.Prelude.{◌≡◌, ◌≤◌, ◌++◌, [], true, false, Some, length, map, All, IfOk, OnOk};
+ghost use Rattle.px_terms.specs.Limits.{most_formula_variables};
 ghost use Rattle.px_names.specs.Lists.{names_of};
 ghost use Rattle.px_names.specs.Name.{IsName};
 ghost use Rattle.px_terms.specs.AtomSets.{atom_set, with_atom, IsAtomSet};
@@ -10,12 +11,13 @@ ghost use Rattle.px_script.proofs.Faultless.{IsFaultless, IsRight};
 ghost use Rattle.px_reader.specs.Common.{AllByRecursion, AreOfKind, AreOfKinds, IsFresh, IsNameLexeme, spelling, with_name, atom_of, literal_of, variable_names_of, is_formed, line_of, AreInRange, AreReadable, is_fact, declared_of, leaves, with_more, signed_view, statement_view, text_of};
 
 use crate::blocks::Role;
-use crate::command::Command;
 use crate::reader::Reader;
-use crate::statement::{SignedAtom, Statement};
+use crate::statement::Statement;
 use crate::terms::variables;
 use px_base::NoMemory;
+use px_lines::SignedAtom;
 use px_names::{Kind, NameErr};
+use px_script::Command;
 use px_terms::Atom;
 
 /// Sets a limit of the script, which takes no memory.
@@ -28,7 +30,7 @@ fn set(limit: &mut Option<u32>, number: u32) -> Result<(), NoMemory>
 
 impl Reader {
     /// Adds what the line says, where it has no fault, except that there may be too many facts.
-    pub fn declare(&mut self, line: u32, statement: Statement<'_>) -> Result<(), NoMemory>
+    pub fn declare(&mut self, line: u32, statement: Statement<'_, '_>) -> Result<(), NoMemory>
         requires range { AreInRange (declared_of self.old) }
         requires formed { is_formed (declared_of self.old) (line_of (statement_view statement)) ≡ true }
         requires right { IsRight (declared_of self.old) (statement_view statement) }
@@ -43,29 +45,29 @@ impl Reader {
                 self.version = version;
                 Ok(())
             }
-            Statement::Object(names) => self.declare_names(Kind::Object, &names),
+            Statement::Object(names) => self.declare_names(Kind::Object, names),
             Statement::Predicate(name, arity) => self.declare_predicate(name, arity as u8),
-            Statement::Axiom(literals) => self.add_axiom(&literals),
-            Statement::Operator(name, parameters) => self.begin_operator(line, name, &parameters),
-            Statement::Pre(atoms) => self.extend_operator(Role::Pre, &atoms),
-            Statement::Delete(atoms) => self.extend_operator(Role::Delete, &atoms),
-            Statement::Add(atoms) => self.extend_operator(Role::Add, &atoms),
+            Statement::Axiom(literals) => self.add_axiom(literals),
+            Statement::Operator(name, parameters) => self.begin_operator(line, name, parameters),
+            Statement::Pre(atoms) => self.extend_operator(Role::Pre, atoms),
+            Statement::Delete(atoms) => self.extend_operator(Role::Delete, atoms),
+            Statement::Add(atoms) => self.extend_operator(Role::Add, atoms),
             Statement::Building => self.open_building(line),
             Statement::Room(name) => self.add_room(name),
             Statement::Door(name, one, other, is_open) => self.add_door(name, one, other, is_open),
             Statement::Box(name, room) => self.add_box(name, room),
             Statement::Robot(room) => self.add_robot(room),
             Statement::End => self.close_block(),
-            Statement::Fact(atoms) => self.add_facts(&atoms),
+            Statement::Fact(atoms) => self.add_facts(atoms),
             Statement::Height(height) => set(&mut self.height, height),
             Statement::Nodes(nodes) => set(&mut self.nodes, nodes),
             Statement::Shapes(shapes) => set(&mut self.shapes, shapes),
-            Statement::Plan(name, goal) => self.add_plan(name, &goal),
+            Statement::Plan(name, goal) => self.add_plan(name, goal),
             Statement::Learn(name, source) => self.add_learned(name, source),
             Statement::Show(name) => self.add_show(name),
-            Statement::DisturbAtoms(turn, late, edits) => self.disturb_atoms(turn, late, &edits),
-            Statement::DisturbRooms(turn, late, edits) => self.disturb_rooms(turn, late, &edits),
-            Statement::Run(name, bindings) => self.add_run(name, &bindings),
+            Statement::DisturbAtoms(turn, late, edits) => self.disturb_atoms(turn, late, edits),
+            Statement::DisturbRooms(turn, late, edits) => self.disturb_rooms(turn, late, edits),
+            Statement::Run(name, bindings) => self.add_run(name, bindings),
             Statement::Facts => self.add_command(Command::Facts),
         }
     }
@@ -106,7 +108,7 @@ impl Reader {
     }
 
     fn add_axiom(&mut self, literals: &[SignedAtom<'_>]) -> Result<(), NoMemory>
-        requires few_variables { length (variable_names_of (map signed_view literals.now)) ≤ 12 }
+        requires few_variables { length (variable_names_of (map signed_view literals.now)) ≤ most_formula_variables }
         requires readable { AreReadable (declared_of self.old) literals.now }
         requires plain { ArePlainBelow (length (variable_names_of (map signed_view literals.now)))
             (map (literal_of (declared_of self.old) (variable_names_of (map signed_view literals.now))) (map signed_view literals.now)) }

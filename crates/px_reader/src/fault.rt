@@ -1,34 +1,27 @@
 //! Why a line is refused.
 ghost use Rattle.std.specs.Prelude.{◌≡◌};
-ghost use Rattle.px_reader.specs.Common.{refusal_of};
+ghost use Rattle.px_reader.specs.Common.{limit_number, refusal_of};
 
-/// What a script has limits of, in the order of their numbers.
+use px_script::{Limit, NUMBER_OF_NUMBERS};
+
+/// A limit that a line passes.
 #[derive(Clone, Copy)]
-pub enum Limit {
-    /// Bytes of a name that has a number in its kind.
-    NameBytes = 1,
-    Objects,
-    Predicates,
-    Arity,
-    Axioms,
-    /// Literals of an axiom.
-    Literals,
-    /// Variables of an axiom or of a goal.
-    Variables,
-    Operators,
-    Parameters,
-    /// Atoms of a precondition, of a delete list or of an add list.
-    OperatorAtoms,
-    /// Different facts of the lines `fact`.
-    Facts,
-    GoalAtoms,
-    Commands,
-    /// Disturbances since the last `run`, or since the start.
-    Disturbs,
-    /// Edits of a disturbance.
-    Edits,
-    /// A number that a line gives is outside its bounds.
-    Numbers,
+pub enum PassedLimit {
+    /// There are more than there may be.
+    Most(Limit),
+    /// A number that the line gives is outside its bounds.
+    Bounds,
+}
+
+impl PassedLimit {
+    fn number(self) -> u8
+        ensures { result ≡ limit_number self }
+    {
+        match self {
+            PassedLimit::Most(limit) => limit.number(),
+            PassedLimit::Bounds => NUMBER_OF_NUMBERS,
+        }
+    }
 }
 
 /// What is wrong with a line.
@@ -43,7 +36,7 @@ pub enum LineFault {
     Duplicate,
     Arity,
     Unbound,
-    Limit(Limit),
+    Limit(PassedLimit),
     Order,
     /// The input ends inside a block.
     MissingEnd,
@@ -64,7 +57,7 @@ impl LineFault {
             LineFault::Duplicate => (5, 0),
             LineFault::Arity => (6, 0),
             LineFault::Unbound => (7, 0),
-            LineFault::Limit(limit) => (8, limit as u8),
+            LineFault::Limit(limit) => (8, limit.number()),
             LineFault::Order => (9, 0),
             LineFault::MissingEnd => (10, 0),
             LineFault::NotBuilt => (11, 0),

@@ -2,7 +2,7 @@
 //!
 //! # Calling it
 //!
-//! - [`read_script`] takes the bytes of an input, fewer than 4,294,967,295, and returns a [`Script`]: its names, its
+//! - [`read_script`] takes the bytes of an input, fewer than 4,294,967,295, and returns a [`px_script::Script`]: its names, its
 //!   problem, its facts, its building if it has one, and its commands. What it is about follows from the bytes alone
 //!   (`IsScript` of `px_script`). The problem is valid, each of its numbers has a name, the facts are ground atoms of it, the
 //!   numbers in the commands are in range, and all is within the limits. A `Script` keeps that (`in_range`, by `IsInRange` of
@@ -10,7 +10,7 @@
 //!   that are built (`of_stage`, by `IsOfStage`).
 //! - Where the bytes are no script it returns [`ScriptErr::Refused`] with the first fault: its line from 1, its code, and
 //!   the number of the limit that is passed, or 0. That comes exactly where `FirstFault` of `px_script` holds.
-//! - [`Command`] is what a script asks for, in its order.
+//! - [`px_script::Command`] is what a script asks for, in its order.
 //! - All words of version 1 are read and built, and what they say is declared and checked. A building's script has the problem of
 //!   `px_rooms` and the facts of its first state. The words that are built are listed in one place, `STAGE` of `reading`
 //!   (`stage_now` of `px_script`); below it all is proved for whatever words are built. A line of another word is refused with
@@ -20,34 +20,28 @@
 //!
 //! # How it is made
 //!
-//! A line's tokens (`token`) are parsed to a `Statement` (`lists`, `series`, `forms`, `parsing`), which says where it may stand, what its
-//! atoms may be, and which they are (`line`). `Reader` has what the lines so far have declared, with the fields of `Declared` of
-//! `px_script` (`declared_of` in `specs/Readers`). The causes to refuse a line are tests of the reader, in the order of their codes
-//! (`order`, `naming`, `duplicates`, `limits`), and a line without a fault is declared (`declaring`, `blocks`, `commands`, over `terms`).
-//! Only facts are counted after they are added. Of `specs/`, public clauses cite only `CommandViews` and `LineReads`.
+//! A line is read by `px_lines`. `Reader` has what the lines so far have declared, with the fields of `Declared` of `px_script`
+//! (`declared_of` in `specs/Readers`). The causes to refuse a line are tests of the reader, in the order of their codes (`order`,
+//! `naming`, `duplicates`, `limits`): most go over the line's items, whatever its word. What its word alone says, its own limits, what
+//! may stand once, and what it adds, is told by a `Statement` (`statements`), which borrows the line's lists. A line without a fault is
+//! declared (`declaring`, `blocks`, `commands`, over `terms`). Only facts are counted after they are added. Of `specs/`, public clauses
+//! cite only `LineReads`.
 #![tactic(auto)]
 
 mod blocks;
-mod command;
 mod commands;
 mod declaring;
 mod duplicates;
 mod fault;
-mod forms;
 mod limits;
-mod line;
-mod lists;
 mod naming;
 mod order;
-mod parsing;
 mod reader;
 mod reading;
-mod script;
-mod series;
+mod refused;
 mod statement;
+mod statements;
 mod terms;
-mod token;
 
-pub use command::{Binding, Command};
 pub use reading::read_script;
-pub use script::{Refused, Script, ScriptErr};
+pub use refused::{Refused, ScriptErr};

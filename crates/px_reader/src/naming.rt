@@ -1,13 +1,19 @@
 //! Names that aren't declared, arguments that may not stand, and wrong numbers of arguments.
 ghost use Rattle.std.specs.Prelude.{◌≡◌, ◌==◌, ◌||◌, ◌<◌, length, not, None, Some, position, is_some, slice_index, map, IfSome, MatchOption};
 ghost use Rattle.px_names.specs.Lists.{names_of};
-ghost use Rattle.px_reader.specs.Common.{list_any, bytes_eq, string_bytes, has_name, has_unknown_name, has_wrong_arity, is_known_argument, is_unbound, takes, wanted_by, operator_here, parameters_here, number_in, a_room, an_object, wanted_by_edit, line_of, lacks, lacks_argument, refuses, manner_view, declared_of, operator_view, argument_view, room_edit_view, statement_view};
+ghost use Rattle.px_script.specs.Causes.{is_goal_variable};
+ghost use Rattle.px_script.specs.Declarations.{Declared, table_parameters_here};
+ghost use Rattle.px_script.specs.Items.{open_variable, wanted_in};
+ghost use Rattle.px_lines.specs.ItemViews.{rest_view, said_view};
+ghost use Rattle.px_lines.specs.LineViews.{line_view};
+ghost use Rattle.px_reader.specs.Common.{flat_map, list_any, bytes_eq, string_bytes, has_name, has_unknown_name, has_wrong_arity, is_known_argument, is_unbound, takes, wanted_by, operator_here, parameters_here, number_in, an_object, wanted_by_edit, lacks, lacks_argument, refuses, declared_of, operator_view, argument_view, room_edit_view};
 
 use crate::blocks::{BlockKind, OpenOperator};
-use crate::line::Manner;
 use crate::reader::Reader;
-use crate::statement::{Argument, SignedAtom, Statement, WrittenBinding, WrittenRoomEdit};
+use crate::terms::is_one_of;
+use px_lines::{Argument, Line, Rest, Said, SignedAtom, WrittenBinding, WrittenRoomEdit};
 use px_names::Kind;
+use px_script::{Manner, Named};
 
 /// Returns where the name stands in a list.
 pub fn place_of(name: &str, names: &[String]) -> Option<usize>
@@ -22,6 +28,30 @@ fn is_among(name: &str, names: &[String]) -> bool
     ensures { result ≡ has_name name.now (map string_bytes names.now) }
 {
     place_of(name, names).is_some()
+}
+
+/// The variables that the goal of a table's block may have.
+const GOAL_VARIABLES: [&str; 12] = [
+    "g1", "g2", "g3", "g4", "g5", "g6", "g7", "g8", "g9", "g10", "g11", "g12",
+];
+
+#[tactic(auto, using(crate::proofs::TableVariables::goal_variables))]
+fn is_goal_variable(name: &str) -> bool
+    ensures { (d : Declared) → result ≡ is_goal_variable d name.now }
+{
+    is_one_of(&GOAL_VARIABLES, name)
+}
+
+/// Returns whether a variable may stand in atoms of the manner, where no table's block is open.
+#[tactic(auto, using(crate::proofs::TableVariables::without_table))]
+fn takes_variable(manner: Manner, name: &str) -> bool
+    ensures { (d : Declared) → table_parameters_here d.block ≡ 0 → result ≡ takes d manner (open_variable name.now) }
+{
+    match manner {
+        Manner::Literals | Manner::Goals => true,
+        Manner::TableGoals => is_goal_variable(name),
+        _ => false,
+    }
 }
 
 impl Reader {
@@ -61,10 +91,10 @@ impl Reader {
     }
 
     /// Returns whether some name of the line isn't declared in the kind of its place.
-    pub fn has_unknown_name(&self, statement: &Statement<'_>) -> bool
-        ensures { result ≡ has_unknown_name (declared_of self.now) (line_of (statement_view statement.now)) }
+    pub fn has_unknown_name(&self, line: &Line<'_>) -> bool
+        ensures { result ≡ has_unknown_name (declared_of self.now) (line_view line.now) }
     {
-        self.lack_names(statement.atoms()) || self.lacks_name(statement)
+        self.lack_names(line.atoms()) || self.lacks_name(line)
     }
 
     fn lack_names(&self, atoms: &[SignedAtom<'_>]) -> bool
@@ -106,26 +136,56 @@ impl Reader {
     }
 
     /// Returns whether some name outside atoms that the line wants isn't declared in its kind.
-    fn lacks_name(&self, statement: &Statement<'_>) -> bool
-        ensures { result ≡ list_any (lacks (declared_of self.now)) (wanted_by (line_of (statement_view statement.now))) }
+    #[tactic(auto, using(crate::proofs::LineTests::wanted))]
+    fn lacks_name(&self, line: &Line<'_>) -> bool
+        ensures { result ≡ list_any (lacks (declared_of self.now)) (wanted_by (line_view line.now)) }
     {
-        match statement {
-            Statement::Door(_, one, other, _) => self.lacks_room(one) || self.lacks_room(other),
-            Statement::Box(_, room) | Statement::Robot(room) => self.lacks_room(room),
-            Statement::Learn(_, source) => !is_among(source, &self.plans),
-            Statement::Show(name) => !self.has(Kind::Result, name),
-            Statement::DisturbRooms(_, _, edits) => self.lack_places(edits),
-            Statement::Run(name, bindings) => {
-                !self.has(Kind::Result, name) || self.lack_objects(bindings)
-            }
+        self.ones_lack(&line.ones) || self.rest_lacks(&line.last)
+    }
+
+    fn ones_lack(&self, ones: &[Said<'_>]) -> bool
+        ensures { result ≡ list_any (λ one. list_any (lacks (declared_of self.now)) (wanted_in (said_view one))) ones.now }
+    {
+        ones.iter().any(|one| self.one_lacks(one))
+    }
+
+    #[tactic(auto, using(crate::proofs::LineTests::single))]
+    fn one_lacks(&self, one: &Said<'_>) -> bool
+        ensures { result ≡ list_any (lacks (declared_of self.now)) (wanted_in (said_view one.now)) }
+    {
+        match one {
+            Said::Known(kind, name) => self.lacks(*kind, name),
             _ => false,
         }
     }
 
-    fn lacks_room(&self, name: &str) -> bool
-        ensures { result ≡ lacks (declared_of self.now) (a_room, name.now) }
+    #[tactic(auto, using(crate::proofs::AtomTests::names_lack))]
+    fn rest_lacks(&self, last: &Rest<'_>) -> bool
+        ensures { result ≡ list_any (lacks (declared_of self.now)) (flat_map wanted_in (rest_view last.now)) }
     {
-        !is_among(name, &self.rooms)
+        match last {
+            Rest::Bindings(bindings) => self.lack_objects(bindings),
+            Rest::RoomEdits(edits) => self.lack_places(edits),
+            _ => false,
+        }
+    }
+
+    /// Returns whether the name isn't declared in the kind.
+    fn lacks(&self, kind: Named, name: &str) -> bool
+        ensures { result ≡ lacks (declared_of self.now) (kind, name.now) }
+    {
+        match kind {
+            Named::Object => !self.has(Kind::Object, name),
+            Named::Predicate => !self.has(Kind::Predicate, name),
+            Named::Operator => !self.has(Kind::Operator, name),
+            Named::Result | Named::Table => !self.has(Kind::Result, name),
+            Named::Parameter => self.parameter(name).is_none(),
+            Named::Sort => true,
+            Named::Room => !is_among(name, &self.rooms),
+            Named::Door => !is_among(name, &self.doors),
+            Named::Box => !is_among(name, &self.boxes),
+            Named::Plan => !is_among(name, &self.plans),
+        }
     }
 
     fn lack_places(&self, edits: &[WrittenRoomEdit<'_>]) -> bool
@@ -138,25 +198,27 @@ impl Reader {
         ensures { result ≡ list_any (lacks (declared_of self.now)) (wanted_by_edit (room_edit_view edit.now)) }
     {
         match edit {
-            WrittenRoomEdit::RobotTo(room) => self.lacks_room(room),
+            WrittenRoomEdit::RobotTo(room) => self.lacks(Named::Room, room),
             WrittenRoomEdit::BoxTo(name, room) => {
-                !is_among(name, &self.boxes) || self.lacks_room(room)
+                self.lacks(Named::Box, name) || self.lacks(Named::Room, room)
             }
-            WrittenRoomEdit::DoorTo(name, _) => !is_among(name, &self.doors),
+            WrittenRoomEdit::DoorTo(name, _) => self.lacks(Named::Door, name),
         }
     }
 
     fn lack_objects(&self, bindings: &[WrittenBinding<'_>]) -> bool
         ensures { result ≡ list_any (λ binding. lacks (declared_of self.now) (an_object, binding.object.now)) bindings.now }
     {
-        bindings.iter().any(|b| !self.has(Kind::Object, b.object))
+        bindings
+            .iter()
+            .any(|binding| self.lacks(Named::Object, binding.object))
     }
 
     /// Returns whether some atom has another number of arguments than its predicate.
-    pub fn has_wrong_arity(&self, statement: &Statement<'_>) -> bool
-        ensures { result ≡ has_wrong_arity (declared_of self.now) (line_of (statement_view statement.now)) }
+    pub fn has_wrong_arity(&self, line: &Line<'_>) -> bool
+        ensures { result ≡ has_wrong_arity (declared_of self.now) (line_view line.now) }
     {
-        self.differ_in_arity(statement.atoms())
+        self.differ_in_arity(line.atoms())
     }
 
     fn differ_in_arity(&self, atoms: &[SignedAtom<'_>]) -> bool
@@ -180,31 +242,32 @@ impl Reader {
     }
 
     /// Returns whether some argument may not stand in the line.
-    pub fn is_unbound(&self, statement: &Statement<'_>) -> bool
-        ensures { result ≡ is_unbound (declared_of self.now) (line_of (statement_view statement.now)) }
+    pub fn is_unbound(&self, line: &Line<'_>) -> bool
+        ensures { result ≡ is_unbound (declared_of self.now) (line_view line.now) }
     {
-        self.have_unbound(statement.manner(), statement.atoms())
+        self.have_unbound(line.row.manner, line.atoms())
     }
 
     fn have_unbound(&self, manner: Manner, atoms: &[SignedAtom<'_>]) -> bool
-        ensures { result ≡ list_any (refuses (declared_of self.now) (manner_view manner)) atoms.now }
+        ensures { result ≡ list_any (refuses (declared_of self.now) manner) atoms.now }
     {
         atoms.iter().any(|atom| self.has_unbound(manner, atom))
     }
 
     fn has_unbound(&self, manner: Manner, atom: &SignedAtom<'_>) -> bool
-        ensures { result ≡ refuses (declared_of self.now) (manner_view manner) atom.now }
+        ensures { result ≡ refuses (declared_of self.now) manner atom.now }
     {
         atom.arguments.iter().any(|x| !self.takes(manner, x))
     }
 
     /// Returns whether the argument may stand in atoms of the manner.
+    #[tactic(auto, using(crate::proofs::TableVariables::no_table))]
     fn takes(&self, manner: Manner, argument: &Argument<'_>) -> bool
-        ensures { result ≡ takes (declared_of self.now) (manner_view manner) (argument_view argument.now) }
+        ensures { result ≡ takes (declared_of self.now) manner (argument_view argument.now) }
     {
         match argument {
             Argument::Named(_) => true,
-            Argument::Variable(_) => matches!(manner, Manner::Literals | Manner::Goals),
+            Argument::Variable(name) => takes_variable(manner, name),
             Argument::Anything => matches!(manner, Manner::Patterns),
         }
     }

@@ -4,34 +4,25 @@ ghost use Rattle.px_base.specs.Bounds.{u32_max};
 ghost use Rattle.px_rooms.specs.States.{IsBuilding, first_state, rendering, standings};
 ghost use Rattle.px_terms.specs.Problems.{problem_without_sorts};
 ghost use Rattle.px_terms.specs.Validity.{IsValid};
-ghost use Rattle.px_script.specs.Limits.{default_height, default_nodes, default_shapes};
+ghost use Rattle.px_script.specs.declared.limits.TheConstants.{DEFAULT_HEIGHT as default_height, DEFAULT_NODES as default_nodes, DEFAULT_SHAPES as default_shapes};
 ghost use Rattle.px_script.specs.Ranges.{IsInRange};
+ghost use Rattle.px_lines.specs.LineViews.{line_view};
 ghost use Rattle.px_reader.specs.Common.{AllByRecursion, IsNameLexeme, spelling, after_line, option_map, chars, content_of, facts_of, problem_of, nothing_declared, begins_with_word, is_formed, line_of, AreInRange, early_fault, refusal_of, HasFault, LineEnds, content, stage_view, declared_of, lexemes_of, statement_view};
 
 use crate::blocks::OpenBlock;
-use crate::command::Command;
-use crate::fault::{Limit, LineFault};
-use crate::line::is_word;
-use crate::parsing::statement;
-use crate::script::Script;
+use crate::fault::{LineFault, PassedLimit};
+use crate::order::is_unbuilt;
 use crate::statement::Statement;
-use crate::token::{Token, tokens};
+use crate::statements::statement;
 use px_base::{NoMemory, Sequence};
+use px_lines::{Line, Token, formed_line, is_word, tokens};
 use px_names::{Kind, Names};
 use px_ops::Model;
 use px_rooms::{Building, RoomErr, RoomWorld, rooms_problem};
+use px_script::{Command, DEFAULT_HEIGHT, DEFAULT_NODES, DEFAULT_SHAPES, Limit, Script};
 use px_terms::{ClauseArena, Limits, Problem, Schema};
 use px_world::Thing;
 use std::alloc::Global;
-
-/// The greatest height of a proof where no line gives it.
-const DEFAULT_HEIGHT: u32 = 4;
-
-/// How many nodes a search may find where no line says it.
-const DEFAULT_NODES: u32 = 10_000;
-
-/// How many shapes a question may meet where no line says it.
-const DEFAULT_SHAPES: u32 = 10_000;
 
 /// What the lines so far have declared.
 #[derive(Drop)]
@@ -120,8 +111,12 @@ impl Reader {
         if !self.begins_with_word(&tokens) {
             return Ok(Some(LineFault::UnknownWord));
         }
-        match statement(self.alloc, self.has_building(), &tokens)? {
-            Some(statement) => self.read_statement(stage, number, statement),
+        let with_building = self.has_building();
+        let Some(formed) = formed_line(self.alloc, with_building, &tokens)? else {
+            return Ok(Some(LineFault::BadToken));
+        };
+        match statement(with_building, &formed) {
+            Some(statement) => self.read_statement(stage, number, &formed, statement),
             None => Ok(Some(LineFault::BadToken)),
         }
     }
@@ -130,25 +125,27 @@ impl Reader {
         &mut self,
         stage: &[&str],
         number: u32,
-        statement: Statement<'_>,
+        line: &Line<'_>,
+        statement: Statement<'_, '_>,
     ) -> Result<Option<LineFault>, NoMemory>
         requires range { AreInRange (declared_of self.old) }
+        requires same { line_of (statement_view statement) ≡ line_view line.now }
         requires formed { is_formed (declared_of self.old) (line_of (statement_view statement)) ≡ true }
         requires named { AllByRecursion IsNameLexeme (spelling (statement_view statement)) }
         ensures fault { IfOk result (HasFault (stage_view stage.now) (declared_of self.old) (statement_view statement.entry)) }
         ensures declared { IfOk result (λ fault. MatchOption fault
             (declared_of self.new ≡ after_line number (declared_of self.old) (statement_view statement.entry)) (λ _. Unit {0})) }
     {
-        match self.fault(stage, &statement)? {
+        match self.fault(stage, line, statement)? {
             Some(fault) => Ok(Some(fault)),
             None => {
-                let own_domain = self.own_domain || statement.place().excludes_building();
+                let own_domain = self.own_domain || line.row.place.excludes_building();
                 let is_fact = statement.is_fact();
                 self.declare(number, statement)?;
                 self.own_domain = own_domain;
                 self.begun = true;
                 if self.has_too_many_facts(is_fact) {
-                    return Ok(Some(LineFault::Limit(Limit::Facts)));
+                    return Ok(Some(LineFault::Limit(PassedLimit::Most(Limit::Facts))));
                 }
                 Ok(None)
             }
@@ -159,26 +156,28 @@ impl Reader {
     fn fault(
         &self,
         stage: &[&str],
-        statement: &Statement<'_>,
+        line: &Line<'_>,
+        statement: Statement<'_, '_>,
     ) -> Result<Option<LineFault>, NoMemory>
-        requires { AreInRange (declared_of self.now) }
+        requires range { AreInRange (declared_of self.now) }
+        requires same { line_of (statement_view statement) ≡ line_view line.now }
         ensures { IfOk result (λ fault. option_map refusal_of fault
-            ≡ early_fault (stage_view stage.now) (declared_of self.now) (statement_view statement.now)) }
+            ≡ early_fault (stage_view stage.now) (declared_of self.now) (statement_view statement.entry)) }
     {
-        if self.is_out_of_order(statement) {
+        if self.is_out_of_order(line) {
             Ok(Some(LineFault::Order))
-        } else if statement.is_unbuilt(stage) {
+        } else if is_unbuilt(stage, line) {
             Ok(Some(LineFault::NotBuilt))
-        } else if self.has_unknown_name(statement) {
+        } else if self.has_unknown_name(line) {
             Ok(Some(LineFault::UnknownName))
-        } else if self.has_duplicate(statement)? {
+        } else if self.has_duplicate(line, statement)? {
             Ok(Some(LineFault::Duplicate))
-        } else if self.has_wrong_arity(statement) {
+        } else if self.has_wrong_arity(line) {
             Ok(Some(LineFault::Arity))
-        } else if self.is_unbound(statement) {
+        } else if self.is_unbound(line) {
             Ok(Some(LineFault::Unbound))
         } else {
-            let limit = self.passed_limit(statement)?;
+            let limit = self.passed_limit(line, statement)?;
             Ok(limit.map(|limit| LineFault::Limit(limit)))
         }
     }

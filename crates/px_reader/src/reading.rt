@@ -7,14 +7,39 @@ ghost use Rattle.px_script.specs.Scripts.{PassAll, IsScript, FirstFault};
 ghost use Rattle.px_reader.specs.Common.{slice_split, ScriptValue, nothing_declared, Refusal, stage_now, characters_of, stage_view, LinesFail, HasFirstFault, IsRead, IsLineRefused, content, told, declared_of};
 
 use crate::fault::LineFault;
-use crate::line::WORDS;
 use crate::reader::Reader;
-use crate::script::{Refused, Script, ScriptErr};
+use crate::refused::{Refused, ScriptErr};
+use px_script::Script;
 use std::alloc::{AllocError, Global};
 use std::str;
 
 /// The words that are built: all of version 1.
-const STAGE: [&str; 24] = WORDS;
+const STAGE: [&str; 24] = [
+    "script",
+    "object",
+    "predicate",
+    "axiom",
+    "operator",
+    "pre",
+    "delete",
+    "add",
+    "building",
+    "room",
+    "door",
+    "box",
+    "robot",
+    "end",
+    "fact",
+    "height",
+    "nodes",
+    "shapes",
+    "plan",
+    "learn",
+    "show",
+    "disturb",
+    "run",
+    "facts",
+];
 
 /// Returns the parts of a text between line feeds.
 fn parts<'a>(alloc: Global, text: &'a str) -> Result<Vec<&'a str>, AllocError>

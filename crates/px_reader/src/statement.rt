@@ -1,73 +1,46 @@
-//! What a line says.
+//! What a line says, by its word.
+ghost use Rattle.std.specs.Prelude.{◌≡◌};
+ghost use Rattle.px_reader.specs.Common.{is_fact, statement_view};
 
-/// An argument of an atom.
+use px_lines::{SignedAtom, WrittenBinding, WrittenRoomEdit};
+
+/// What a line says. It borrows the line's lists.
 #[derive(Clone, Copy)]
-pub enum Argument<'a> {
-    Named(&'a str),
-    Variable(&'a str),
-    Anything,
-}
-
-/// What stands before an atom: nothing, `~` of a literal, `+` or `-` of an edit.
-#[derive(Clone, Copy)]
-pub enum Sign {
-    Bare,
-    Negated,
-    Added,
-    Removed,
-}
-
-/// An atom by names, with its sign.
-#[derive(Drop)]
-pub struct SignedAtom<'a> {
-    pub sign: Sign,
-    pub predicate: &'a str,
-    pub arguments: Vec<Argument<'a>>,
-}
-
-/// An edit of a building: the robot to a room, a box to a room, a door open or not.
-#[derive(Clone, Copy)]
-pub enum WrittenRoomEdit<'a> {
-    RobotTo(&'a str),
-    BoxTo(&'a str, &'a str),
-    DoorTo(&'a str, bool),
-}
-
-/// A parameter of a learned table, by its number from 1, and an object's name.
-#[derive(Clone, Copy)]
-pub struct WrittenBinding<'a> {
-    pub parameter: u32,
-    pub object: &'a str,
-}
-
-/// A line by its form.
-#[derive(Drop)]
-pub enum Statement<'a> {
+pub enum Statement<'line, 'text> {
     Script(u32),
-    Object(Vec<&'a str>),
-    Predicate(&'a str, u32),
-    Axiom(Vec<SignedAtom<'a>>),
-    Operator(&'a str, Vec<&'a str>),
-    Pre(Vec<SignedAtom<'a>>),
-    Delete(Vec<SignedAtom<'a>>),
-    Add(Vec<SignedAtom<'a>>),
+    Object(&'line [&'text str]),
+    Predicate(&'text str, u32),
+    Axiom(&'line [SignedAtom<'text>]),
+    Operator(&'text str, &'line [&'text str]),
+    Pre(&'line [SignedAtom<'text>]),
+    Delete(&'line [SignedAtom<'text>]),
+    Add(&'line [SignedAtom<'text>]),
     Building,
-    Room(&'a str),
+    Room(&'text str),
     /// Its name, its two rooms, and whether it is open.
-    Door(&'a str, &'a str, &'a str, bool),
-    Box(&'a str, &'a str),
-    Robot(&'a str),
+    Door(&'text str, &'text str, &'text str, bool),
+    Box(&'text str, &'text str),
+    Robot(&'text str),
     End,
-    Fact(Vec<SignedAtom<'a>>),
+    Fact(&'line [SignedAtom<'text>]),
     Height(u32),
     Nodes(u32),
     Shapes(u32),
-    Plan(&'a str, Vec<SignedAtom<'a>>),
-    Learn(&'a str, &'a str),
-    Show(&'a str),
+    Plan(&'text str, &'line [SignedAtom<'text>]),
+    Learn(&'text str, &'text str),
+    Show(&'text str),
     /// The turn, whether the edits come between sensing and acting, and the edits.
-    DisturbAtoms(u32, bool, Vec<SignedAtom<'a>>),
-    DisturbRooms(u32, bool, Vec<WrittenRoomEdit<'a>>),
-    Run(&'a str, Vec<WrittenBinding<'a>>),
+    DisturbAtoms(u32, bool, &'line [SignedAtom<'text>]),
+    DisturbRooms(u32, bool, &'line [WrittenRoomEdit<'text>]),
+    Run(&'text str, &'line [WrittenBinding<'text>]),
     Facts,
+}
+
+impl Statement<'_, '_> {
+    /// Returns whether the line is one of facts.
+    pub fn is_fact(self) -> bool
+        ensures { result ≡ is_fact (statement_view self.entry) }
+    {
+        matches!(self, Statement::Fact(_))
+    }
 }

@@ -1,13 +1,14 @@
 //! Terms, atoms and edits by numbers.
 ghost use Rattle.std.specs.Prelude.{◌≡◌, ◌≤◌, ◌<◌, length, map, nat_lt, fold, position, IfOk, IfSome, OnOk};
-ghost use Rattle.px_reader.specs.Common.{bytes_eq, has_name, parameters_here, number_in, term_of, atom_of, literal_of, atom_edit_of, room_edit_of, binding_of, variable_names_of, binding_pair, AreReadable, with_variable, declared_of, argument_view, signed_view, room_edit_view, binding_view, text_of};
+ghost use Rattle.px_terms.specs.Limits.{most_arguments, most_formula_variables, most_parameters};
+ghost use Rattle.px_reader.specs.Common.{bytes_eq, has_name, parameters_here, number_in, term_of, atom_of, literal_of, atom_edit_of, room_edit_of, binding_of, variable_names_of, AreReadable, with_variable, declared_of, argument_view, signed_view, room_edit_view, binding_view, text_of};
 
-use crate::command::Binding;
 use crate::reader::Reader;
-use crate::statement::{Argument, Sign, SignedAtom, WrittenBinding, WrittenRoomEdit};
 use px_base::NoMemory;
+use px_lines::{Argument, SignedAtom, WrittenBinding, WrittenRoomEdit};
 use px_names::Kind;
-use px_terms::{Atom, Lit, Term};
+use px_script::{Binding, Sign};
+use px_terms::{Atom, Lit, MOST_ARGUMENTS, MOST_FORMULA_VARIABLES, Term};
 use px_world::{AtomEdit, RoomEdit};
 use std::alloc::Global;
 
@@ -66,24 +67,24 @@ pub fn variables<'a>(alloc: Global, atoms: &[SignedAtom<'a>]) -> Result<Vec<&'a 
     Ok(variables)
 }
 
-/// Returns whether the atoms, each with as many arguments as its predicate, have more than twelve different variables.
+/// Returns whether the atoms, each with as many arguments as its predicate, have more than [`MOST_FORMULA_VARIABLES`] different variables.
 #[tactic(auto, using(crate::proofs::Variables::seen))]
 pub fn has_many_variables(alloc: Global, atoms: &[SignedAtom<'_>]) -> Result<bool, NoMemory>
-    ensures { IfOk result (λ many. many ≡ nat_lt 12 (length (variable_names_of (map signed_view atoms.now)))) }
+    ensures { IfOk result (λ many. many ≡ nat_lt most_formula_variables (length (variable_names_of (map signed_view atoms.now)))) }
 {
     let mut variables = Vec::new(alloc);
     for atom in atoms {
-        if variables.len() > 12 {
+        if variables.len() > MOST_FORMULA_VARIABLES {
             return Ok(true);
         }
         add_variables(&mut variables, &atom.arguments)?;
     }
-    Ok(variables.len() > 12)
+    Ok(variables.len() > MOST_FORMULA_VARIABLES)
 }
 
 #[tactic(auto, using(crate::proofs::AtomTests::positions))]
 fn variable_number(variables: &[&str], name: &str) -> u32
-    requires { length variables.now ≤ 12 }
+    requires { length variables.now ≤ most_formula_variables }
     ensures { result ≡ number_in name.now (map text_of variables.now) }
 {
     match place_among(variables, name) {
@@ -94,8 +95,8 @@ fn variable_number(variables: &[&str], name: &str) -> u32
 
 impl Reader {
     fn term(&self, variables: &[&str], argument: &Argument<'_>) -> Term
-        requires few { length (parameters_here (declared_of self.now)) ≤ 8 }
-        requires few_variables { length variables.now ≤ 12 }
+        requires few { length (parameters_here (declared_of self.now)) ≤ most_parameters }
+        requires few_variables { length variables.now ≤ most_formula_variables }
         ensures { result ≡ term_of (parameters_here (declared_of self.now))
             (map text_of variables.now) self.now.names.objects (argument_view argument.now) }
     {
@@ -111,13 +112,13 @@ impl Reader {
 
     /// Returns an atom by numbers, with these variables.
     pub fn atom(&self, variables: &[&str], atom: &SignedAtom<'_>) -> Atom
-        requires few { length (parameters_here (declared_of self.now)) ≤ 8 }
-        requires few_variables { length variables.now ≤ 12 }
-        requires size { length atom.now.arguments.items ≤ 6 }
+        requires few { length (parameters_here (declared_of self.now)) ≤ most_parameters }
+        requires few_variables { length variables.now ≤ most_formula_variables }
+        requires size { length atom.now.arguments.items ≤ most_arguments }
         ensures { result ≡ atom_of (declared_of self.now) (map text_of variables.now) (signed_view atom.now) }
     {
         let predicate = self.number(Kind::Predicate, atom.predicate);
-        let mut terms = [Term::Any; 6];
+        let mut terms = [Term::Any; MOST_ARGUMENTS];
         for (index, argument) in atom.arguments.iter().enumerate() {
             terms[index] = self.term(variables, argument);
         }
@@ -127,7 +128,7 @@ impl Reader {
     // Alike: `literals`, which gives each atom its sign.
     pub fn atoms(&self, variables: &[&str], atoms: &[SignedAtom<'_>]) -> Result<Vec<Atom>, NoMemory>
         requires readable { AreReadable (declared_of self.now) atoms.now }
-        requires few_variables { length variables.now ≤ 12 }
+        requires few_variables { length variables.now ≤ most_formula_variables }
         ensures { IfOk result (λ numbered. numbered.items
             ≡ map (λ x. atom_of (declared_of self.now) (map text_of variables.now) (signed_view x)) atoms.now) }
     {
@@ -144,7 +145,7 @@ impl Reader {
         atoms: &[SignedAtom<'_>],
     ) -> Result<Vec<Lit>, NoMemory>
         requires readable { AreReadable (declared_of self.now) atoms.now }
-        requires few_variables { length variables.now ≤ 12 }
+        requires few_variables { length variables.now ≤ most_formula_variables }
         ensures { IfOk result (λ numbered. numbered.items
             ≡ map (λ x. literal_of (declared_of self.now) (map text_of variables.now) (signed_view x)) atoms.now) }
     {
@@ -159,8 +160,8 @@ impl Reader {
     }
 
     fn atom_edit(&self, atom: &SignedAtom<'_>) -> AtomEdit
-        requires few { length (parameters_here (declared_of self.now)) ≤ 8 }
-        requires size { length atom.now.arguments.items ≤ 6 }
+        requires few { length (parameters_here (declared_of self.now)) ≤ most_parameters }
+        requires size { length atom.now.arguments.items ≤ most_arguments }
         ensures { result ≡ atom_edit_of (declared_of self.now) (signed_view atom.now) }
     {
         let edited = self.atom(&[], atom);
@@ -210,16 +211,13 @@ impl Reader {
     }
 
     fn binding(&self, binding: &WrittenBinding<'_>) -> Binding
-        ensures { binding_pair result ≡ binding_of (declared_of self.now) (binding_view binding.now) }
+        ensures { result ≡ binding_of (declared_of self.now) (binding_view binding.now) }
     {
-        Binding {
-            parameter: binding.parameter,
-            object: self.object(binding.object),
-        }
+        Binding::new(binding.parameter, self.object(binding.object))
     }
 
     pub fn bindings(&self, bindings: &[WrittenBinding<'_>]) -> Result<Vec<Binding>, NoMemory>
-        ensures { IfOk result (λ numbered. map binding_pair numbered.items
+        ensures { IfOk result (λ numbered. numbered.items
             ≡ map (λ b. binding_of (declared_of self.now) (binding_view b)) bindings.now) }
     {
         let mut numbered = Vec::new(self.alloc);

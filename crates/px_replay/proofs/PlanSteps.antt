@@ -3,6 +3,7 @@ use Rattle.std.specs.Prelude.{◌≡◌, ◌+◌, ◌-◌, ◌^◌, ◌<◌, ◌
 use Rattle.std.proofs.Common.{refl, ◌∙◌, subst, arith}
 use Rattle.std.proofs.lemmas.List.Elements.{All-nil, All-cons, All-head, All-tail}
 use Rattle.std.proofs.lemmas.List.Sums.{sum_by-cons}
+use Rattle.px_base.specs.Bounds.{u32_max}
 use Rattle.px_terms.specs.declared.atom.Atom.{Atom}
 use Rattle.px_terms.specs.declared.instance.OpInst.{OpInst}
 use Rattle.px_terms.specs.declared.problem.Problem.{Problem}
@@ -52,14 +53,14 @@ schemas_opened problem plan is_table no_params =
 -- the goal's own variables stay far below all that a number can be
 pub goal_within : (problem : Problem) (plan : Table) (own : ℕ) → IsTable problem plan → plan.params ≡ 0 → plan.goal_vars ≤ 1000000
     → own ≤ 1000000
-    → All (λ (atom : Atom). All (IsVariableBelow (2 ^ 32 - own)) atom.args) plan.goal
+    → All (λ (atom : Atom). All (IsVariableBelow (u32_max + 1 - own)) atom.args) plan.goal
 goal_within problem plan own is_table no_params most few k d below =
     λ j e inside. term_within _ ((is_table.in_range.goal k d below).1 j e inside)
   where
-    room : (v : ℕ) → v < plan.params + plan.goal_vars → v < 2 ^ 32 - own
+    room : (v : ℕ) → v < plan.params + plan.goal_vars → v < u32_max + 1 - own
     room v low = omega (arith, low, no_params, most, few)
 
-    term_within : (t : Term) → IsTermOf problem (plan.params + plan.goal_vars) t → IsVariableBelow (2 ^ 32 - own) t
+    term_within : (t : Term) → IsTermOf problem (plan.params + plan.goal_vars) t → IsVariableBelow (u32_max + 1 - own) t
     term_within (Obj n) is = tt
     term_within (Var v) is = room v is
     term_within WildCard is = tt

@@ -1,5 +1,7 @@
 //! How many variables opening a table takes.
 ghost use Rattle.std.specs.Prelude.{◌≡◌, ◌≤◌, ◌-◌, ◌^◌, length, min, sum_by, count_by};
+ghost use Rattle.px_terms.specs.Limits.{most_arguments};
+ghost use Rattle.px_base.specs.Bounds.{u64_max};
 ghost use Rattle.px_proof.specs.Derivation.{fact};
 ghost use Rattle.px_replay.specs.FreshOf.{fresh_of_proof, row_fresh};
 ghost use Rattle.px_replay.specs.FreshVariables.{fresh_in, fresh_variables, is_object};
@@ -11,7 +13,7 @@ use px_terms::{Atom, OpInst, Term};
 
 /// Returns how many fresh variables the plan takes, or the greatest number there is where there are more. Does not allocate.
 pub fn fresh_count(table: &Table) -> usize
-    ensures { result ≡ min (fresh_variables table.now) (2 ^ 64 - 1) }
+    ensures { result ≡ min (fresh_variables table.now) u64_max }
 {
     count_steps(table.steps.as_slice())
         .saturating_add(count_goal(table.goal.as_slice()))
@@ -21,7 +23,7 @@ pub fn fresh_count(table: &Table) -> usize
 
 /// Returns how many arguments the steps have.
 pub fn count_steps(steps: &[OpInst]) -> usize
-    ensures { result ≡ min (step_variables steps.now) (2 ^ 64 - 1) }
+    ensures { result ≡ min (step_variables steps.now) u64_max }
 {
     let mut count: usize = 0;
     for inst in steps {
@@ -32,7 +34,7 @@ pub fn count_steps(steps: &[OpInst]) -> usize
 
 /// Returns how many objects stand in the goal.
 pub fn count_goal(goal: &[Atom]) -> usize
-    ensures { result ≡ min (goal_objects goal.now) (2 ^ 64 - 1) }
+    ensures { result ≡ min (goal_objects goal.now) u64_max }
 {
     let mut count: usize = 0;
     for atom in goal {
@@ -43,7 +45,7 @@ pub fn count_goal(goal: &[Atom]) -> usize
 
 /// Returns how many of the arguments are objects.
 pub fn count_objects(args: &[Term]) -> u32
-    requires { length args.now ≤ 6 }
+    requires { length args.now ≤ most_arguments }
     ensures { result ≡ count_by is_object args.now }
 {
     args.iter()
@@ -53,7 +55,7 @@ pub fn count_objects(args: &[Term]) -> u32
 
 /// Returns how many variables the rows take.
 fn count_rows(rows: &[Row]) -> usize
-    ensures { result ≡ min (sum_by row_fresh rows.now) (2 ^ 64 - 1) }
+    ensures { result ≡ min (sum_by row_fresh rows.now) u64_max }
 {
     let mut count: usize = 0;
     for row in rows {
@@ -76,7 +78,7 @@ fn count_leaf(leaf: &Leaf) -> usize
 /// Returns how many variables the proof takes.
 #[cycle(counts)]
 fn count_proof(proof: &Proof) -> usize
-    ensures { result ≡ min (fresh_of_proof proof.now) (2 ^ 64 - 1) }
+    ensures { result ≡ min (fresh_of_proof proof.now) u64_max }
 {
     match proof {
         Proof::Fact(leaf) => count_leaf(leaf),
@@ -93,7 +95,7 @@ fn count_proof(proof: &Proof) -> usize
 /// Returns how many variables the proofs take together.
 #[cycle(counts)]
 fn count_each(proofs: &[Proof]) -> usize
-    ensures { result ≡ min (row_fresh proofs.now) (2 ^ 64 - 1) }
+    ensures { result ≡ min (row_fresh proofs.now) u64_max }
 {
     let mut count: usize = 0;
     for proof in proofs {

@@ -1,5 +1,6 @@
 //! The goal with other terms for its objects.
 ghost use Rattle.std.specs.Prelude.{◌≡◌, ◌≤◌, ◌<◌, ◌+◌, ◌-◌, ◌^◌, IfOk, All, cond, count_by, length, take};
+ghost use Rattle.px_base.specs.Bounds.{u32_max};
 ghost use Rattle.px_terms.specs.Language.{IsVariableBelow};
 ghost use Rattle.px_replay.specs.FreshVariables.{is_object};
 ghost use Rattle.px_replay.specs.Opened.{goal_objects, named_args, named_goal as goal_named, named_term, opened_goal};
@@ -19,7 +20,7 @@ use std::alloc::Global;
 pub fn open_goal(alloc: Global, goal: &[Atom], first: u32, own: u32) -> Result<Vec<Atom>, NoMemory>
     requires objects { first + goal_objects goal.now ≤ own }
     requires few { own ≤ MOST_VARIABLES }
-    requires variables { All (λ atom. All (IsVariableBelow (2 ^ 32 - own)) atom.args) goal.now }
+    requires variables { All (λ atom. All (IsVariableBelow (u32_max + 1 - own)) atom.args) goal.now }
     ensures { IfOk result (λ made. made.items ≡ opened_goal first own goal.now) }
 {
     let slots = variables(alloc, 0, own)?;
@@ -40,7 +41,7 @@ pub fn named_goal(
 ) -> Result<Vec<Atom>, NoMemory>
     requires objects { first + goal_objects goal.now ≤ length names.now }
     requires few { length names.now ≤ MOST_VARIABLES }
-    requires variables { All (λ atom. All (IsVariableBelow (2 ^ 32 - own)) atom.args) goal.now }
+    requires variables { All (λ atom. All (IsVariableBelow (u32_max + 1 - own)) atom.args) goal.now }
     ensures { IfOk result (λ made. made.items ≡ goal_named names.now own first goal.now) }
 {
     let mut made = Vec::new(alloc);
@@ -56,7 +57,7 @@ pub fn named_goal(
 fn named_atom(names: &[Term], own: u32, first: u32, atom: &Atom) -> Atom
     requires objects { first + count_by is_object atom.now.args ≤ length names.now }
     requires few { length names.now ≤ MOST_VARIABLES }
-    requires variables { All (IsVariableBelow (2 ^ 32 - own)) atom.now.args }
+    requires variables { All (IsVariableBelow (u32_max + 1 - own)) atom.now.args }
     ensures { result ≡ record { pred = atom.now.pred; args = named_args names.now own first atom.now.args } }
 {
     let args = atom.args();
@@ -69,7 +70,7 @@ fn named_atom(names: &[Term], own: u32, first: u32, atom: &Atom) -> Atom
 fn name_each(names: &[Term], own: u32, first: u32, args: &[Term], into: &mut [Term])
     requires objects { first + count_by is_object args.now ≤ length names.now }
     requires few { length names.now ≤ MOST_VARIABLES }
-    requires variables { All (IsVariableBelow (2 ^ 32 - own)) args.now }
+    requires variables { All (IsVariableBelow (u32_max + 1 - own)) args.now }
     requires room { length args.now ≤ length into.old }
     ensures front { take (length args.now) into.new ≡ named_args names.now own first args.now }
     ensures long { length into.new ≡ length into.old }
@@ -84,7 +85,7 @@ fn name_each(names: &[Term], own: u32, first: u32, args: &[Term], into: &mut [Te
 /// Returns the term for one argument.
 fn name_of(names: &[Term], own: u32, next: u32, term: Term) -> Term
     requires object { next + cond (is_object term) 1 0 ≤ length names.now }
-    requires variable { IsVariableBelow (2 ^ 32 - own) term }
+    requires variable { IsVariableBelow (u32_max + 1 - own) term }
     ensures { result ≡ named_term names.now own next term }
 {
     match term {

@@ -8,6 +8,7 @@ use Rattle.px_terms.specs.OperatorLaws.{result_by-length}
 use Rattle.px_terms.specs.Operators.{atoms_of, result_of}
 use Rattle.px_world.specs.declared.edits.RoomEdit.{RoomEdit}
 use Rattle.px_world.specs.declared.edits.RoomEdit.TheVariants as edit
+use Rattle.px_world.specs.Worlds.{EditsAddOne}
 use Rattle.px_rooms.specs.declared.action.RoomAction.{RoomAction}
 use Rattle.px_rooms.specs.declared.action.RoomAction.TheVariants as act
 use Rattle.px_rooms.specs.declared.standing.Standing.{Standing}
@@ -205,11 +206,16 @@ added-one (edit.Box b r) = refl
 added-one (edit.Door d true) = refl
 added-one (edit.Door d false) = refl
 
+pub edits_add_one : EditsAddOne facts_edited
+edits_add_one one facts =
+    let most = result_by-length (edit_schema one) facts (record { op = 0; args = [] }) in
+    omega (arith, most, added-one one)
+
 pub edit-number : (one : RoomEdit) (old new : RoomState) → rendering new ≡ facts_edited one (rendering old)
     → length (rendering new) ≤ length (rendering old) + 1
 edit-number one old new is =
-    let most = result_by-length (edit_schema one) (rendering old) (record { op = 0; args = [] }) in
-    omega (arith, ap length is, most, added-one one)
+    let most = edits_add_one one (rendering old) in
+    omega (arith, ap length is, most)
 
 pub left-admits : (old left new : RoomState) → new ≡ left → IsLeft old left → (one : RoomEdit) → IsAdmitted new one ↔ IsAdmitted old one
 left-admits old left new is kept =

@@ -8,7 +8,8 @@ use Rattle.px_terms.specs.declared.problem.Problem.{Problem}
 use Rattle.px_terms.specs.declared.problem.Schema.{Schema}
 use Rattle.px_terms.specs.declared.term.Term.{Term}
 use Rattle.px_terms.specs.declared.term.Term.TheVariants.{Obj, Var, Any as WildCard}
-use Rattle.px_terms.specs.Problems.{most_height, most_nodes, most_shapes, problem_without_sorts, schema_without_sorts}
+use Rattle.px_terms.specs.Limits.{most_height, most_nodes, most_shapes}
+use Rattle.px_terms.specs.Problems.{problem_without_sorts, schema_without_sorts}
 use Rattle.px_terms.specs.Validity.{IsValid}
 
 -- ---- the predicates

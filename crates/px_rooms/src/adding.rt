@@ -1,5 +1,6 @@
 //! Adding the facts of a building to a model, predicate by predicate. Only atoms of the predicate are made.
 ghost use Rattle.std.specs.Prelude.{◌≤◌, ◌<◌, ◌+◌, [], ◌∷◌, length};
+ghost use Rattle.px_terms.specs.Limits.{most_arguments};
 ghost use Rattle.px_base.specs.Bounds.{u32_max};
 ghost use Rattle.px_terms.specs.declared.term.Term.TheVariants.{Obj};
 ghost use Rattle.px_terms.specs.Instances.{IsGround};
@@ -15,7 +16,7 @@ use px_terms::{Atom, Term};
 
 /// Adds a ground atom to a model that has room for it, if its predicate is the wanted one.
 fn add_one(kind: u32, args: &[Term], pred: u32, into: &mut Model)
-    requires short { length args.now ≤ 6 }
+    requires short { length args.now ≤ most_arguments }
     requires is_ground { IsGround (record { pred = kind; args = args.now }) }
     requires room { length (of_pred pred (record { pred = kind; args = args.now } ∷ [])) ≤ into.old.spare }
     ensures atoms { AreAdded (of_pred pred (record { pred = kind; args = args.now } ∷ [])) into.old.atoms into.new.atoms }

@@ -1,4 +1,6 @@
 //! Laws about the definitions. The calls do nothing.
+ghost use Rattle.px_world.specs.Worlds.{EditsAddOne};
+ghost use Rattle.px_rooms.specs.Changes.{facts_edited};
 ghost use Rattle.px_rooms.specs.Domain.{BuildingsAreValid};
 ghost use Rattle.px_rooms.specs.FactSets.{FactsAreAtoms};
 ghost use Rattle.px_rooms.specs.Following.{ActionsAreResults, ActionsAreRuns, EditsAreEdits, FactsAreFew, InstancesAreActions, RefusalsAreAllowed};
@@ -58,4 +60,9 @@ pub fn facts_are_atoms()
 /// In every state: each fact is ground, and there are at most four for each thing and two more.
 pub fn facts_are_few()
     ensures { FactsAreFew }
+{}
+
+/// An edit of a building leaves at most one fact more.
+pub fn room_edits_add_one()
+    ensures { EditsAddOne facts_edited }
 {}

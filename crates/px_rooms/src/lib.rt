@@ -20,8 +20,8 @@
 //! - [`RoomWorld`] is a building as a world, which contracts see as its state. [`RoomWorld::new`] begins with the first state, and
 //!   answers `NoSuchThing` only where the list is no building, and there it answers this or `NoMemory`. `act` answers
 //!   `Guard` exactly where an atom of the precondition isn't a fact, and else does what the action of that instance does
-//!   (`IsMoved`). [`RoomWorld::edit`] answers `NoSuchThing` exactly where the edit isn't admitted. [`RoomWorld::render`] gives
-//!   all facts, and [`RoomWorld::try_copy`] another world in the same state. A world always has room for all its facts, so `regrow`
+//!   (`IsMoved`). [`RoomWorld::edit`] answers `NoSuchThing` exactly where the edit isn't admitted; an edit leaves at most one fact more
+//!   ([`room_edits_add_one`]). [`RoomWorld::render`] gives all facts, and [`RoomWorld::try_copy`] another world in the same state. A world always has room for all its facts, so `regrow`
 //!   does nothing.
 //! - Where an atom of a precondition isn't a fact a world may refuse the action ([`refusals_are_allowed`]). Facts are a set of
 //!   atoms over the building's objects and predicates ([`facts_are_atoms`]), ground, and there are few ([`facts_are_few`]).
@@ -58,7 +58,8 @@ pub use building::Building;
 pub use errors::{NoSuchThing, RoomErr};
 pub use laws::{
     actions_are_results, actions_are_runs, buildings_are_valid, edits_are_edits, facts_are_atoms,
-    facts_are_few, instances_are_actions, refusals_are_allowed, worked_building, worked_domain,
+    facts_are_few, instances_are_actions, refusals_are_allowed, room_edits_add_one,
+    worked_building, worked_domain,
 };
 pub use problem::rooms_problem;
 pub use world::RoomWorld;

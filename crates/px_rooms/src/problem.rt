@@ -2,7 +2,7 @@
 ghost use Rattle.std.specs.Prelude.{◌≡◌, ◌≤◌, ◌<◌, ◌+◌, ◌++◌, ◌∷◌, [], length, take, IfOk, OnOk, slice_index_or};
 ghost use Rattle.px_base.specs.Bounds.{u32_max};
 ghost use Rattle.px_terms.specs.Operators.{no_schema};
-ghost use Rattle.px_terms.specs.Problems.{most_height, most_nodes, most_shapes};
+ghost use Rattle.px_terms.specs.Limits.{most_height, most_nodes, most_shapes};
 ghost use Rattle.px_terms.specs.Validity.{IsValid};
 ghost use Rattle.px_rooms.specs.Domain.{building_problem, room_axioms, room_schemas};
 ghost use Rattle.px_rooms.specs.States.{IsBuilding, standings};

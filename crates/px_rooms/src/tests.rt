@@ -9,7 +9,7 @@ use crate::pair::{BegunPair, Pair};
 use crate::{
     Building, NoSuchThing, RoomWorld, actions_are_results, actions_are_runs, buildings_are_valid,
     edits_are_edits, facts_are_atoms, facts_are_few, instances_are_actions, refusals_are_allowed,
-    rooms_problem, worked_building, worked_domain,
+    room_edits_add_one, rooms_problem, worked_building, worked_domain,
 };
 use px_terms::{NoMemory, Sequence, Term, is_valid};
 use px_world::{Regrow, RoomEdit, Thing};
@@ -156,4 +156,5 @@ fn laws_are_calls(_rt: HostRuntime) {
     refusals_are_allowed();
     facts_are_atoms();
     facts_are_few();
+    room_edits_add_one();
 }

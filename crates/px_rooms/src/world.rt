@@ -1,6 +1,6 @@
 //! The world of a building.
 ghost use Rattle.std.specs.Prelude.{◌≡◌, ◌⊎◌, ◌↔◌, ◌<◌, ◌≤◌, ◌+◌, ℕ, length, Some, Contains, false, IsTrue, IsErrOf, IfOk, IsOk, MatchResult, OnOk, OnErr, slice_get};
-ghost use Rattle.px_base.specs.Bounds.{u32_max};
+ghost use Rattle.px_base.specs.Bounds.{u32_max, u64_max};
 ghost use Rattle.px_terms.specs.declared.term.Term.TheVariants.{Obj};
 ghost use Rattle.px_terms.specs.Operators.{result_of};
 ghost use Rattle.px_terms.specs.Validity.{IsInstanceOf};
@@ -333,7 +333,7 @@ impl World for RoomWorld {
 
     ghost leaves = { facts_edited };
 
-    ghost spare = { λ w. 18446744073709551615 };
+    ghost spare = { λ w. u64_max };
 
     fn holds(&self, atom: &Atom) -> bool {
         self.has(atom)
@@ -380,12 +380,13 @@ impl World for RoomWorld {
 }
 
 impl Regrow for RoomWorld {
-    /// Does nothing: there is room for all facts.
+    /// Does nothing: facts take no room in a building, so there is room for as many as a `usize` can say.
     fn regrow(&mut self, spare: usize) -> Result<(), NoMemory>
         ensures always { IsOk result }
-        ensures spare { spare ≤ 18446744073709551615 }
+        ensures spare { spare ≤ u64_max }
         ensures state { self.new ≡ self.old }
     {
+        // A line of the body that has `spare` gives the proof its bound as a `usize`, which is the clause above.
         let _spare = spare;
         Ok(())
     }

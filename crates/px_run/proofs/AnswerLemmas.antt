@@ -12,7 +12,8 @@ use Rattle.px_terms.specs.declared.problem.Problem.{Problem}
 use Rattle.px_base.specs.declared.no_memory.NoMemory.{NoMemory}
 use Rattle.px_printer.specs.Replies.{IsReplyNamed, reply_text}
 use Rattle.px_printer.specs.declared.reply.Reply.{Reply}
-use Rattle.px_script.specs.Commands.{Command, Facts}
+use Rattle.px_script.specs.declared.command.Command.{Command}
+use Rattle.px_script.specs.declared.command.Command.TheVariants.{Facts}
 use Rattle.px_session.specs.Lawful.{Lawful}
 use Rattle.px_session.specs.Opened.{SessionValue}
 use Rattle.px_session.specs.Sessions.{SessionState}

@@ -5,7 +5,8 @@ use Rattle.px_terms.specs.declared.problem.Problem.{Problem}
 use Rattle.px_table.specs.Kernels.{KernelsCarry}
 use Rattle.px_printer.specs.declared.reply.Reply.{Reply}
 use Rattle.px_printer.specs.declared.reply.Reply.TheVariants as reply
-use Rattle.px_script.specs.Commands as command
+use Rattle.px_script.specs.declared.command.Command.{Command}
+use Rattle.px_script.specs.declared.command.Command.TheVariants as command
 use Rattle.px_script.specs.Stages.{stage_now}
 use Rattle.px_script.proofs.Kept.{in-range}
 use Rattle.px_session.specs.Lawful.{Lawful}
@@ -19,21 +20,21 @@ use Rattle.px_run.specs.Outcomes.{SourceEnds}
 use Rattle.px_run.specs.declared.status.Status.{Status}
 use Rattle.px_run.specs.declared.status.Status.TheVariants as status
 
-plan-carries : (problem : Problem) (old : SessionState) (c : command.Command) (answer : Reply) (new : SessionState)
+plan-carries : (problem : Problem) (old : SessionState) (c : Command) (answer : Reply) (new : SessionState)
     → Lawful problem old c answer new → PlanCarries problem old c answer
 plan-carries problem old (command.Plan name goal vars) (reply.Plan given count steps) new is =
     sessions_are_kept.plans problem old name goal vars given count steps new is
 plan-carries problem old (command.Plan name goal vars) answer new is = tt
 plan-carries problem old c answer new is = tt
 
-record Carries (problem : Problem) (old : SessionState) (commands : List command.Command) (answers : List Reply) (done : ℕ) : Type 0 where
+record Carries (problem : Problem) (old : SessionState) (commands : List Command) (answers : List Reply) (done : ℕ) : Type 0 where
   state : SessionState
   left : AreAnswers problem old (take done commands) (take done answers) state
   plan : PlanCarries problem state (get_or commands done command.Facts) (get_or answers done (reply.FactsAre []))
   kernels : All (KernelsCarry problem) (tables_of state)
 
 module _ (problem : Problem) where
-  carried : (old : SessionState) → IsSession problem old → (commands : List command.Command) (answers : List Reply) (last : SessionState)
+  carried : (old : SessionState) → IsSession problem old → (commands : List Command) (answers : List Reply) (last : SessionState)
       → AreAnswers problem old commands answers last → (done : ℕ) → done ≤ length commands → Carries problem old commands answers done
   carried old session [] [] last are done below = let none : done ≡ 0 = omega (arith, below) in
       subst (Carries problem old [] []) (sym none)

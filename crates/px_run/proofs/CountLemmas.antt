@@ -5,7 +5,7 @@ use Rattle.std.proofs.lemmas.List.{take_all}
 use Rattle.std.proofs.lemmas.List.Sums.{sum_by-append}
 use Rattle.px_printer.specs.declared.reply.Reply.{Reply}
 use Rattle.px_printer.specs.declared.turn.Turn.{Turn}
-use Rattle.px_script.specs.Commands.{Command}
+use Rattle.px_script.specs.declared.command.Command.{Command}
 use Rattle.px_session.specs.Demo.{ends_in_goal, is_goal, is_plan, reaches_goal, step_count}
 use Rattle.px_session.specs.Opened.{SessionValue}
 use Rattle.px_session.specs.Transcripts.{AreAnswers}

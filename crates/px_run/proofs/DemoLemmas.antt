@@ -4,7 +4,7 @@ use Rattle.std.specs.Prelude.{Option, None, Some, is_some, true}
 use Rattle.std.specs.Fmt.{decimal}
 use Rattle.px_demo.specs.Script.{demo_script}
 use Rattle.px_printer.specs.Texts.{text_line}
-use Rattle.px_reader.specs.declared.script.Refused.{Refused}
+use Rattle.px_reader.specs.declared.refused.Refused.{Refused}
 use Rattle.px_script.specs.Content.{ScriptValue}
 use Rattle.px_script.specs.Stages.{stage_now}
 use Rattle.px_script.specs.Scripts.{IsScript}
@@ -12,9 +12,9 @@ use Rattle.px_session.specs.Demo.{Summary}
 use Rattle.px_session.specs.Opened.{SessionValue, opened_session}
 use Rattle.px_session.proofs.OneTranscript.{transcripts_are_one}
 use Rattle.px_words.specs.declared.orders.Order.{Order}
-use Rattle.px_words.specs.declared.orders.Order.TheVariants.{Run, Demo}
+use Rattle.px_words.specs.declared.orders.Order.TheVariants.{Run, Demo, Check}
 use Rattle.px_run.specs.Fronts.{HasDemoFront}
-use Rattle.px_run.specs.Outcomes.{SourceEnds, SinkEnds, DemoCompletes, DemoCompletesSurely, DemoRefuses, DemoRight, IsDemoText, RefusalRight, RunRight, StatusRight, SumRight, Wrote, limit}
+use Rattle.px_run.specs.Outcomes.{SourceEnds, SinkEnds, DemoCompletes, DemoCompletesSurely, DemoRefuses, DemoRight, IsDemoText, RefusalRight, RunRight, StatusRight, SumRight, UsageRight, Wrote, limit}
 use Rattle.px_run.specs.Sums.{IsCounted, IsSumOf}
 use Rattle.px_run.specs.Transcripts.{IsScriptRefused, refusal_text}
 use Rattle.px_run.specs.declared.counts.Counts.{Counts}
@@ -121,7 +121,13 @@ pub no_memory : (order : Option Order) (source : SourceEnds) (sink : SinkEnds) �
     → source.taken_after ≤ source.taken + limit → Wrote sink [] → StatusRight order source sink status.NoMemory
 no_memory None source sink is quiet short wrote = absurd (true≢false (sym is))
 no_memory (Some Run) source sink is quiet short wrote = (quiet, short, inl wrote)
+no_memory (Some Check) source sink is quiet short wrote = inr (refl, wrote)
 no_memory (Some (Demo rooms seed)) source sink is quiet short wrote = wrote
+
+-- `check` isn't built, and is answered as words that aren't taken
+pub unbuilt : (order : Option Order) (source : SourceEnds) (sink : SinkEnds) (result : Status) → Some Check ≡ order
+    → UsageRight sink result → StatusRight order source sink result
+unbuilt order source sink result is right = subst (λ (o : Option Order). StatusRight o source sink result) is (inl right)
 
 -- the line of the counts is the line of the replies
 pub summed : (rooms seed commands : ℕ) (session : SessionValue) (counts : Counts) (text : List ℕ) → IsCounted session counts

@@ -1,7 +1,6 @@
 -- What is written where a write failed or memory ran out is a front of what the bytes demand.
-use Rattle.std.proofs.Common.{◌≡◌, ℕ, ◌+◌, ◌<◌, List, [], ◌++◌, length, sym, ap, ◌∙◌, inl, inr, arith, length-append}
+use Rattle.std.proofs.Common.{◌≡◌, ℕ, ◌<◌, List, [], ◌++◌, length, sym, ap, ◌∙◌, inl, inr, arith, length-append}
 use Rattle.std.proofs.lemmas.List.{append_assoc}
-use Rattle.px_reader.specs.declared.script.Refused.{Refused}
 use Rattle.px_session.specs.Opened.{opened_session}
 use Rattle.px_run.specs.Fronts.{HasFront, IsDemanded, WroteFront, WroteProperFront}
 use Rattle.px_run.specs.Outcomes.{Broke, RunRight, SinkEnds, SourceEnds, Wrote}

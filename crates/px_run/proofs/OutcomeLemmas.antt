@@ -4,7 +4,7 @@ use Rattle.std.specs.Prelude.{Option, None, Some}
 use Rattle.std.specs.Io.KnownBytes.{Consumes, IsAtEnd}
 use Rattle.std.proofs.lemmas.List.{append-nil}
 use Rattle.px_io.specs.Writing.{HasNoRoomFor}
-use Rattle.px_reader.specs.declared.script.Refused.{Refused}
+use Rattle.px_reader.specs.declared.refused.Refused.{Refused}
 use Rattle.px_script.specs.Content.{ScriptValue}
 use Rattle.px_script.specs.Faults.{Refusal}
 use Rattle.px_script.specs.Stages.{stage_now}

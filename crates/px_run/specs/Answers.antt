@@ -2,7 +2,7 @@
 use Rattle.std.specs.Prelude.{◌≡◌, ◌+◌, ℕ, List, [], Result, Ok, Err, slice_index_or}
 use Rattle.px_printer.specs.Replies.{reply_text}
 use Rattle.px_printer.specs.declared.reply.Reply.{Reply}
-use Rattle.px_script.specs.Commands.{Facts}
+use Rattle.px_script.specs.declared.command.Command.TheVariants.{Facts}
 use Rattle.px_session.specs.Lawful.{Lawful}
 use Rattle.px_session.specs.Opened.{SessionValue}
 use Rattle.px_run.specs.Outcomes.{SinkEnds, Wrote, Broke}

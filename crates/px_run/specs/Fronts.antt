@@ -1,7 +1,7 @@
 -- What is written where a write failed or memory ran out: a front of what the bytes demand.
 use Rattle.std.specs.Prelude.{◌≡◌, ◌⊎◌, ℕ, List, []}
 use Rattle.px_io.specs.Writing.{AppendsFront, AppendsProperFront}
-use Rattle.px_reader.specs.declared.script.Refused.{Refused}
+use Rattle.px_reader.specs.declared.refused.Refused.{Refused}
 use Rattle.px_session.specs.Transcripts.{Transcript}
 use Rattle.px_run.specs.Outcomes.{Came, IsDemoText, SinkEnds, SourceEnds, Wrote}
 use Rattle.px_run.specs.Transcripts.{IsScriptRefused, refusal_text}

@@ -7,7 +7,8 @@ use Rattle.px_world.specs.declared.thing.Thing.{Thing}
 use Rattle.px_rooms.specs.States.{RoomState, first_state}
 use Rattle.px_printer.specs.declared.reply.Reply.{Reply}
 use Rattle.px_printer.specs.declared.reply.Reply.TheVariants as reply
-use Rattle.px_script.specs.Commands.{Command, Plan, Facts}
+use Rattle.px_script.specs.declared.command.Command.{Command}
+use Rattle.px_script.specs.declared.command.Command.TheVariants.{Plan, Facts}
 use Rattle.px_script.specs.Content.{ScriptValue}
 use Rattle.px_session.specs.Opened.{tables_of}
 use Rattle.px_session.specs.RoomRuns.{AreAnswersIn, IsInBuilding}

@@ -6,7 +6,7 @@ use Rattle.px_io.specs.Causes.{Rose}
 use Rattle.px_io.specs.Reading.{ReadToEnd}
 use Rattle.px_io.specs.Writing.{HasNoRoomFor}
 use Rattle.px_printer.specs.Notices.{usage_text}
-use Rattle.px_reader.specs.declared.script.Refused.{Refused}
+use Rattle.px_reader.specs.declared.refused.Refused.{Refused}
 use Rattle.px_script.specs.Content.{ScriptValue}
 use Rattle.px_script.specs.Stages.{stage_now}
 use Rattle.px_script.specs.Scripts.{IsScript}
@@ -14,7 +14,7 @@ use Rattle.px_session.specs.Demo.{Summary}
 use Rattle.px_session.specs.Opened.{SessionValue, opened_session}
 use Rattle.px_session.specs.Transcripts.{Transcript}
 use Rattle.px_words.specs.declared.orders.Order.{Order}
-use Rattle.px_words.specs.declared.orders.Order.TheVariants.{Run, Demo}
+use Rattle.px_words.specs.declared.orders.Order.TheVariants.{Run, Demo, Check}
 use Rattle.px_run.specs.Sums.{IsSumOf}
 use Rattle.px_run.specs.Transcripts.{Begun, IsTextOf, IsBegunOf, IsNextOf, IsScriptRefused, IsWritten, refusal_text}
 use Rattle.px_run.specs.declared.status.Status.{Status}
@@ -116,10 +116,15 @@ DemoRight rooms seed sink status.WriteFault = (text : List ℕ) × IsDemoText ro
 DemoRight rooms seed sink status.NoMemory = Wrote sink []
 DemoRight rooms seed sink _ = ⊥
 
+-- The outcomes of `check`, which isn't built: those of words that aren't taken, or there was no memory for reading the word.
+abbrev pub CheckRight : SinkEnds → Status → Type 0
+CheckRight sink result = UsageRight sink result ⊎ ((result ≡ status.NoMemory) × Wrote sink [])
+
 -- the table of the statuses, by what the words order
 abbrev pub StatusRight : Option Order → SourceEnds → SinkEnds → Status → Type 0
 StatusRight None source sink result = UsageRight sink result
 StatusRight (Some Run) source sink result = RunRight source sink result
+StatusRight (Some Check) source sink result = CheckRight sink result
 StatusRight (Some (Demo rooms seed)) source sink result = DemoRight rooms seed sink result
 
 -- Where a script's bytes are known and no count rose, the whole transcript is written, or memory ran out.

@@ -3,8 +3,8 @@ use Rattle.std.specs.Prelude.{◌≡◌, ◌⊎◌, ℕ, List, [], ◌∷◌, �
 use Rattle.px_printer.specs.Notices.{refused_text}
 use Rattle.px_printer.specs.Replies.{reply_text}
 use Rattle.px_printer.specs.declared.reply.Reply.{Reply}
-use Rattle.px_reader.specs.declared.script.Refused.{Refused}
-use Rattle.px_script.specs.Commands.{Command}
+use Rattle.px_reader.specs.declared.refused.Refused.{Refused}
+use Rattle.px_script.specs.declared.command.Command.{Command}
 use Rattle.px_script.specs.Content.{ScriptValue}
 use Rattle.px_script.specs.Stages.{stage_now}
 use Rattle.px_script.specs.Scripts.{IsScript, FirstFault}

@@ -2,7 +2,7 @@
 ghost use Rattle.std.specs.Prelude.{◌≡◌, ◌≤◌, IfOk, ◌∷◌, [], codes};
 ghost use Rattle.std.specs.Fmt.{decimal};
 ghost use Rattle.px_printer.specs.Texts.{text_line};
-ghost use Rattle.px_reader.specs.LineReads.{content};
+ghost use Rattle.px_script.specs.ReadScripts.{content};
 ghost use Rattle.px_script.specs.Ranges.{IsOfStage};
 ghost use Rattle.px_script.specs.Stages.{stage_now};
 ghost use Rattle.px_session.specs.Opened.{opened_session};
@@ -14,7 +14,8 @@ use crate::status::Status;
 use crate::top::refuse;
 use px_demo::demo_script;
 use px_io::{Sink, put};
-use px_reader::{Script, ScriptErr, read_script};
+use px_reader::{ScriptErr, read_script};
+use px_script::Script;
 use px_session::Session;
 use px_terms::NoMemory;
 use std::alloc::Global;

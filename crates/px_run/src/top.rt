@@ -1,7 +1,7 @@
 //! The top call.
 ghost use Rattle.std.specs.Prelude.{◌≡◌, ◌+◌, List, ℕ, Some, map, length};
 ghost use Rattle.std.specs.Io.KnownBytes.{Consumes};
-ghost use Rattle.px_reader.specs.LineReads.{content};
+ghost use Rattle.px_script.specs.ReadScripts.{content};
 ghost use Rattle.px_script.specs.Ranges.{IsOfStage};
 ghost use Rattle.px_script.specs.Stages.{stage_now};
 ghost use Rattle.px_session.specs.Opened.{opened_session};
@@ -16,7 +16,8 @@ use crate::running::execute;
 use crate::status::Status;
 use px_io::{ReadErr, Sink, Source, put, read_all};
 use px_printer::{refused_text, usage_text};
-use px_reader::{Refused, Script, ScriptErr, read_script};
+use px_reader::{Refused, ScriptErr, read_script};
+use px_script::Script;
 use px_session::Session;
 use px_terms::NoMemory;
 use px_words::{Order, order_of};
@@ -27,7 +28,8 @@ const LIMIT: usize = 1_048_576;
 
 // Alike: `obey` and `run` below, since each states its own contract over the same source and sink.
 /// Does all that the program does: `words` are those of the command line, without the program's name. `run` reads a script from the
-/// source and answers it; `demo ROOMS SEED` makes a script, and sums up the replies to it; any other words are `Usage`.
+/// source and answers it; `demo ROOMS SEED` makes a script, and sums up the replies to it; `check` isn't built yet and any other words
+/// aren't taken, so they are `Usage`.
 ///
 /// For every script, with or without a building, the transcript holds one lawful reply for each command (`right`). So the world's atoms
 /// carry the steps of each plan that a reply prints to its goal, each proper instance of each kernel of each table that is kept carries
@@ -79,7 +81,7 @@ pub fn planex_main<'a, S: Source, K: Sink>(
 }
 
 /// Does what the words order.
-#[tactic(auto, using(crate::proofs::DemoLemmas::no_memory, crate::proofs::DemoLemmas::ordered))]
+#[tactic(auto, using(crate::proofs::DemoLemmas::no_memory, crate::proofs::DemoLemmas::ordered, crate::proofs::DemoLemmas::unbuilt))]
 fn obey<'a, S: Source, K: Sink>(
     alloc: Global,
     words: &'a [&'a str],
@@ -99,6 +101,7 @@ fn obey<'a, S: Source, K: Sink>(
     match order_of(alloc, words) {
         Ok(Some(Order::Run)) => run(alloc, source, sink),
         Ok(Some(Order::Demo { rooms, seed })) => demo(alloc, rooms, seed, sink),
+        Ok(Some(Order::Check)) => usage(sink),
         Ok(None) => usage(sink),
         Err(NoMemory) => Status::NoMemory,
     }

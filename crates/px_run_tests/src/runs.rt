@@ -1,5 +1,6 @@
 //! The program over memory.
 ghost use Rattle.std.specs.Prelude.{◌^◌, ◌<◌, ◌≤◌, ◌-◌, Contains, IfOk};
+ghost use Rattle.px_base.specs.Bounds.{u32_max};
 
 use px_io::{MemSink, MemSource, NoMemory};
 use px_run::{Status, planex_main};
@@ -10,8 +11,8 @@ pub(crate) const NEVER: u32 = 1_000_000;
 
 /// Returns the list of this one call.
 fn only(alloc: Global, call: u32) -> Result<Vec<u32>, NoMemory>
-    requires { call < 2 ^ 32 - 1 }
-    ensures { IfOk result (λ list. ¬ Contains list.items (2 ^ 32 - 1)) }
+    requires { call < u32_max }
+    ensures { IfOk result (λ list. ¬ Contains list.items u32_max) }
 {
     let mut list = Vec::new(alloc);
     list.extend_from_slice(&[call])?;
@@ -29,8 +30,8 @@ pub(crate) fn ran_with(
     write: u32,
 ) -> Result<(Status, Vec<u8>), NoMemory>
     requires most { 1 ≤ most }
-    requires read { read < 2 ^ 32 - 1 }
-    requires write { write < 2 ^ 32 - 1 }
+    requires read { read < u32_max }
+    requires write { write < u32_max }
 {
     let mut source = MemSource::new(input, most, only(alloc, read)?);
     let mut sink = MemSink::new(alloc, room, only(alloc, write)?)?;

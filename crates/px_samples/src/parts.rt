@@ -1,5 +1,6 @@
 //! What sample problems are made of.
 ghost use Rattle.std.specs.Prelude.{◌≤◌, length};
+ghost use Rattle.px_terms.specs.Limits.{most_arguments, most_parameters};
 
 use px_base::Sequence;
 use px_ops::Model;
@@ -20,14 +21,14 @@ pub fn v(number: u32) -> Term {
 
 /// Returns the predicate of that number with these terms.
 pub fn atom(pred: u32, args: &[Term]) -> Atom
-    requires { length args.now ≤ 6 }
+    requires { length args.now ≤ most_arguments }
 {
     Atom::of(pred, args)
 }
 
 /// Returns the operator of that number with these terms.
 pub fn instance(op: u32, args: &[Term]) -> OpInst
-    requires { length args.now ≤ 8 }
+    requires { length args.now ≤ most_parameters }
 {
     match OpInst::new(op, args) {
         Some(inst) => inst,

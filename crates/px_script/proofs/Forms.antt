@@ -1,14 +1,14 @@
--- The parser reads exactly the forms of lines: each spelling back, and nothing else.
-use Rattle.px_script.proofs.Common.{decimal, Lexeme, name, number, sign, Argument, Sign, WrittenAtom, SignedAtom, WrittenRoomEdit, named, bare, robot_to, door_to, spell, spell_argument, spell_sign, spell_atom, spell_room_edit, spell_binding, is_filled, is_parameter_number, parameter_name, open_word, with_commas, parenthesised, Statement, Line, line_of, script, object, «axiom», operator, pre, delete, add, building, room, door, robot, end, fact, height, nodes, shapes, show, disturb_atoms, disturb_rooms, run, facts, spelling, time_word, is_word, Declared, has_building, Forms, begins_with_word, is_formed, is_signed, is_of_script, ◌≡◌, ℕ, zero, suc, ◌<◌, ◌≤◌, Bool, true, false, cond, not, ◌==◌, List, [], ◌∷◌, ◌++◌, map, length, drop, refl, sym, ap, ◌∙◌, subst, arith, append_assoc, append-nil, eqb-true, length-append, ltb-true, nat_lt, Option, None, Some, codes, list_all, flat_map, option_map, option_and_then, IfSome, bytes_eq, digits_value, and_parts, not-true, bytes_eq-Decides}
+-- The parser reads what stands in lines exactly: each spelling back, and nothing else. What a line in its form has.
+use Rattle.px_script.proofs.Common.{Binding, decimal, Lexeme, name, number, sign, Argument, Sign, WrittenAtom, SignedAtom, WrittenRoomEdit, named, bare, robot_to, door_to, spell, spell_argument, spell_sign, spell_atom, spell_room_edit, spell_binding, is_filled, is_parameter_number, parameter_name, open_word, with_commas, parenthesised, Statement, Line, line_of, is_word, Declared, Forms, begins_with_word, is_formed, is_signed, is_of_script, ◌≡◌, ℕ, zero, suc, ◌<◌, ◌≤◌, Bool, true, false, cond, not, ◌==◌, List, [], ◌∷◌, ◌++◌, map, length, drop, refl, ap, ◌∙◌, subst, arith, append_assoc, append-nil, eqb-true, length-append, ltb-true, nat_lt, Option, None, Some, codes, list_all, flat_map, option_map, option_and_then, IfSome, bytes_eq, digits_value, and_parts, not-true, bytes_eq-Decides}
 use Rattle.std.proofs.lemmas.Fmt.{decimal_is_IsNumeral}
 use Rattle.std.proofs.lemmas.Option.{IfSome_then}
 use Rattle.px_script.specs.Forms as spec
 use Rattle.px_script.proofs.Lists.{by_test}
-use Rattle.px_script.proofs.Parsing.{argument_of, items_after, items_at, all_within, all_of, atom_after, atom_at, sign_of, after_name, after_number, nothing_form, which, open_of, room_edit_at, parameter_of, binding_at, names_of, names_among, names_at, at_end, number_form, name_form, predicate_form, operator_form, plan_form, door_form, box_form, learn_form, run_form, edits_form, disturb_form, rest_form, formed_only, parse}
+use Rattle.px_script.proofs.Parsing.{argument_of, items_after, items_at, all_within, all_of, atom_after, atom_at, sign_of, which, open_of, room_edit_at, parameter_of, binding_at, names_of, names_among, names_at}
 
 -- ---- what is said of an answer, if there is one
 
-then-there : {A B : Type 0} {P : A → Type 0} (Q : B → Type 0) (f : A → Option B) (o : Option A) → IfSome o P
+pub then-there : {A B : Type 0} {P : A → Type 0} (Q : B → Type 0) (f : A → Option B) (o : Option A) → IfSome o P
     → ((a : A) → P a → IfSome (f a) Q) → IfSome (option_and_then f o) Q
 then-there Q f None is each = tt
 then-there Q f (Some a) is each = each a is
@@ -18,14 +18,14 @@ pub map-there : {A B : Type 0} {P : A → Type 0} (Q : B → Type 0) (f : A → 
 map-there Q f None is each = tt
 map-there Q f (Some a) is each = each a is
 
-if-there : {A : Type 0} (P : A → Type 0) (x y : Option A) (b : Bool) → (b ≡ true → IfSome x P) → (b ≡ false → IfSome y P)
+pub if-there : {A : Type 0} (P : A → Type 0) (x y : Option A) (b : Bool) → (b ≡ true → IfSome x P) → (b ≡ false → IfSome y P)
     → IfSome (cond b x y) P
 if-there P x y b on_true on_false = by_test b (λ e. rw e (on_true e)) (λ e. rw e (on_false e))
 
 pub there : {A : Type 0} (P : A → Type 0) (o : Option A) (a : A) → IfSome o P → o ≡ Some a → P a
 there P o a is e = subst (λ t. IfSome t P) e is
 
-same_word : (w v : List ℕ) → bytes_eq w v ≡ true → w ≡ v
+pub same_word : (w v : List ℕ) → bytes_eq w v ≡ true → w ≡ v
 same_word w v e = (bytes_eq-Decides w v).0 e
 
 -- ---- things of one kind up to the end of a line
@@ -73,7 +73,7 @@ module _ {A : Type 0} (good : A → Bool) (one : List Lexeme → Option (A × Li
 abbrev pub ReadsSpelled : {A : Type 0} → (List Lexeme → Option (A × List Lexeme)) → (A → List Lexeme) → Type 0
 ReadsSpelled one spell = (lexemes : List Lexeme) → IfSome (one lexemes) (λ front. lexemes ≡ spell front.0 ++ front.1)
 
-all-sound : {A : Type 0} (one : List Lexeme → Option (A × List Lexeme)) (spell : A → List Lexeme) → ReadsSpelled one spell
+pub all-sound : {A : Type 0} (one : List Lexeme → Option (A × List Lexeme)) (spell : A → List Lexeme) → ReadsSpelled one spell
     → (n : ℕ) (lexemes : List Lexeme) → IfSome (all_within one n lexemes) (λ items. lexemes ≡ flat_map spell items)
 unfolding all_within
 all-sound one spell are zero [] = refl
@@ -139,7 +139,7 @@ names-spelled : (ns : List (List ℕ)) → (map spell_argument (map named ns) �
 names-spelled [] = (refl, refl)
 names-spelled (n ∷ ns) = let more = names-spelled ns in (ap (λ t. name n ∷ t) more.0, rw more.1 refl)
 
-parameters-again : (ps : List (List ℕ)) → names_at (parenthesised (map name ps) ++ []) ≡ Some (ps, [])
+pub parameters-again : (ps : List (List ℕ)) → names_at (parenthesised (map name ps) ++ []) ≡ Some (ps, [])
 parameters-again ps = let both = names-spelled ps in rw (← both.0, arguments-again (map named ps) [] refl, both.1) refl
 
 names-among-sound : (arguments : List Argument) → IfSome (names_among arguments) (λ ns. map spell_argument arguments ≡ map name ns)
@@ -147,15 +147,15 @@ names-among-sound [] = refl
 names-among-sound (named n ∷ more) = map-there _ _ (names_among more) (names-among-sound more) (λ ns is. ap (λ t. name n ∷ t) is)
 names-among-sound _ = tt
 
-names-at-sound : (lexemes : List Lexeme) → IfSome (names_at lexemes) (λ r. lexemes ≡ parenthesised (map name r.0) ++ r.1)
+pub names-at-sound : (lexemes : List Lexeme) → IfSome (names_at lexemes) (λ r. lexemes ≡ parenthesised (map name r.0) ++ r.1)
 names-at-sound lexemes = then-there _ _ (items_at argument_of lexemes) (arguments-sound lexemes) (λ front is.
     map-there _ _ (names_among front.0) (names-among-sound front.0) (λ ns names. is ∙ ap (λ t. parenthesised t ++ front.1) names))
 
-names-again : (ns : List (List ℕ)) → names_of (map name ns ++ []) ≡ Some ns
+pub names-again : (ns : List (List ℕ)) → names_of (map name ns ++ []) ≡ Some ns
 names-again [] = refl
 names-again (n ∷ ns) = rw (names-again ns) refl
 
-names-sound : (lexemes : List Lexeme) → IfSome (names_of lexemes) (λ ns. lexemes ≡ map name ns)
+pub names-sound : (lexemes : List Lexeme) → IfSome (names_of lexemes) (λ ns. lexemes ≡ map name ns)
 names-sound [] = refl
 names-sound (name n ∷ rest) = map-there _ _ (names_of rest) (names-sound rest) (λ ns is. ap (λ t. name n ∷ t) is)
 names-sound _ = tt
@@ -209,7 +209,7 @@ bindings-back =
 
 -- ---- what is read is spelled so
 
-which-sound : (word : Bool → List ℕ) (w : List ℕ) → IfSome (which (word true) (word false) w) (λ b. w ≡ word b)
+pub which-sound : (word : Bool → List ℕ) (w : List ℕ) → IfSome (which (word true) (word false) w) (λ b. w ≡ word b)
 which-sound word w = if-there _ _ _ (bytes_eq w (word true)) (same_word w (word true))
     (λ e. if-there _ _ _ (bytes_eq w (word false)) (same_word w (word false)) (λ e. tt))
 
@@ -250,93 +250,6 @@ binding-sound (name p ∷ sign s ∷ name o ∷ rest) = if-there _ _ _ (s == 61)
 binding-sound (name p ∷ sign s ∷ rest) = if-there _ _ _ (s == 61) (λ e. tt) (λ e. tt)
 binding-sound _ = tt
 
--- ---- the lines
-
--- What was read of a line that begins with this word is spelled so.
-abbrev IsSpelled : List ℕ → List Lexeme → Option Statement → Type 0
-IsSpelled w rest read = IfSome read (λ s. name w ∷ rest ≡ spelling s)
-
--- What is read of lexemes is determined by what is read of each that they may be: P is what has to be so of them and of what is read.
-module _ {A : Type 0} (P : List Lexeme → A → Type 0) where
-  named-there : (f : List ℕ → List Lexeme → Option A) → ((n : List ℕ) (more : List Lexeme) → IfSome (f n more) (P (name n ∷ more)))
-      → (rest : List Lexeme) → IfSome (after_name f rest) (P rest)
-  named-there f so (name n ∷ more) = so n more
-  named-there f so _ = tt
-
-  numbered-there : (f : ℕ → List Lexeme → Option A) → ((n : ℕ) (more : List Lexeme) → IfSome (f n more) (P (number n ∷ more)))
-      → (rest : List Lexeme) → IfSome (after_number f rest) (P rest)
-  numbered-there f so (number n ∷ more) = so n more
-  numbered-there f so _ = tt
-
-  chosen-there : (word : Bool → List ℕ) (f : Bool → List Lexeme → Option A)
-      → ((b : Bool) (more : List Lexeme) → IfSome (f b more) (P (name (word b) ∷ more))) → (rest : List Lexeme)
-      → IfSome (after_name (λ v more. option_and_then (λ b. f b more) (which (word true) (word false) v)) rest) (P rest)
-  chosen-there word f so (name v ∷ more) = then-there _ (λ b. f b more) _ (which-sound word v) (λ b is. rw is (so b more))
-  chosen-there word f so _ = tt
-
-  ended-there : (a : A) → P [] a → (rest : List Lexeme) → IfSome (nothing_form a rest) (P rest)
-  ended-there a is [] = is
-  ended-there a is _ = tt
-
-  -- things of one kind up to the end of the line
-  all-there : {X : Type 0} (one : List Lexeme → Option (X × List Lexeme)) (spell : X → List Lexeme) → ReadsSpelled one spell
-      → (f : List X → A) → ((xs : List X) → P (flat_map spell xs ++ []) (f xs)) → (rest : List Lexeme)
-      → IfSome (option_map f (all_of one rest)) (P rest)
-  all-there one spell are f so rest = map-there _ _ (all_of one rest) (all-sound one spell are (length rest) rest)
-      (λ xs is. subst (λ t. P t (f xs)) (sym (is ∙ sym (append-nil (flat_map spell xs)))) (so xs))
-
-operator-sound : (rest : List Lexeme) → IsSpelled (codes "operator") rest (operator_form rest)
-operator-sound (name n ∷ rest) = then-there _ _ (names_at rest) (names-at-sound rest) (λ items is. at-end items.0 items.1 is)
-  where
-    at-end : (ps : List (List ℕ)) (after : List Lexeme) → rest ≡ parenthesised (map name ps) ++ after
-        → IsSpelled (codes "operator") (name n ∷ rest) (at_end (operator n ps, after))
-    at-end ps [] is = ap (λ t. name (codes "operator") ∷ name n ∷ t) is
-    at-end ps _ is = tt
-operator-sound _ = tt
-
-learn-sound : (rest : List Lexeme) → IsSpelled (codes "learn") rest (learn_form rest)
-learn-sound (name n ∷ name v ∷ name source ∷ rest) = if-there _ _ _ (bytes_eq v (codes "from")) (λ e. rw (same_word v (codes "from") e)
-    (ended-there (λ t s. name (codes "learn") ∷ name n ∷ name (codes "from") ∷ name source ∷ t ≡ spelling s) _ refl rest)) (λ e. tt)
-learn-sound _ = tt
-
-edits-sound : (with_building between : Bool) (turn : ℕ) (rest : List Lexeme)
-    → IsSpelled (codes "disturb") (number turn ∷ name (time_word between) ∷ rest) (edits_form with_building turn between rest)
-edits-sound true between turn = all-there _ room_edit_at spell_room_edit room-edit-sound _ (λ es. refl)
-edits-sound false between turn = all-there _ atom_at spell_atom atom-sound _ (λ xs. refl)
-
--- this word, and else another
-is : (w v : List ℕ) (f : List Lexeme → Option Statement) → ((rest : List Lexeme) → IsSpelled v rest (f rest)) → (rest : List Lexeme)
-    (y : Option Statement) → IsSpelled w rest y → IsSpelled w rest (cond (bytes_eq w v) (f rest) y)
-is w v f here rest y more = if-there _ _ _ (bytes_eq w v) (λ e. rw (same_word w v e) (here rest)) (λ e. more)
-
-rest-sound : (with_building : Bool) (w : List ℕ) (rest : List Lexeme) → IsSpelled w rest (rest_form with_building w rest)
-rest-sound with_building w rest =
-    is w (codes "script") (number_form script) (numbered-there _ _ (λ n. ended-there _ _ refl)) rest _
-    (is w (codes "object") (λ t. option_map object (names_of t)) (λ t. map-there _ _ (names_of t) (names-sound t)
-    (λ ns is. ap (λ t. name (codes "object") ∷ t) (is ∙ sym (append-nil (map name ns))))) rest _
-    (is w (codes "predicate") predicate_form (named-there _ _ (λ n. numbered-there _ _ (λ k. ended-there _ _ refl))) rest _
-    (is w (codes "axiom") _ (all-there _ atom_at spell_atom atom-sound «axiom» (λ xs. refl)) rest _
-    (is w (codes "operator") _ operator-sound rest _
-    (is w (codes "pre") _ (all-there _ atom_at spell_atom atom-sound pre (λ xs. refl)) rest _
-    (is w (codes "delete") _ (all-there _ atom_at spell_atom atom-sound delete (λ xs. refl)) rest _
-    (is w (codes "add") _ (all-there _ atom_at spell_atom atom-sound add (λ xs. refl)) rest _
-    (is w (codes "building") (nothing_form building) (ended-there _ _ refl) rest _
-    (is w (codes "room") (name_form room) (named-there _ _ (λ n. ended-there _ _ refl)) rest _ (is w (codes "door") door_form
-    (named-there _ _ (λ n. named-there _ _ (λ k. named-there _ _ (λ m. chosen-there _ open_word _ (λ b. ended-there _ _ refl))))) rest _
-    (is w (codes "box") box_form (named-there _ _ (λ n. named-there _ _ (λ r. ended-there _ _ refl))) rest _
-    (is w (codes "robot") (name_form robot) (named-there _ _ (λ n. ended-there _ _ refl)) rest _
-    (is w (codes "end") (nothing_form end) (ended-there _ _ refl) rest _
-    (is w (codes "fact") _ (all-there _ atom_at spell_atom atom-sound fact (λ xs. refl)) rest _
-    (is w (codes "height") (number_form height) (numbered-there _ _ (λ n. ended-there _ _ refl)) rest _
-    (is w (codes "nodes") (number_form nodes) (numbered-there _ _ (λ n. ended-there _ _ refl)) rest _
-    (is w (codes "shapes") (number_form shapes) (numbered-there _ _ (λ n. ended-there _ _ refl)) rest _
-    (is w (codes "plan") plan_form (named-there _ _ (λ n. all-there _ atom_at spell_atom atom-sound _ (λ xs. refl))) rest _
-    (is w (codes "learn") _ learn-sound rest _ (is w (codes "show") (name_form show) (named-there _ _ (λ n. ended-there _ _ refl)) rest _
-    (is w (codes "disturb") (disturb_form with_building)
-    (numbered-there _ _ (λ n. chosen-there _ time_word _ (λ b. edits-sound with_building b n))) rest _
-    (is w (codes "run") run_form (named-there _ _ (λ n. all-there _ binding_at spell_binding binding-sound _ (λ bs. refl))) rest _
-    (is w (codes "facts") (nothing_form facts) (ended-there _ _ refl) rest _ tt)))))))))))))))))))))))
-
 -- ---- the whole line
 
 -- what a line in its form has, one by one
@@ -356,31 +269,12 @@ well-formed d l formed = let a = and_parts _ (is_of_script d l.manner) formed in
 pub forms-known : (d : Declared) (lexemes : List Lexeme) (s : Statement) → Forms d lexemes s → begins_with_word d lexemes ≡ true
 forms-known d lexemes s forms = rw forms.0 (well-formed d (line_of s) forms.1).word
 
-atoms-again : (xs : List SignedAtom) → all_of atom_at (flat_map spell_atom xs ++ []) ≡ Some xs
+pub atoms-again : (xs : List SignedAtom) → all_of atom_at (flat_map spell_atom xs ++ []) ≡ Some xs
 atoms-again xs = all-again each atom_at spell_atom atoms-back xs (all-each xs)
 
-edits-again : (es : List WrittenRoomEdit) → all_of room_edit_at (flat_map spell_room_edit es ++ []) ≡ Some es
+pub edits-again : (es : List WrittenRoomEdit) → all_of room_edit_at (flat_map spell_room_edit es ++ []) ≡ Some es
 edits-again es = all-again each room_edit_at spell_room_edit room-edits-back es (all-each es)
 
--- what follows the word is read back
-rest-again : (d : Declared) (s : Statement) → IsWellFormed d (line_of s)
-    → rest_form (has_building d) (line_of s).word (flat_map spell (line_of s).items) ≡ Some s
-rest-again d (door n one other true) formed = refl
-rest-again d (door n one other false) formed = refl
-rest-again d (disturb_atoms turn true xs) formed = rw (not-true (has_building d) formed.of_script, atoms-again xs) refl
-rest-again d (disturb_atoms turn false xs) formed = rw (not-true (has_building d) formed.of_script, atoms-again xs) refl
-rest-again d (disturb_rooms turn true es) formed = rw (formed.of_script, edits-again es) refl
-rest-again d (disturb_rooms turn false es) formed = rw (formed.of_script, edits-again es) refl
-rest-again d (run n bs) formed = ap (option_map (run n))
-    (all-again (λ b. is_parameter_number b.parameter) binding_at spell_binding bindings-back bs (and_parts _ true formed.filled).0)
-rest-again d _ formed = search (names-again, atoms-again, parameters-again)
-
-pub parse-complete : (d : Declared) (lexemes : List Lexeme) (s : Statement) → Forms d lexemes s → parse d lexemes ≡ Some s
-parse-complete d lexemes s forms =
-    ap (parse d) forms.0 ∙ ap (option_and_then (formed_only d)) (rest-again d s (well-formed d (line_of s) forms.1)) ∙ rw forms.1 refl
-
-pub parse-sound : (d : Declared) (lexemes : List Lexeme) (s : Statement) → parse d lexemes ≡ Some s → Forms d lexemes s
-parse-sound d (name w ∷ rest) s e = let P : Statement → Type 0 = Forms d (name w ∷ rest) in
-    there P (parse d (name w ∷ rest)) s (then-there P _ (rest_form (has_building d) w rest) (rest-sound (has_building d) w rest)
-    (λ a is. if-there P _ _ (is_formed d (line_of a)) (λ formed. (is, formed)) (λ e. tt))) e
-parse-sound d _ s e = cc
+pub bindings-again : (bs : List Binding) → list_all (λ b. is_parameter_number b.parameter) bs ≡ true
+    → all_of binding_at (flat_map spell_binding bs ++ []) ≡ Some bs
+bindings-again bs good = all-again (λ b. is_parameter_number b.parameter) binding_at spell_binding bindings-back bs good

@@ -3,8 +3,9 @@ use Rattle.std.proofs.lemmas.List.Kept.{AllPairs-cons}
 use Rattle.px_base.specs.Bounds.{u32_max}
 use Rattle.px_script.proofs.Common.{fold-append, flat_map-append, IsClause, no_schema, ◌≡◌, ◌≢◌, ℕ, suc, ◌+◌, ◌<◌, ◌≤◌, Bool, true, false, not, ◌&&◌, ◌||◌, ◌==◌, List, [], ◌∷◌, ◌++◌, map, length, refl, sym, ap, ◌∙◌, subst, arith, leb-true, length-append, nat_lt, Option, None, Some, is_some, unwrap_or, All, AllPairs, AllByRecursion, slice_index_or, list_any, list_all, flat_map, filter, range_with_len, append_assoc, get_or-append, get_or-map, and_parts, or_parts, or_right, nat_tests, length-map, All-append, All-cons, All-map, All-nil, All-push, both_answers, All-at, All-each, set_of-is_sorted, set_of-members, has_name, IsBoxAt, IsDoorAt, IsRoomAt, first_state, standings, Clause, Problem, atom_set, atom_cmp, atom_cmp-total, atom_cmp-same, IsAtomOf, Thing, EachIndex, NameLists, IsAxiomOf, append-nil, IsSchemaOf, Standing, Atom, Named, SignedAtom, Sign, WrittenRoomEdit, Binding, bare, robot_to, box_to, door_to, is_empty, is_parameter_number, wanted_by_edit, an_object, plain, literals, goals, atom_changes, line_of, object, predicate, «axiom», operator, fact, plan, learn, disturb_atoms, disturb_rooms, run, Statement, show, Bounds, greatest, of_height, of_nodes, of_shapes, of_turn, facts, Command, Plan, Learn, DisturbAtoms, DisturbRooms, Run, Facts, Show, Declared, Roles, operator_here, parameters_here, parameters_of, names_here, number_in, variable_names_of, atom_of, literal_of, clause_of, atom_edit_of, edit_by, room_edit_of, binding_of, after_line, own_problem, is_long, repeats, disturbance_limits, AreNumbered, AreRoomEditsOf, CommandsInRange, HasTurn, IsAmong, IsBindingOf, IsCommandOf, IsEditOf, IsWithin, NamesEarlier, disturbs_after, plan_given, result_given, AreNamesOf, all_disturbs}
 use Rattle.std.specs.Prelude.{replicate}
+use Rattle.px_script.specs.Items.{last_parameter}
 use Rattle.px_rooms.specs.Changes.{IsAdmitted}
-use Rattle.px_terms.specs.Problems.{most_nodes}
+use Rattle.px_terms.specs.Limits.{most_nodes}
 use Rattle.px_terms.specs.SortLaws.{no_sorts-are, no_object_sorts-are}
 use Rattle.px_script.specs.Limits.{default_height, default_nodes, default_shapes}
 use Rattle.px_script.specs.Limits as limit
@@ -346,7 +347,7 @@ module _ (n : ℕ) (d : Declared) where
         let both = and_parts (is_parameter_number b.parameter) (list_all (λ x. is_parameter_number x.parameter) bs) good in
         let number = and_parts (nat_lt 0 b.parameter) (nat_lt b.parameter 10000) both.0 in
         let least : 1 ≤ b.parameter = grind (arith, nat_tests, number.0) in
-        let most : b.parameter ≤ 9999 = grind (arith, nat_tests, number.1) in
+        let most : b.parameter ≤ last_parameter = grind (arith, nat_tests, number.1) in
         All-cons (IsBindingOf p) _ _ (least, most, number-below b.object d.names.objects known.0) (bindings-are bs both.1 known.1)
 
     pub run-kept : (name : List ℕ) (bs : List Binding) → (list_all (λ b. is_parameter_number b.parameter) bs && true) ≡ true

@@ -4,10 +4,11 @@ use Rattle.std.specs.Str.{is_utf8}
 use Rattle.std.specs.Str.Lossy.{utf8_valid_len}
 use Rattle.std.proofs.lemmas.Str.{IsUtf8-from_is_utf8, is_utf8-from_IsUtf8}
 use Rattle.px_script.proofs.Common.{Lexeme, Lexes, lines_of, Statement, Declared, OpenBlock, nothing_declared, after_line, content_of, Refusal, fault_at, coded, begins_with_word, Passes, PassAll, Fails, FailsIn, Spells, FirstFault, ReadsOneWay, Stage, ◌≡◌, ℕ, zero, suc, ◌+◌, ◌<◌, ◌==◌, List, [], ◌∷◌, map, take, length, refl, sym, ap, ◌∙◌, inl, inr, arith, Option, None, Some, count_by, IfSome, option_map, IsUtf8, if◌then◌else◌}
-use Rattle.px_script.proofs.Forms.{map-there, there, forms-known, parse-complete, parse-sound}
+use Rattle.px_script.proofs.Forms.{map-there, there, forms-known}
+use Rattle.px_script.proofs.ReadRows.{parse-complete, parse-sound}
 use Rattle.px_script.proofs.Lexing.{begins-found, found-begins, ignored-scanned, scanned-ignored, Begins-shorter}
 use Rattle.px_script.proofs.Lists.{by_test}
-use Rattle.px_script.proofs.Parsing.{parse}
+use Rattle.px_script.proofs.Rows.{parse}
 use Rattle.px_script.proofs.Scanning.{First, found, ignored, bad, first}
 
 -- ---- the reader

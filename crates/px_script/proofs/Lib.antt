@@ -9,6 +9,9 @@ pub mod States
 pub mod Lists
 pub mod Lexing
 pub mod Forms
+-- the table of the words, and the reader by it
+pub mod Rows
+pub mod ReadRows
 -- lines without a fault, and what they keep
 pub mod Faultless
 pub mod Problems

@@ -1,5 +1,5 @@
--- A plain parser of lexemes.
-use Rattle.px_script.proofs.Common.{ℕ, Bool, true, false, List, [], ◌∷◌, length, drop, Option, None, Some, codes, if◌then◌else◌, ◌==◌, zero, suc, option_map, option_and_then, bytes_eq, digits_value, Lexeme, name, variable, number, sign, Argument, Sign, SignedAtom, WrittenRoomEdit, Binding, named, open_variable, anything, bare, negated, added, removed, robot_to, box_to, door_to, parameter_name, is_parameter_number, Statement, line_of, script, object, predicate, «axiom», operator, pre, delete, add, building, room, door, box, robot, end, fact, height, nodes, shapes, plan, learn, show, disturb_atoms, disturb_rooms, run, facts, Declared, has_building, is_formed}
+-- A plain parser of what stands in lines.
+use Rattle.px_script.proofs.Common.{ℕ, Bool, true, false, List, [], ◌∷◌, length, drop, Option, None, Some, codes, if◌then◌else◌, ◌==◌, zero, suc, option_map, option_and_then, bytes_eq, digits_value, Lexeme, name, variable, number, sign, Argument, Sign, SignedAtom, WrittenRoomEdit, Binding, named, open_variable, anything, bare, negated, added, removed, robot_to, box_to, door_to, parameter_name, is_parameter_number}
 
 abbrev pub argument_of : Lexeme → Option Argument
 argument_of (name n) = Some (named n)
@@ -115,15 +115,6 @@ abbrev pub at_end : {A : Type 0} → A × List Lexeme → Option A
 at_end (a, []) = Some a
 at_end (a, x ∷ xs) = None
 
-abbrev pub number_form : (ℕ → Statement) → List Lexeme → Option Statement
-number_form f = after_number (λ n. nothing_form (f n))
-
-abbrev pub name_form : (List ℕ → Statement) → List Lexeme → Option Statement
-name_form f = after_name (λ n. nothing_form (f n))
-
-abbrev pub predicate_form : List Lexeme → Option Statement
-predicate_form = after_name (λ n. after_number (λ arity. nothing_form (predicate n arity)))
-
 -- the names that arguments are, where they are all names
 abbrev pub names_among : List Argument → Option (List (List ℕ))
 names_among [] = Some []
@@ -133,67 +124,3 @@ names_among _ = None
 -- names in parentheses, or none, and what follows
 abbrev pub names_at : List Lexeme → Option (List (List ℕ) × List Lexeme)
 names_at lexemes = option_and_then (λ front. option_map (λ ns. (ns, front.1)) (names_among front.0)) (items_at argument_of lexemes)
-
-abbrev pub operator_form : List Lexeme → Option Statement
-operator_form = after_name (λ n rest. option_and_then (λ items. at_end (operator n items.0, items.1)) (names_at rest))
-
-abbrev pub plan_form : List Lexeme → Option Statement
-plan_form = after_name (λ n rest. option_map (plan n) (all_of atom_at rest))
-
-abbrev pub door_form : List Lexeme → Option Statement
-door_form = after_name (λ n. after_name (λ one. after_name (λ other. after_name (λ state rest.
-    option_and_then (λ is_open. nothing_form (door n one other is_open) rest) (open_of state)))))
-
-abbrev pub box_form : List Lexeme → Option Statement
-box_form = after_name (λ n. after_name (λ r. nothing_form (box n r)))
-
-abbrev pub learn_form : List Lexeme → Option Statement
-learn_form = after_name (λ n. after_name
-    (λ w. after_name (λ source rest. if bytes_eq w (codes "from") then nothing_form (learn n source) rest else None)))
-
-abbrev pub run_form : List Lexeme → Option Statement
-run_form = after_name (λ n rest. option_map (run n) (all_of binding_at rest))
-
--- edits of the script's kind
-abbrev pub edits_form : Bool → ℕ → Bool → List Lexeme → Option Statement
-edits_form with_building turn between rest = if with_building then option_map (disturb_rooms turn between) (all_of room_edit_at rest)
-    else option_map (disturb_atoms turn between) (all_of atom_at rest)
-
-abbrev pub disturb_form : Bool → List Lexeme → Option Statement
-disturb_form with_building =
-    after_number (λ turn. after_name (λ w rest. option_and_then (λ between. edits_form with_building turn between rest) (time_of w)))
-
--- Alike: the lines below, one for each word of the language.
-abbrev pub rest_form : Bool → List ℕ → List Lexeme → Option Statement
-rest_form with_building w rest = if bytes_eq w (codes "script") then number_form script rest
-    else (if bytes_eq w (codes "object") then option_map object (names_of rest)
-    else (if bytes_eq w (codes "predicate") then predicate_form rest
-    else (if bytes_eq w (codes "axiom") then option_map «axiom» (all_of atom_at rest)
-    else (if bytes_eq w (codes "operator") then operator_form rest
-    else (if bytes_eq w (codes "pre") then option_map pre (all_of atom_at rest)
-    else (if bytes_eq w (codes "delete") then option_map delete (all_of atom_at rest)
-    else (if bytes_eq w (codes "add") then option_map add (all_of atom_at rest)
-    else (if bytes_eq w (codes "building") then nothing_form building rest
-    else (if bytes_eq w (codes "room") then name_form room rest
-    else (if bytes_eq w (codes "door") then door_form rest
-    else (if bytes_eq w (codes "box") then box_form rest
-    else (if bytes_eq w (codes "robot") then name_form robot rest
-    else (if bytes_eq w (codes "end") then nothing_form end rest
-    else (if bytes_eq w (codes "fact") then option_map fact (all_of atom_at rest)
-    else (if bytes_eq w (codes "height") then number_form height rest
-    else (if bytes_eq w (codes "nodes") then number_form nodes rest
-    else (if bytes_eq w (codes "shapes") then number_form shapes rest
-    else (if bytes_eq w (codes "plan") then plan_form rest
-    else (if bytes_eq w (codes "learn") then learn_form rest
-    else (if bytes_eq w (codes "show") then name_form show rest
-    else (if bytes_eq w (codes "disturb") then disturb_form with_building rest
-    else (if bytes_eq w (codes "run") then run_form rest
-    else (if bytes_eq w (codes "facts") then nothing_form facts rest
-    else None)))))))))))))))))))))))
-
-abbrev pub formed_only : Declared → Statement → Option Statement
-formed_only d s = if is_formed d (line_of s) then Some s else None
-
-abbrev pub parse : Declared → List Lexeme → Option Statement
-parse d (name w ∷ rest) = option_and_then (formed_only d) (rest_form (has_building d) w rest)
-parse d _ = None

@@ -3,11 +3,13 @@ use Rattle.std.specs.Prelude.{ℕ, ◌+◌, Bool, true, false, List, [], ◌∷�
 use Rattle.std.specs.List.{flat_map, list_all}
 use Rattle.std.specs.Fmt.{decimal}
 use Rattle.px_script.specs.Lexemes.{Lexeme, name, variable, number, sign}
-
--- What a name is the name of. Rooms, doors and boxes are objects; a plan is a table, and a table is a result.
-pub data Named : Type 0 where
-  an_object a_predicate an_operator a_result a_parameter a_sort : Named
-  a_room a_door a_box a_plan a_table : Named
+-- the greatest number of a parameter
+pub use Rattle.px_script.specs.declared.limits.TheConstants.{LAST_PARAMETER as last_parameter}
+-- what a name is the name of, and what stands before an atom
+pub use Rattle.px_script.specs.declared.kinds.Named.{Named}
+pub use Rattle.px_script.specs.declared.kinds.Named.TheVariants.{Object as an_object, Predicate as a_predicate, Operator as an_operator, Result as a_result, Parameter as a_parameter, Sort as a_sort, Room as a_room, Door as a_door, Box as a_box, Plan as a_plan, Table as a_table}
+pub use Rattle.px_script.specs.declared.kinds.Sign.{Sign}
+pub use Rattle.px_script.specs.declared.kinds.Sign.TheVariants.{Bare as bare, Negated as negated, Added as added, Removed as removed}
 
 pub data Argument : Type 0 where
   named : List ℕ → Argument
@@ -21,10 +23,6 @@ is_variable _ = false
 pub record WrittenAtom : Type 0 where
   pub predicate : List ℕ
   pub arguments : List Argument
-
--- what stands before an atom: nothing, ~ of a literal, + or - of an edit
-pub data Sign : Type 0 where
-  bare negated added removed : Sign
 
 pub record SignedAtom : Type 0 where
   pub sign : Sign
@@ -136,9 +134,6 @@ spell (pairs ps) = flat_map spell_pair ps
 abbrev pub is_empty : {A : Type 0} → List A → Bool
 is_empty [] = true
 is_empty (x ∷ xs) = false
-
-abbrev pub last_parameter : ℕ
-last_parameter = 9999
 
 abbrev pub is_parameter_number : ℕ → Bool
 is_parameter_number k = nat_lt 0 k && nat_lt k (last_parameter + 1)

@@ -14,6 +14,9 @@ pub mod Causes
 pub mod Faults
 pub mod Content
 pub mod Scripts
+-- the scripts that were read, by their parts
+pub mod ScriptParts
+pub mod ReadScripts
 -- what it says of small lines
 pub mod WorkedLines
 pub mod WorkedLater

@@ -2,7 +2,14 @@
 use Rattle.std.specs.Prelude.{ℕ, Bool, List, [], ◌∷◌, ◌++◌, codes, if◌then◌else◌, ◌==◌}
 use Rattle.std.specs.List.{list_any}
 use Rattle.std.specs.Str.{bytes_eq}
-use Rattle.px_terms.specs.Problems.{most_height, most_shapes}
+use Rattle.px_terms.specs.Limits.{most_arguments, most_clauses, most_formula_variables, most_height, most_literals, most_parameters, most_shapes}
+use Rattle.px_script.specs.declared.limits.TheConstants.{NAME_BYTES, OBJECTS, OBJECTS_OF_TWO, PREDICATES, OPERATORS, OPERATOR_ATOMS, FACTS, FACTS_OF_TWO, GOAL_ATOMS, COMMANDS, COMMANDS_OF_TWO, DISTURBS, EDITS}
+-- what a script has limits of; the number of the limit of numbers, those that a script may give; the most nodes that a script may ask for,
+-- which are fewer than a problem may, and the last turn that a disturbance may name; the height, the nodes and the shapes of a script whose
+-- lines give none
+pub use Rattle.px_script.specs.declared.limits.Limit.{Limit}
+pub use Rattle.px_script.specs.declared.limits.Limit.TheVariants.{NameBytes as name_bytes, Objects as objects, Predicates as predicates, Arity as arity, Axioms as axioms, Literals as literals, Variables as variables, Operators as operators, Parameters as parameters, OperatorAtoms as operator_atoms, Facts as facts, GoalAtoms as goal_atoms, Commands as commands, Disturbs as disturbs, Edits as edits}
+pub use Rattle.px_script.specs.declared.limits.TheConstants.{NUMBER_OF_NUMBERS as number_of_numbers, MOST_SCRIPT_NODES as most_script_nodes, LAST_TURN as last_turn, DEFAULT_HEIGHT as default_height, DEFAULT_NODES as default_nodes, DEFAULT_SHAPES as default_shapes}
 
 -- the words that may begin a line in every version
 abbrev pub words_of_all : List (List ℕ)
@@ -23,22 +30,6 @@ words version = if version == 2 then words_of_all ++ words_of_two else words_of_
 abbrev pub is_word : ℕ → List ℕ → Bool
 is_word version w = list_any (bytes_eq w) (words version)
 
--- what a script has limits of
-pub data Limit : Type 0 where
-  -- bytes of a name that has a number in its kind
-  name_bytes : Limit
-  objects predicates arity axioms : Limit
-  -- literals of an axiom; variables of an axiom or of a goal
-  literals variables : Limit
-  operators parameters : Limit
-  -- atoms of a precondition, of a delete list, of an add list
-  operator_atoms : Limit
-  -- different facts of the lines `fact`
-  facts : Limit
-  goal_atoms commands : Limit
-  -- disturbances since the last `run`, or since the start; edits of one of them
-  disturbs edits : Limit
-
 abbrev pub number_of : Limit → ℕ
 number_of name_bytes = 1
 number_of objects = 2
@@ -56,27 +47,27 @@ number_of commands = 13
 number_of disturbs = 14
 number_of edits = 15
 
+-- the number of a version
+abbrev pub by_version : ℕ → ℕ → ℕ → ℕ
+by_version version one two = if version == 2 then two else one
+
 -- how many there may be in a script of a version
 abbrev pub greatest : ℕ → Limit → ℕ
-greatest version name_bytes = 64
-greatest version objects = if version == 2 then 1024 else 256
-greatest version predicates = 64
-greatest version arity = 6
-greatest version axioms = 64
-greatest version literals = 6
-greatest version variables = 12
-greatest version operators = 32
-greatest version parameters = 8
-greatest version operator_atoms = 16
-greatest version facts = if version == 2 then 1024 else 512
-greatest version goal_atoms = 16
-greatest version commands = if version == 2 then 1024 else 512
-greatest version disturbs = 64
-greatest version edits = 16
-
--- The number of the limit of numbers, those that a script may give.
-abbrev pub number_of_numbers : ℕ
-number_of_numbers = 16
+greatest version name_bytes = NAME_BYTES
+greatest version objects = by_version version OBJECTS OBJECTS_OF_TWO
+greatest version predicates = PREDICATES
+greatest version arity = most_arguments
+greatest version axioms = most_clauses
+greatest version literals = most_literals
+greatest version variables = most_formula_variables
+greatest version operators = OPERATORS
+greatest version parameters = most_parameters
+greatest version operator_atoms = OPERATOR_ATOMS
+greatest version facts = by_version version FACTS FACTS_OF_TWO
+greatest version goal_atoms = GOAL_ATOMS
+greatest version commands = by_version version COMMANDS COMMANDS_OF_TWO
+greatest version disturbs = DISTURBS
+greatest version edits = EDITS
 
 pub record Bounds : Type 0 where
   pub least : ℕ
@@ -92,20 +83,10 @@ abbrev pub of_height : Bounds
 of_height = bounds 1 most_height
 
 abbrev pub of_nodes : Bounds
-of_nodes = bounds 1 50000
+of_nodes = bounds 1 most_script_nodes
 
 abbrev pub of_shapes : Bounds
 of_shapes = bounds 2 most_shapes
 
 abbrev pub of_turn : Bounds
-of_turn = bounds 1 9999
-
--- the height, the nodes and the shapes of a script whose lines give none
-abbrev pub default_height : ℕ
-default_height = 4
-
-abbrev pub default_nodes : ℕ
-default_nodes = 10000
-
-abbrev pub default_shapes : ℕ
-default_shapes = 10000
+of_turn = bounds 1 last_turn

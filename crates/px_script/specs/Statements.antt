@@ -3,6 +3,13 @@ use Rattle.std.specs.Prelude.{ℕ, Bool, true, false, List, [], ◌∷◌, codes
 use Rattle.std.specs.List.{flat_map}
 use Rattle.px_script.specs.Lexemes.{Lexeme, name}
 use Rattle.px_script.specs.Items.{Item, SignedAtom, WrittenRoomEdit, Binding, the, amount, new, declared, listed, known, atoms, bindings, room_edits, an_object, a_predicate, an_operator, a_parameter, a_room, a_door, a_box, a_plan, a_table, spell, open_word}
+-- what a block is of, where a line stands, and what its atoms may be
+pub use Rattle.px_script.specs.declared.kinds.Block.{Block}
+pub use Rattle.px_script.specs.declared.kinds.Block.TheVariants.{Operator as operator_block, Building as building_block, TableSteps as table_steps, TableRows as table_rows}
+pub use Rattle.px_script.specs.declared.kinds.Place.{Place}
+pub use Rattle.px_script.specs.declared.kinds.Place.TheVariants.{First as first, Domain as domain, Setting as setting, Opens as opens, Inside as inside, Closes as closes, Command as command}
+pub use Rattle.px_script.specs.declared.kinds.Manner.{Manner}
+pub use Rattle.px_script.specs.declared.kinds.Manner.TheVariants.{Plain as plain, Patterns as patterns, Literals as literals, Goals as goals, AtomChanges as atom_changes, RoomChanges as room_changes, TableTerms as table_terms, TableGoals as table_goals}
 
 -- What a line says, by its form. Names are their bytes.
 pub data Statement : Type 0 where
@@ -26,38 +33,6 @@ pub data Statement : Type 0 where
   disturb_rooms : ℕ → Bool → List WrittenRoomEdit → Statement
   run : List ℕ → List Binding → Statement
   facts : Statement
-
--- What a block is of. A table's block, of version 2, is one of steps up to its goal, and one of rows after it.
-pub data Block : Type 0 where
-  operator_block building_block table_steps table_rows : Block
-
-pub data Place : Type 0 where
-  -- only as the first line with tokens
-  first : Place
-  -- of the script's own domain, which a building excludes
-  domain : Place
-  setting : Place
-  opens : Block → Place
-  inside : Block → Place
-  closes : Place
-  command : Place
-
--- what the atoms of a line may be, and of which scripts its edits are
-pub data Manner : Type 0 where
-  -- names as arguments
-  plain : Manner
-  -- of a delete list: names and $
-  patterns : Manner
-  -- of an axiom: with or without ~, names and variables
-  literals : Manner
-  -- of a goal: names and variables
-  goals : Manner
-  -- edits, with + or -, of a script without a building; names
-  atom_changes : Manner
-  -- edits of a building
-  room_changes : Manner
-  -- of the steps and proofs of a table's block: names and the parameters of the table; of its goal: with variables of the goal, too
-  table_terms table_goals : Manner
 
 pub record Line : Type 0 where
   pub word : List ℕ

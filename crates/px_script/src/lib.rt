@@ -8,7 +8,7 @@
 //! 2. `Items` and `Statements`: what may stand in a line after its word, and each line described once (`line_of`): its word, its
 //!    place, what its atoms may be, and its items.
 //! 3. `Limits`: the words and the limits of each version (`greatest`).
-//! 4. `Commands` and `Declarations`: what a line adds to what the lines before it declared (`declares`, `after_line`).
+//! 4. `Commands` (those of the code) and `Declarations`: what a line adds to what the lines before it declared (`declares`, `after_line`).
 //! 5. `Forms`: which statement the lexemes of a line are.
 //! 6. `Stages`, `Causes` and `Faults`: what is built; the causes to refuse a line that follow from its description alone; and all
 //!    causes in their order (`causes`), of which the first that is there is the fault (`fault_at`).
@@ -20,8 +20,11 @@
 //!
 //! # Calling it
 //!
-//! There is no code here but laws, as functions without a body. `px_reader` reads what is defined here.
+//! The definitions cite the kinds of things that stand in lines, and the commands, as the code has them (`kinds`, [`Command`]), and
+//! each number of the limits (`limits`). Beside these there are laws, as functions without a body. `px_lines` and `px_reader` read
+//! what is defined here.
 //!
+//! - [`Script`] is a script that was read, by its parts. It keeps that what it is about is in range.
 //! - [`reads_one_way`]: bytes are a script (`Spells`, and `IsScript` with what it is about), or they have a first fault
 //!   (`FirstFault`), never both, and there is at most one of each. Each of these takes the stage, which is how much is built
 //!   (`stage_now`), and the law holds for every stage, so for the whole of version 1 (`whole_language`), too.
@@ -32,8 +35,8 @@
 //! - [`worked_lines`] and [`worked_texts`]: what the definition says of small lines, and of small texts from their bytes, to be
 //!   compared with what a reader expects.
 //!
-//! The modules of `proofs` that px_reader cites (`Scanning`, `Parsing`, `Faultless`, `States` and lemmas) aren't part of what a script
-//! is: no clause of a public call speaks of them.
+//! The modules of `proofs` that px_lines and px_reader cite (`Scanning`, `Parsing`, `Rows`, `Faultless`, `States` and lemmas) aren't part
+//! of what a script is: of public calls only those of px_lines speak of them.
 #![tactic(auto)]
 
 ghost use Rattle.std.specs.Prelude.{List, ℕ};
@@ -47,6 +50,19 @@ ghost use Rattle.px_script.specs.Scripts.{ReadsOneWay, IsScript};
 ghost use Rattle.px_script.specs.Worked.{WorkedScripts, WorkedRefusals};
 ghost use Rattle.px_script.specs.WorkedLines.{WorkedBuildings, WorkedCommands, WorkedDomains, WorkedLimits, WorkedSpellings};
 ghost use Rattle.px_script.specs.WorkedLater.{WorkedLater};
+
+mod command;
+mod kinds;
+mod limits;
+mod script;
+
+pub use command::{Binding, Command};
+pub use kinds::{Block, Choice, Last, Manner, Named, One, Place, Sign};
+pub use limits::{
+    DEFAULT_HEIGHT, DEFAULT_NODES, DEFAULT_SHAPES, LAST_PARAMETER, LAST_TURN, Limit,
+    MOST_SCRIPT_NODES, NAME_BYTES, NUMBER_OF_NUMBERS, greatest,
+};
+pub use script::Script;
 
 /// Small lines of all of version 1, each after lines without a fault: what it leaves, or its first fault; how lines are written; the
 /// greatest numbers allowed, and the least of the limits that are passed; and what follows from the description of lines of version 2.

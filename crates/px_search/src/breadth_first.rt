@@ -1,5 +1,6 @@
 //! The search, breadth first.
-ghost use Rattle.std.specs.Prelude.{◌≡◌, ◌+◌, ◌<◌, ◌≤◌, ◌^◌, ℕ, Bool, List, length, slice_get, Some, IfOk, IfErr, IsTrue, OnOk};
+ghost use Rattle.std.specs.Prelude.{◌≡◌, ◌+◌, ◌<◌, ◌≤◌, ℕ, Bool, List, length, slice_get, Some, IfOk, IfErr, IsTrue, OnOk};
+ghost use Rattle.px_base.specs.Bounds.{u32_max};
 ghost use Rattle.px_table.specs.declared.entry.Move.{Move};
 ghost use Rattle.px_table.specs.declared.node.Node.{Node};
 ghost use Rattle.px_entries.specs.Unlimited.{IsNeverLimited};
@@ -86,7 +87,7 @@ fn path_to(
 fn count_to(alloc: Global, numbers: &Numbers, origins: &Vec<Origin>) -> Result<u32, NoMemory>
     requires earlier { AreEarlier origins.now.items }
     requires traced { (found : List (List Move)) × Trace numbers.now origins.now.items found }
-    requires few { length origins.now.items < 2 ^ 32 }
+    requires few { length origins.now.items ≤ u32_max }
     ensures { IfOk result (λ count. (moves : List Move) × (count ≡ length moves)
         × ((found : List (List Move)) → Trace numbers.now origins.now.items found
         → slice_get found (length origins.now.items) ≡ Some moves)) }

@@ -1,5 +1,6 @@
 //! The search.
 ghost use Rattle.std.specs.Prelude.{◌≡◌, ◌<◌, ◌≤◌, ◌⊎◌, ℕ, List, [], length, All, IfOk, IfErr, IsErrOf, IsTrue};
+ghost use Rattle.px_terms.specs.Limits.{most_formula_variables};
 ghost use Rattle.px_base.specs.Bounds.{u32_max};
 ghost use Rattle.px_terms.specs.declared.atom.Atom.{Atom};
 ghost use Rattle.px_terms.specs.Plans.{Carries};
@@ -71,7 +72,7 @@ pub fn search(
 ) -> Result<Found, SearchErr>
     requires problem { IsValid problem.now }
     requires goal { All (IsAtomOf problem.now vars) goal.now }
-    requires few_variables { vars ≤ 12 }
+    requires few_variables { vars ≤ most_formula_variables }
     requires some_object { 0 < vars → 0 < problem.now.objects }
     requires tables { AreLearned problem.now tables.now }
     ensures found { IfOk result (λ plan. IsFound (task_of problem.now tables.now initial.now.atoms goal.now vars) plan.moves) }

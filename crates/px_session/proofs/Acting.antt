@@ -1,6 +1,6 @@
 -- How a turn is reported.
 use Rattle.std.specs.Prelude.{◌≡◌, ◌⊎◌, ℕ, true, false, Option, None, List}
-use Rattle.std.proofs.Common.{refl, sym, ap, ◌∙◌, subst, inl, inr}
+use Rattle.std.proofs.Common.{refl, subst, inl, inr}
 use Rattle.px_terms.specs.declared.atom.Atom.{Atom}
 use Rattle.px_terms.specs.declared.instance.OpInst.{OpInst}
 use Rattle.px_planex.specs.declared.event.Event.TheVariants.{Sense, Act}
@@ -8,7 +8,7 @@ use Rattle.px_planex.specs.declared.event.Outcome.{Outcome}
 use Rattle.px_planex.specs.declared.event.Outcome.TheVariants as outcome
 use Rattle.px_planex.specs.Execution.{Happens, Memory, Running, remembered_step}
 use Rattle.px_planex.specs.Executors.{PlanexValue, running}
-use Rattle.px_planex.specs.Turns.{AtNoKernel, EndsTurn, Recorded, TurnValue, after_edits, disturbed_by, edits_at}
+use Rattle.px_planex.specs.Turns.{EndsTurn, Recorded, after_edits, edits_at}
 use Rattle.px_printer.specs.declared.turn.Turn.{Turn}
 use Rattle.px_printer.specs.declared.turn.TurnEnd.{TurnEnd}
 use Rattle.px_printer.specs.declared.turn.TurnEnd.TheVariants as told

@@ -1,18 +1,17 @@
 -- What a session keeps, from its opening on and by each lawful reply.
-use Rattle.std.specs.Prelude.{◌≡◌, ◌≢◌, ◌⊎◌, ◌<◌, ◌≤◌, ◌+◌, ℕ, Option, List, [], ◌∷◌, length, map, take, flat_map, All, AllPairs, Contains, IfSome}
+use Rattle.std.specs.Prelude.{◌≡◌, ◌≢◌, ◌⊎◌, ◌<◌, ◌≤◌, ◌+◌, ℕ, Option, List, [], ◌∷◌, length, take, flat_map, All, AllPairs, Contains, IfSome}
 use Rattle.std.proofs.Common.{refl, sym, ap, ◌∙◌, subst, arith, get_or, zero, suc, inl}
-use Rattle.std.proofs.lemmas.List.{get_or-map, length-append, length-map}
+use Rattle.std.proofs.lemmas.List.{length-append}
 use Rattle.std.proofs.lemmas.List.Elements.{All-nil, All-weaker, Contains-append_cases}
 use Rattle.px_base.specs.Bounds.{u32_max}
 use Rattle.px_terms.specs.declared.problem.Problem.{Problem}
 use Rattle.px_table.specs.Kernels.{KernelsCarry}
 use Rattle.px_printer.specs.Replies.{IsReplyNamed}
 use Rattle.px_printer.specs.declared.reply.Reply.{Reply}
-use Rattle.px_reader.specs.declared.command.Command as code
-use Rattle.px_reader.specs.CommandViews.{command_view}
-use Rattle.px_script.specs.Commands as command
+use Rattle.px_script.specs.declared.command.Command.{Command}
+use Rattle.px_script.specs.declared.command.Command.TheVariants as command
 use Rattle.px_script.specs.Content.{ScriptValue}
-use Rattle.px_script.specs.Limits as limit
+use Rattle.px_script.specs.declared.limits.Limit.TheVariants as limit
 use Rattle.px_script.specs.Limits.{greatest}
 use Rattle.px_script.specs.Ranges.{IsBindingOf, IsBuildingOf, IsCommandOf, IsInRange, result_given}
 use Rattle.px_world.specs.declared.thing.Thing.{Thing}
@@ -48,10 +47,10 @@ binding-ready problem bound each once = record {
 no-edits : (problem : Problem) (building : Option RoomState) → AreEditsToNote problem building []
 no-edits problem building = record { own = All-nil (IsOwnEdit problem); taken = All-nil (Takes building) }
 
-abbrev IsReady : Problem → Option (List Thing) → ℕ → command.Command → Type 0
+abbrev IsReady : Problem → Option (List Thing) → ℕ → Command → Type 0
 IsReady problem building results given = IsRunnable problem (at_first building) given × IsTellable problem results given
 
-ready : (version : ℕ) (problem : Problem) (building : Option (List Thing)) (results : ℕ) (c : command.Command)
+ready : (version : ℕ) (problem : Problem) (building : Option (List Thing)) (results : ℕ) (c : Command)
     → IfSome building (OwnsRoomEdits problem) → IsCommandOf version problem building results c
     → IsReady problem building results c
 ready version problem building results (command.Plan name goal vars) owns of = (
@@ -71,16 +70,16 @@ ready version problem building results (command.Run name bindings) owns of =
     ((binding-ready problem bindings of.1 of.2, no-edits problem (at_first building)), of.0)
 ready version problem building results command.Facts owns of = ((tt, no-edits problem (at_first building)), tt)
 
-pub ready-at : (script : ScriptValue) → IsInRange script → (k : ℕ) (c : command.Command) → k < length script.commands
+pub ready-at : (script : ScriptValue) → IsInRange script → (k : ℕ) (c : Command) → k < length script.commands
     → IsReady script.problem script.building (length script.names.results) (get_or script.commands k c)
 ready-at script range k c below =
     ready script.version script.problem script.building (length script.names.results) (get_or script.commands k c)
     (each-building (IsBuildingOf script.names script.problem script.facts) (OwnsRoomEdits script.problem) script.building
     (owns-room-edits script.names script.problem script.facts) range.building) (range.commands.each k c below)
 
-few-commands : (version count : ℕ) → version ≡ 1 → count ≤ greatest version limit.commands → count < u32_max
+few-commands : (version count : ℕ) → version ≡ 1 → count ≤ greatest version limit.Commands → count < u32_max
 few-commands version count is_one few =
-    let most : count ≤ greatest 1 limit.commands = subst (λ (v : ℕ). count ≤ greatest v limit.commands) is_one few in
+    let most : count ≤ greatest 1 limit.Commands = subst (λ (v : ℕ). count ≤ greatest v limit.Commands) is_one few in
     omega (arith, most)
 
 -- a session keeps what it is to keep before its first command
@@ -109,7 +108,7 @@ record KeepsParts (names : List ℕ) (old new : SessionState) : Type 0 where
   pub recorded : length new.recorded ≤ length old.recorded + 1
   pub learned : (name : ℕ) → Contains new.learned.names name → Contains old.learned.names name ⊎ Contains names name
 
-keeps-parts : (problem : Problem) (old : SessionState) (given : command.Command) (answer : Reply) (new : SessionState)
+keeps-parts : (problem : Problem) (old : SessionState) (given : Command) (answer : Reply) (new : SessionState)
     → Lawful problem old given answer new → KeepsParts (result_given given) old new
 keeps-parts problem old given answer new is =
     replied problem old given (KeepsParts (result_given given) old) (record { recorded = omega arith; learned = λ n has. inl has })
@@ -118,7 +117,7 @@ keeps-parts problem old given answer new is =
     (λ name source params steps new by is. subst (KeepsParts (result_given given) old) (sym is.learned)
     (record {
       recorded = omega arith;
-      learned = λ n has. subst (λ (c : command.Command). Contains old.learned.names n ⊎ Contains (result_given c) n) (sym by)
+      learned = λ n has. subst (λ (c : Command). Contains old.learned.names n ⊎ Contains (result_given c) n) (sym by)
           (Contains-append_cases old.learned.names (name ∷ []) n has);
     }))
     (λ turn between. record {
@@ -134,13 +133,13 @@ abbrev pub after_command : SessionValue → SessionState → ℕ → SessionValu
 after_command session state done = record session { done = done; state = state }
 
 -- a command can be run as long as the same edits are taken
-runnable-later : (problem : Problem) (old new : Option RoomState) → TakeSame old new → (given : command.Command)
+runnable-later : (problem : Problem) (old new : Option RoomState) → TakeSame old new → (given : Command)
     → IsRunnable problem old given
     → IsRunnable problem new given
 runnable-later problem old new same given runs =
     (runs.0, record { own = runs.1.own; taken = takes-later old new (edits_given given) same runs.1.taken })
 
-pub kept-after : (building left : Option RoomState) (session : SessionValue) (given : command.Command) (answer : Reply) (new : SessionState)
+pub kept-after : (building left : Option RoomState) (session : SessionValue) (given : Command) (answer : Reply) (new : SessionState)
     (done : ℕ)
     → IsKeptSession building session → done ≡ session.done + 1 → session.done < length session.commands
     → given ≡ get_or session.commands session.done given → IsRunnable session.problem building given
@@ -166,7 +165,7 @@ kept-after building left session given answer new done kept more below is runs l
       recorded = omega (arith, more, parts.recorded, kept.recorded);
     }
 
-pub named-after : (building : Option RoomState) (session : SessionValue) (given : command.Command) (answer : Reply) (new : SessionState)
+pub named-after : (building : Option RoomState) (session : SessionValue) (given : Command) (answer : Reply) (new : SessionState)
     → IsKeptSession building session
     → IsTellable session.problem (length session.names.results) given → Lawful session.problem session.state given answer new
     → IsReplyNamed session.names answer
@@ -175,24 +174,18 @@ named-after building session given answer new kept tellable lawful =
     tellable lawful
 
 -- the kernels of its tables carry
-pub kernels-after : (building : Option RoomState) (session : SessionValue) (given : command.Command) (answer : Reply) (new : SessionState)
+pub kernels-after : (building : Option RoomState) (session : SessionValue) (given : Command) (answer : Reply) (new : SessionState)
     → IsKeptSession building session
     → Lawful session.problem session.state given answer new → All (KernelsCarry session.problem) (tables_of new)
 kernels-after building session given answer new kept lawful =
     sessions_are_kept.kernels session.problem new (sessions_are_kept.kept session.problem session.state given answer new kept.state lawful)
 
 -- the command at the place
-pub command-at : (commands listed : List code.Command) (k : ℕ) (one : code.Command) → listed ≡ commands
-    → k < length (map command_view commands)
-    → one ≡ get_or listed k one → command_view one ≡ get_or (map command_view commands) k (command_view one)
-command-at commands listed k one same below is =
-    let short : k < length commands = omega (arith, below, length-map commands command_view) in
-    let here : get_or commands k one ≡ one = sym (is ∙ ap (λ (l : List code.Command). get_or l k one) same) in
-    sym (get_or-map command_view commands k one (command_view one) short ∙ ap command_view here)
+pub command-at : (commands listed : List Command) (k : ℕ) (one : Command) → listed ≡ commands
+    → one ≡ get_or listed k one → one ≡ get_or commands k one
+command-at commands listed k one same is = is ∙ ap (λ (l : List Command). get_or l k one) same
 
 -- what holds of all commands holds of the one at the place
-pub at-place : (P : command.Command → Type 0) (commands listed : List code.Command) (k : ℕ) (one : code.Command)
-    → All P (map command_view commands)
-    → listed ≡ commands → k < length (map command_view commands) → one ≡ get_or listed k one → P (command_view one)
-at-place P commands listed k one all same below is =
-    subst P (sym (command-at commands listed k one same below is)) (all k (command_view one) below)
+pub at-place : (P : Command → Type 0) (commands listed : List Command) (k : ℕ) (one : Command)
+    → All P commands → listed ≡ commands → k < length commands → one ≡ get_or listed k one → P one
+at-place P commands listed k one all same below is = subst P (sym (command-at commands listed k one same is)) (all k one below)

@@ -8,7 +8,7 @@ use Rattle.std.proofs.lemmas.List.FromFn.{get_or-range_with_len, length-range_wi
 use Rattle.std.proofs.lemmas.List.{append-nil}
 use Rattle.px_base.proofs.Loops.{take_next}
 use Rattle.px_base.specs.ListLaws.{All-at, All-each, Contains-cases, Contains-none}
-use Rattle.px_script.specs.Commands.{Command}
+use Rattle.px_script.specs.declared.command.Command.{Command}
 use Rattle.px_script.specs.Ranges.{result_given}
 
 -- ---- numbers that are all different

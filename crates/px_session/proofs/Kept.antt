@@ -7,14 +7,14 @@ use Rattle.px_base.specs.ListLaws.{All-at, All-each}
 use Rattle.px_terms.specs.declared.atom.Atom.{Atom}
 use Rattle.px_terms.specs.declared.problem.Problem.{Problem}
 use Rattle.px_terms.specs.AtomSets.{IsAtomSet}
-use Rattle.px_library.specs.Libraries.{most_tables}
+use Rattle.px_table.specs.Limits.{most_tables}
 use Rattle.px_table.specs.declared.table.Table.{Table}
 use Rattle.px_table.specs.KernelLaws.{kernels_carry}
 use Rattle.px_table.specs.Kernels.{KernelsCarry}
 use Rattle.px_general.specs.Limits.{IsTooDeep, IsTooLong, IsTooWide}
 use Rattle.px_printer.specs.declared.reply.Reply.{Reply}
 use Rattle.px_printer.specs.declared.reply.Why.TheVariants.{TooLong, TooDeep, TooWide, Full}
-use Rattle.px_script.specs.Commands as command
+use Rattle.px_script.specs.declared.command.Command.{Command}
 use Rattle.px_session.specs.Determined.{SessionsAreKept}
 use Rattle.px_session.specs.Lawful.{IsLearned, Lawful, turn_told}
 use Rattle.px_session.specs.Sessions.{IsLearnedTable, IsPlanTable, IsSession, SessionState, opening}
@@ -59,7 +59,7 @@ learned-kept problem old session name source params steps new is =
       few = length-more old.learned.tables is.general (λ full. is.allowed Full (short, low, narrow, full));
     })
 
-kept : (problem : Problem) (old : SessionState) (given : command.Command) (answer : Reply) (new : SessionState) → IsSession problem old
+kept : (problem : Problem) (old : SessionState) (given : Command) (answer : Reply) (new : SessionState) → IsSession problem old
     → Lawful problem old given answer new → IsSession problem new
 kept problem old given answer new session is =
     replied problem old given (IsSession problem) session

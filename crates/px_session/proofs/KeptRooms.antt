@@ -8,7 +8,8 @@ use Rattle.px_rooms.specs.States.{RoomState, first_state}
 use Rattle.px_planex.specs.Turns.{Recorded}
 use Rattle.px_printer.specs.declared.reply.Reply.{Reply}
 use Rattle.px_printer.specs.declared.reply.Reply.TheVariants as reply
-use Rattle.px_script.specs.Commands as command
+use Rattle.px_script.specs.declared.command.Command.{Command}
+use Rattle.px_script.specs.declared.command.Command.TheVariants as command
 use Rattle.px_script.specs.Content.{ScriptValue}
 use Rattle.px_script.specs.Ranges.{IsBuildingOf, IsInRange}
 use Rattle.px_session.specs.Lawful.{Lawful, TellsRun, turn_told}
@@ -28,11 +29,11 @@ use Rattle.px_session.proofs.RoomRuns.{rules-left, run-in, same-left}
 
 module _ (problem : Problem) (old : SessionState) (building : RoomState) (session : IsSession problem old)
     (inside : IsInBuilding problem building old) where
-  abbrev Answered : command.Command → Reply → SessionState → Type 0
+  abbrev Answered : Command → Reply → SessionState → Type 0
   Answered given answer new = (left : RoomState) × IsAnsweredInBuilding problem old building given answer new left
 
   -- where the building is as it was
-  as-it-was : (given : command.Command) (answer : Reply) (new : SessionState) → Lawful problem old given answer new
+  as-it-was : (given : Command) (answer : Reply) (new : SessionState) → Lawful problem old given answer new
       → LeavesRooms old given answer building building → IsPlaced problem (Some building) new → Answered given answer new
   as-it-was given answer new lawful leaves placed = (
     building,
@@ -72,13 +73,13 @@ module _ (problem : Problem) (old : SessionState) (building : RoomState) (sessio
       )
   run-answered name bound answer new is = absurd is
 
-  unmoved : (given : command.Command) → RunsNothing given → (answer : Reply) (new : SessionState)
+  unmoved : (given : Command) → RunsNothing given → (answer : Reply) (new : SessionState)
       → LeavesRooms old given answer building building
       → HasTakenEdits (Some building) given → Lawful problem old given answer new → Answered given answer new
   unmoved given no_run answer new leaves taken is =
       as-it-was given answer new is leaves (placed-later problem (Some building) old inside.placed given no_run taken answer new is)
 
-  answered : (given : command.Command) (answer : Reply) (new : SessionState) → HasTakenEdits (Some building) given
+  answered : (given : Command) (answer : Reply) (new : SessionState) → HasTakenEdits (Some building) given
       → Lawful problem old given answer new
       → Answered given answer new
   answered (command.Plan name goal vars) answer new taken is = unmoved (command.Plan name goal vars) tt answer new refl taken is
@@ -94,11 +95,11 @@ module _ (problem : Problem) (old : SessionState) (building : RoomState) (sessio
 -- ---- all commands
 
 module _ (problem : Problem) where
-  abbrev AllAnswered : SessionState → RoomState → List command.Command → List Reply → SessionState → Type 0
+  abbrev AllAnswered : SessionState → RoomState → List Command → List Reply → SessionState → Type 0
   AllAnswered old building commands answers last =
       (end : RoomState) × AreAnswersIn problem old building commands answers last end × IsInBuilding problem end last
 
-  all-answered : (commands : List command.Command) (answers : List Reply) (old : SessionState) (building : RoomState) (last : SessionState)
+  all-answered : (commands : List Command) (answers : List Reply) (old : SessionState) (building : RoomState) (last : SessionState)
       → IsSession problem old → IsInBuilding problem building old → All (HasTakenEdits (Some building)) commands
       → AreAnswers problem old commands answers last → AllAnswered old building commands answers last
   all-answered [] [] old building last session inside taken is =

@@ -2,6 +2,7 @@
 use Rattle.std.specs.Prelude.{◌≡◌, ◌↔◌, ◌≤◌, ℕ, Some, Ok, Err, length}
 use Rattle.std.proofs.Common.{sym, ap, subst, arith}
 use Rattle.std.proofs.lemmas.List.Elements.{All-weaker}
+use Rattle.px_table.specs.Limits.{most_steps, most_tables}
 use Rattle.px_terms.specs.declared.problem.Problem.{Problem}
 use Rattle.px_table.specs.declared.table.Table.{Table}
 use Rattle.px_table.specs.Tables.{IsTable}
@@ -9,7 +10,7 @@ use Rattle.px_entries.specs.Learned.{AreLearned}
 use Rattle.px_general.specs.declared.general_err.GeneralErr.{GeneralErr}
 use Rattle.px_general.specs.General.{Generalises}
 use Rattle.px_general.specs.Limits.{IsTooDeep, IsTooLong, IsTooWide}
-use Rattle.px_library.specs.Libraries.{LibraryValue, most_tables, table_named}
+use Rattle.px_library.specs.Libraries.{LibraryValue, table_named}
 use Rattle.px_printer.specs.declared.reply.Reply.{Reply}
 use Rattle.px_printer.specs.declared.reply.Reply.TheVariants as reply
 use Rattle.px_printer.specs.declared.reply.Why.{Why}
@@ -22,13 +23,13 @@ use Rattle.px_session.proofs.Shapes.{general-alike}
 
 -- ---- the tables of a session
 
-few-steps : (problem : Problem) (table : Table) → IsLearnedTable problem table → length table.steps ≤ 64
+few-steps : (problem : Problem) (table : Table) → IsLearnedTable problem table → length table.steps ≤ most_steps
 few-steps problem table is = grind (arith, is.short)
 
 pub are-learned : (problem : Problem) (state : SessionState) → IsSession problem state → AreLearned problem state.learned.tables
 are-learned problem state is = record {
   few = is.few;
-  short = All-weaker (IsLearnedTable problem) (λ table. length table.steps ≤ 64) (few-steps problem) state.learned.tables is.learned;
+  short = All-weaker (IsLearnedTable problem) (λ table. length table.steps ≤ most_steps) (few-steps problem) state.learned.tables is.learned;
   each = All-weaker (IsLearnedTable problem) (IsTable problem) (λ table of. of.table) state.learned.tables is.learned;
 }
 
@@ -43,7 +44,7 @@ not-answered general why exact is = ok-not-err general why (exact.1 is)
 
 -- the general table has as few steps as the plan
 pub general-few : (problem : Problem) (old : SessionState) → IsSession problem old → (source : ℕ) (plan general : Table)
-    → table_named old.plans source ≡ Some plan → ¬ IsTooLong plan → Generalises problem plan general → length general.steps ≤ 64
+    → table_named old.plans source ≡ Some plan → ¬ IsTooLong plan → Generalises problem plan general → length general.steps ≤ most_steps
 general-few problem old session source plan general named short is =
     let right = plan-right problem old session source plan named in
     let alike = general-alike problem plan general right.table right.no_params right.proper is in

@@ -1,7 +1,7 @@
 -- Each lawful reply to a command that is built has its names.
 use Rattle.std.specs.Prelude.{◌≡◌, ◌<◌, ◌+◌, ℕ, Option, Some, None, List, [], ◌∷◌, length, map, All}
 use Rattle.std.proofs.Common.{refl, sym, ap, ◌∙◌, subst, arith}
-use Rattle.std.proofs.lemmas.List.Elements.{All-cons, All-head, All-map, All-nil, All-tail}
+use Rattle.std.proofs.lemmas.List.Elements.{All-cons, All-head, All-nil, All-tail}
 use Rattle.px_base.specs.ListLaws.{All-at, All-each}
 use Rattle.px_names.specs.Lists.{NameLists}
 use Rattle.px_terms.specs.declared.atom.Atom.{Atom}
@@ -22,7 +22,8 @@ use Rattle.px_printer.specs.Rows.{IsNamedTable}
 use Rattle.px_printer.specs.Texts.{IsNamedAtom, IsNamedInstance, IsNamedTerm}
 use Rattle.px_printer.specs.Turns.{IsNamedStep, IsNamedTurn}
 use Rattle.px_printer.specs.declared.turn.Turn.{Turn}
-use Rattle.px_script.specs.Commands as command
+use Rattle.px_script.specs.declared.command.Command.{Command}
+use Rattle.px_script.specs.declared.command.Command.TheVariants as command
 use Rattle.px_session.specs.Lawful.{FindsPlan, Lawful, Notes, TellsFacts, TellsLearning, TellsRun, TellsSearch, TellsShow, recorded_for, turn_told}
 use Rattle.px_session.specs.Named.{AreNamesOfProblem, IsTellable, RepliesAreNamed}
 use Rattle.px_session.specs.Sessions.{Edit, IsLearnedTable, IsPlanTable, SessionState, any_table, of_atoms, of_rooms}
@@ -158,7 +159,7 @@ named-learning problem names old name source (reply.Learned given params steps) 
 named-learning problem names old name source answer new below also is = absurd is
 
 -- for each command that is built
-pub named-each : (problem : Problem) (names : NameLists) (old : SessionState) (given : command.Command) (answer : Reply)
+pub named-each : (problem : Problem) (names : NameLists) (old : SessionState) (given : Command) (answer : Reply)
     (new : SessionState)
     → AreNamesOfProblem problem names → All (IsAtomOf problem 0) old.atoms
     → All (IsPlanTable problem) old.plans.tables → All (IsLearnedTable problem) old.learned.tables

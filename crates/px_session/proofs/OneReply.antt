@@ -12,7 +12,8 @@ use Rattle.px_printer.specs.Replies.{reply_text}
 use Rattle.px_printer.specs.Texts.{text_line, name_text}
 use Rattle.px_printer.specs.declared.reply.Reply.{Reply}
 use Rattle.px_printer.specs.declared.reply.Reply.TheVariants as reply
-use Rattle.px_script.specs.Commands as command
+use Rattle.px_script.specs.declared.command.Command.{Command}
+use Rattle.px_script.specs.declared.command.Command.TheVariants as command
 use Rattle.px_session.specs.Determined.{LawfulIsOne, SameReply}
 use Rattle.px_session.specs.Lawful.{Lawful, Notes, TellsFacts, TellsShow, recorded_for}
 use Rattle.px_session.specs.Sessions.{Edit, IsSession, SessionState, any_table, of_atoms, of_rooms}
@@ -49,7 +50,7 @@ facts-one old one other new later p q = absurd p
 
 -- ---- all commands
 
-reply-one : (problem : Problem) (old : SessionState) (given : command.Command) (one other : Reply) (new later : SessionState)
+reply-one : (problem : Problem) (old : SessionState) (given : Command) (one other : Reply) (new later : SessionState)
     → IsValid problem → IsSession problem old
     → Lawful problem old given one new → Lawful problem old given other later → SameReply one other × (new ≡ later)
 reply-one problem old (command.Plan name goal vars) one other new later valid session p q =

@@ -15,7 +15,7 @@ use Rattle.px_demo.specs.Script.{demo_script}
 use Rattle.px_printer.specs.Texts.{text_line}
 use Rattle.px_printer.specs.declared.reply.Reply.{Reply}
 use Rattle.px_printer.specs.declared.reply.Reply.TheVariants as reply
-use Rattle.px_script.specs.Commands.{Command}
+use Rattle.px_script.specs.declared.command.Command.{Command}
 use Rattle.px_script.specs.Content.{ScriptValue}
 use Rattle.px_script.specs.Scripts.{IsScript}
 use Rattle.px_script.specs.Stages.{stage_now}

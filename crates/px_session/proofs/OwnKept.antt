@@ -6,7 +6,7 @@ use Rattle.px_terms.specs.declared.problem.Problem.{Problem}
 use Rattle.px_terms.specs.Validity.{IsValid}
 use Rattle.px_planex.specs.Turns.{Recorded}
 use Rattle.px_printer.specs.declared.reply.Reply.{Reply}
-use Rattle.px_script.specs.Commands as command
+use Rattle.px_script.specs.declared.command.Command.{Command}
 use Rattle.px_session.specs.Lawful.{Lawful, recorded_for, turn_told}
 use Rattle.px_session.specs.OwnStates.{HasOwnEdits, IsOwnEdit, IsOwnState, edits_given}
 use Rattle.px_session.specs.Sessions.{Edit, IsSession, SessionState}
@@ -17,7 +17,7 @@ use Rattle.px_session.proofs.Replied.{replied}
 abbrev HasOwn : Problem → Recorded Edit → Type 0
 HasOwn problem one = All (IsOwnEdit problem) one.edits
 
-pub own-kept : (problem : Problem) (old : SessionState) (given : command.Command) (answer : Reply) (new : SessionState) → IsValid problem
+pub own-kept : (problem : Problem) (old : SessionState) (given : Command) (answer : Reply) (new : SessionState) → IsValid problem
     → IsSession problem old → IsOwnState problem old → HasOwnEdits problem given → Lawful problem old given answer new
     → IsOwnState problem new
 own-kept problem old given answer new valid session own edits is =

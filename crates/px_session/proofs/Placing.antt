@@ -8,7 +8,8 @@ use Rattle.px_world.specs.Worlds.{HaveSameRules}
 use Rattle.px_rooms.specs.States.{RoomState}
 use Rattle.px_planex.specs.Turns.{Recorded}
 use Rattle.px_printer.specs.declared.reply.Reply.{Reply}
-use Rattle.px_script.specs.Commands as command
+use Rattle.px_script.specs.declared.command.Command.{Command}
+use Rattle.px_script.specs.declared.command.Command.TheVariants as command
 use Rattle.px_session.specs.declared.place.Place.{Place}
 use Rattle.px_session.specs.declared.place.Place.TheVariants.{Atoms, Rooms}
 use Rattle.px_session.specs.Lawful.{Lawful, recorded_for}
@@ -48,12 +49,12 @@ place-left problem (Rooms building) same = (refl, same)
 -- ---- after each command but a run
 
 -- the command runs nothing
-abbrev pub RunsNothing : command.Command → Type 0
+abbrev pub RunsNothing : Command → Type 0
 RunsNothing (command.Run name bound) = ⊥
 RunsNothing _ = Unit {0}
 
 pub placed-later : (problem : Problem) (building : Option RoomState) (old : SessionState) → IsPlaced problem building old
-    → (given : command.Command)
+    → (given : Command)
     → RunsNothing given → HasTakenEdits building given → (answer : Reply) (new : SessionState) → Lawful problem old given answer new
     → IsPlaced problem building new
 placed-later problem building old placed given no_run taken answer new is =

@@ -8,14 +8,15 @@ use Rattle.px_ends.specs.Tasks.{Task, task_of}
 use Rattle.px_printer.specs.declared.reply.Reply.{Reply}
 use Rattle.px_printer.specs.declared.reply.Reply.TheVariants as reply
 use Rattle.px_printer.specs.declared.turn.Turn.{Turn}
-use Rattle.px_script.specs.Commands as command
+use Rattle.px_script.specs.declared.command.Command.{Command}
+use Rattle.px_script.specs.declared.command.Command.TheVariants as command
 use Rattle.px_session.specs.Lawful.{IsLearned, IsRunOf, Lawful, Notes, TellsFacts, TellsLearning, TellsRun, TellsSearch, TellsShow, recorded_for}
 use Rattle.px_session.specs.OwnStates.{edits_given}
 use Rattle.px_session.specs.Sessions.{Edit, IsPlanTable, SessionState, of_atoms, of_rooms}
 
 -- What holds of the state, and of each state that one more plan, one more learned table, one more disturbance or a run leaves of it, holds
 -- of the state after each lawful reply.
-module _ (problem : Problem) (old : SessionState) (given : command.Command) (P : SessionState → Type 0) (same : P old)
+module _ (problem : Problem) (old : SessionState) (given : Command) (P : SessionState → Type 0) (same : P old)
     (stored : (name : ℕ) (made : Table) → IsPlanTable problem made → P (record old { plans = with_table old.plans name made }))
     (learned : (name source params steps : ℕ) (new : SessionState) → given ≡ command.Learn name source
     → IsLearned problem name source old params steps new → P new)
@@ -63,7 +64,7 @@ module _ (problem : Problem) (old : SessionState) (given : command.Command) (P :
   after-facts (reply.FactsAre atoms) new is = unchanged new is.2
   after-facts answer new is = absurd is
 
-  after-reply : (one : command.Command) → given ≡ one → (answer : Reply) (new : SessionState) → Lawful problem old one answer new → P new
+  after-reply : (one : Command) → given ≡ one → (answer : Reply) (new : SessionState) → Lawful problem old one answer new → P new
   after-reply (command.Plan name goal vars) by answer new is =
       after-search (task_of problem old.learned.tables old.atoms goal vars) refl name answer new is
   after-reply (command.Learn name source) by answer new is = after-learning name source by answer new is

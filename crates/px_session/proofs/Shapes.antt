@@ -2,7 +2,7 @@
 use Rattle.std.specs.Prelude.{◌≡◌, ◌+◌, ◌<◌, List, [], ◌∷◌, map, length, Any}
 use Rattle.std.proofs.Common.{zero, suc, refl, sym, ap, ◌∙◌, subst, arith}
 use Rattle.std.proofs.lemmas.List.{length-map}
-use Rattle.px_terms.specs.declared.instance.OpInst.{OpInst}
+use Rattle.px_table.specs.Limits.{most_steps}
 use Rattle.px_terms.specs.declared.problem.Problem.{Problem}
 use Rattle.px_terms.specs.declared.term.Term.{Term}
 use Rattle.px_terms.specs.declared.term.Term.TheVariants.{Obj}
@@ -88,7 +88,7 @@ general-alike problem plan general is_table no_params proper is =
     }
 
 pub general-short : (plan general : Table) → IsAlike plan general → ¬ IsTooLong plan → ¬ IsTooLong general
-general-short plan general are short long = short (subst (λ n. 64 < n) are.steps long)
+general-short plan general are short long = short (subst (λ n. most_steps < n) are.steps long)
 
 pub general-low : (plan general : Table) → IsAlike plan general → ¬ IsTooDeep plan → ¬ IsTooDeep general
 general-low plan general are low deep =

@@ -1,5 +1,5 @@
 -- A run that is underway: its turns so far, how many turns it may still have, and how many places these may take.
-use Rattle.std.specs.Prelude.{◌≡◌, ◌⊎◌, ◌<◌, ◌≤◌, ◌+◌, ◌-◌, ◌*◌, ℕ, true, false, Option, Some, None, List, [], ◌∷◌, ◌++◌, length}
+use Rattle.std.specs.Prelude.{◌≡◌, ◌<◌, ◌≤◌, ◌+◌, ◌-◌, ◌*◌, ℕ, true, false, Option, Some, None, List, [], ◌∷◌, ◌++◌, length}
 use Rattle.std.proofs.Common.{zero, suc, refl, sym, ap, ◌∙◌, subst, inl, inr, arith, append_assoc}
 use Rattle.std.proofs.Math.Nat.{mul-le-mul_left}
 use Rattle.px_terms.specs.declared.atom.Atom.{Atom}
@@ -10,12 +10,12 @@ use Rattle.px_world.specs.Worlds.{HaveSameRules}
 use Rattle.px_match.specs.Matching.{IsSensed, KernelInstance}
 use Rattle.px_planex.specs.Execution.{Memory, Running}
 use Rattle.px_planex.specs.Executors.{PlanexValue, running}
-use Rattle.px_planex.specs.Turns.{AtNoKernel, IsLastTurn, Recorded, TakesTurn, TakesTurns, TurnValue, after_edits, edits_at}
+use Rattle.px_planex.specs.Turns.{IsLastTurn, Recorded, TakesTurn, TakesTurns, TurnValue, after_edits, edits_at}
 use Rattle.px_planex.proofs.InAtoms.{TurnInAtoms, turn_in_atoms}
 use Rattle.px_planex.proofs.TurnBound.{count-all, count_after, turns-fall}
 use Rattle.px_session.specs.declared.place.Place.{Place}
-use Rattle.px_session.specs.Places.{TakeSame, building_of, place_atoms, place_rules}
-use Rattle.px_session.specs.Running.{HasPlaces, HasTaken, adds_most, edits_for, edits_from, most_turns, places_from, places_of_turn}
+use Rattle.px_session.specs.Places.{TakeSame, building_of, place_atoms}
+use Rattle.px_session.specs.Running.{HasPlaces, HasTaken, adds_most, most_turns, places_from, places_of_turn}
 use Rattle.px_session.specs.Sessions.{Edit, leaves_edit}
 use Rattle.px_session.proofs.Placing.{same-both, same_taken}
 use Rattle.px_session.proofs.RunPlaces.{edits-used}

@@ -10,7 +10,8 @@ use Rattle.px_printer.specs.declared.reply.Reply.{Reply}
 use Rattle.px_printer.specs.declared.reply.Reply.TheVariants as reply
 use Rattle.px_printer.specs.declared.reply.Why.{Why}
 use Rattle.px_printer.specs.declared.reply.Why.TheVariants.{TooLong, TooDeep}
-use Rattle.px_script.specs.Commands as command
+use Rattle.px_script.specs.declared.command.Command.{Command}
+use Rattle.px_script.specs.declared.command.Command.TheVariants as command
 use Rattle.px_session.specs.Lawful.{Lawful, RefusesLearning, first_unknown}
 use Rattle.px_session.specs.Sessions.{SessionState, any_table, opening}
 
@@ -37,7 +38,7 @@ pub record CausesInOrder : Type 0 where
 abbrev pub where_p : SessionState
 where_p = opening (p ∷ [])
 
-abbrev pub plan_p : command.Command
+abbrev pub plan_p : Command
 plan_p = command.Plan 0 (p ∷ []) 0
 
 -- with one learned table

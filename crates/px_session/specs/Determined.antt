@@ -14,7 +14,8 @@ use Rattle.px_table.specs.Kernels.{KernelsCarry}
 use Rattle.px_printer.specs.Replies.{reply_text}
 use Rattle.px_printer.specs.declared.reply.Reply.{Reply}
 use Rattle.px_printer.specs.declared.reply.Reply.TheVariants as reply
-use Rattle.px_script.specs.Commands.{Command, Plan}
+use Rattle.px_script.specs.declared.command.Command.{Command}
+use Rattle.px_script.specs.declared.command.Command.TheVariants.{Plan}
 use Rattle.px_script.specs.Content.{ScriptValue}
 use Rattle.px_session.specs.Demo.{Summary}
 use Rattle.px_session.specs.Lawful.{Lawful}

@@ -1,10 +1,12 @@
 -- What a session keeps.
 use Rattle.std.specs.Prelude.{◌≢◌, ◌<◌, ◌≤◌, ℕ, Option, List, length, take, flat_map, All, AllPairs, Contains}
+use Rattle.px_terms.specs.Limits.{most_formula_variables}
 use Rattle.px_base.specs.Bounds.{u32_max}
 use Rattle.px_terms.specs.declared.atom.Atom.{Atom}
 use Rattle.px_terms.specs.declared.problem.Problem.{Problem}
 use Rattle.px_terms.specs.Validity.{IsAtomOf, IsValid}
-use Rattle.px_script.specs.Commands.{Command, Plan, Run}
+use Rattle.px_script.specs.declared.command.Command.{Command}
+use Rattle.px_script.specs.declared.command.Command.TheVariants.{Plan, Run}
 use Rattle.px_rooms.specs.States.{RoomState}
 use Rattle.px_script.specs.Ranges.{result_given}
 use Rattle.px_session.specs.Named.{AreNamesOfProblem, IsTellable}
@@ -13,10 +15,10 @@ use Rattle.px_session.specs.OwnStates.{IsOwnEdit, IsOwnState, edits_given}
 use Rattle.px_session.specs.Places.{IsPlaced, Takes}
 use Rattle.px_session.specs.Sessions.{Edit, IsSession}
 
--- the goal is one of the problem over at most twelve variables, and there is an object where there is a variable
+-- the goal is one of the problem over no more variables than one may have, and there is an object where there is a variable
 pub record IsGoalToPlan (problem : Problem) (goal : List Atom) (vars : ℕ) : Type 0 where
   pub atoms : All (IsAtomOf problem vars) goal
-  pub few : vars ≤ 12
+  pub few : vars ≤ most_formula_variables
   pub some_object : 0 < vars → 0 < problem.objects
 
 -- parameters, counted from 1, each once, with objects of the problem

@@ -1,5 +1,6 @@
 -- Which replies to a command are lawful, and what state each leaves.
 use Rattle.std.specs.Prelude.{◌≡◌, ◌+◌, ◌≤◌, ◌++◌, ℕ, Bool, nat_lt, Option, Some, None, List, [], ◌∷◌, map, find, length, option_map}
+use Rattle.px_table.specs.Limits.{most_tables}
 use Rattle.px_terms.specs.declared.atom.Atom.{Atom}
 use Rattle.px_terms.specs.declared.instance.OpInst.{OpInst}
 use Rattle.px_terms.specs.declared.problem.Problem.{Problem}
@@ -9,7 +10,7 @@ use Rattle.px_table.specs.declared.entry.Move.{Move}
 use Rattle.px_table.specs.declared.table.Table.{Table}
 use Rattle.px_general.specs.General.{Generalises}
 use Rattle.px_general.specs.Limits.{IsTooDeep, IsTooLong, IsTooWide}
-use Rattle.px_library.specs.Libraries.{most_tables, table_named, with_table}
+use Rattle.px_library.specs.Libraries.{table_named, with_table}
 use Rattle.px_planex.specs.Turns.{AtGoal, AtNoKernel, ByActing, BySlipping, Recorded, RunsTable, TurnValue}
 use Rattle.px_planex.specs.Turns as executed
 use Rattle.px_ends.specs.Ends.{IsExhausted, IsFound, IsNodeLimit, IsShapeLimit}
@@ -22,7 +23,8 @@ use Rattle.px_printer.specs.declared.reply.Why.TheVariants.{TooLong, TooDeep, To
 use Rattle.px_printer.specs.declared.turn.Turn.{Turn}
 use Rattle.px_printer.specs.declared.turn.TurnEnd.{TurnEnd}
 use Rattle.px_printer.specs.declared.turn.TurnEnd.TheVariants.{Acted, Slipped, Goal, NoKernel}
-use Rattle.px_script.specs.Commands as command
+use Rattle.px_script.specs.declared.command.Command.{Command}
+use Rattle.px_script.specs.declared.command.Command.TheVariants as command
 use Rattle.px_session.specs.Sessions.{Edit, IsPlanTable, SessionState, any_table, leaves_edit, of_atoms, of_rooms}
 
 -- ---- plan
@@ -156,7 +158,7 @@ abbrev pub recorded_for : ℕ → Bool → List Edit → Recorded Edit
 recorded_for turn between edits = record { turn = turn; between = between; edits = edits }
 
 -- In this state the command may have this reply, which leaves that state. A search starts from the world's atoms, with the learned tables.
-abbrev pub Lawful : Problem → SessionState → command.Command → Reply → SessionState → Type 0
+abbrev pub Lawful : Problem → SessionState → Command → Reply → SessionState → Type 0
 Lawful problem old (command.Plan name goal vars) answer new =
     TellsSearch (task_of problem old.learned.tables old.atoms goal vars) name old answer new
 Lawful problem old (command.Learn name source) answer new = TellsLearning problem old name source answer new

@@ -1,7 +1,8 @@
 -- What putting a table into the library says.
 use Rattle.std.specs.Prelude.{◌≡◌, ◌≤◌, ℕ, length}
+use Rattle.px_table.specs.Limits.{most_tables}
 use Rattle.px_table.specs.declared.table.Table.{Table}
-use Rattle.px_library.specs.Libraries.{LibraryValue, most_tables, with_table}
+use Rattle.px_library.specs.Libraries.{LibraryValue, with_table}
 use Rattle.px_printer.specs.declared.reply.Reply.{Reply}
 use Rattle.px_printer.specs.declared.reply.Reply.TheVariants as reply
 use Rattle.px_printer.specs.declared.reply.Why.TheVariants.{Full}

@@ -4,7 +4,8 @@ use Rattle.px_terms.specs.declared.problem.Problem.{Problem}
 use Rattle.px_terms.specs.Validity.{IsAtomOf}
 use Rattle.px_rooms.specs.Changes.{edit_schema}
 use Rattle.px_planex.specs.Turns.{Recorded}
-use Rattle.px_script.specs.Commands.{Command, DisturbAtoms, DisturbRooms}
+use Rattle.px_script.specs.declared.command.Command.{Command}
+use Rattle.px_script.specs.declared.command.Command.TheVariants.{DisturbAtoms, DisturbRooms}
 use Rattle.px_script.specs.Ranges.{IsEditOf}
 use Rattle.px_session.specs.Sessions.{Edit, SessionState, of_atoms, of_rooms}
 

@@ -1,5 +1,6 @@
 -- The world of a session's run: the session's atoms, or its building.
 use Rattle.std.specs.Prelude.{◌≡◌, ◌↔◌, ℕ, Option, Some, None, List, All}
+use Rattle.px_base.specs.Bounds.{u64_max}
 use Rattle.px_terms.specs.declared.atom.Atom.{Atom}
 use Rattle.px_terms.specs.declared.problem.Problem.{Problem}
 use Rattle.px_world.specs.Worlds.{HaveSameRules, IsGroundEdit}
@@ -39,7 +40,7 @@ place_rules (Rooms building) = building_rules building
 
 abbrev pub place_spare : Place → ℕ
 place_spare (Atoms world) = world.spare
-place_spare (Rooms building) = 18446744073709551615
+place_spare (Rooms building) = u64_max
 
 abbrev pub building_of : Place → Option RoomState
 building_of (Atoms world) = None

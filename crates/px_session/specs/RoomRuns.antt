@@ -10,7 +10,8 @@ use Rattle.px_rooms.specs.States.{IsRoomState, RoomState, first_state}
 use Rattle.px_planex.specs.Turns.{AtGoal, AtNoKernel, ByActing, BySlipping, Recorded, TurnEnd, TurnValue, edits_at}
 use Rattle.px_printer.specs.declared.reply.Reply.{Reply}
 use Rattle.px_printer.specs.declared.reply.Reply.TheVariants as reply
-use Rattle.px_script.specs.Commands.{Command, Run}
+use Rattle.px_script.specs.declared.command.Command.{Command}
+use Rattle.px_script.specs.declared.command.Command.TheVariants.{Run}
 use Rattle.px_script.specs.Content.{ScriptValue}
 use Rattle.px_script.specs.Ranges.{IsInRange}
 use Rattle.px_session.specs.Lawful.{Lawful, turn_told}

@@ -1,5 +1,6 @@
 -- What a session holds, and what it keeps.
 use Rattle.std.specs.Prelude.{◌≡◌, ◌≤◌, ℕ, Option, Some, None, List, [], length, All}
+use Rattle.px_table.specs.Limits.{most_tables}
 use Rattle.px_terms.specs.declared.atom.Atom.{Atom}
 use Rattle.px_terms.specs.declared.problem.Problem.{Problem}
 use Rattle.px_terms.specs.AtomSets.{IsAtomSet}
@@ -9,7 +10,7 @@ use Rattle.px_table.specs.Tables.{IsTable}
 use Rattle.px_world.specs.Worlds.{edited}
 use Rattle.px_rooms.specs.Changes.{facts_edited}
 use Rattle.px_general.specs.Limits.{IsTooDeep, IsTooLong}
-use Rattle.px_library.specs.Libraries.{LibraryValue, most_tables, no_tables, table_named}
+use Rattle.px_library.specs.Libraries.{LibraryValue, no_tables, table_named}
 use Rattle.px_planex.specs.Turns.{Recorded}
 pub use Rattle.px_session.specs.declared.edit.Edit.{Edit}
 pub use Rattle.px_session.specs.declared.edit.Edit.TheVariants.{OfAtoms as of_atoms, OfRooms as of_rooms}
@@ -43,7 +44,8 @@ any_table state name = first_table (table_named state.plans name) (table_named s
 
 -- ---- what it keeps
 
--- a table like that of each stored plan: it has no parameters, and its own steps delete nothing that its later rows rest on
+-- a table like that of each stored plan: it has no parameters, so that no object has to fit, and its own steps delete nothing that its
+-- later rows rest on
 pub record IsPlanTable (problem : Problem) (plan : Table) : Type 0 where
   pub table : IsTable problem plan
   pub no_params : plan.params ≡ 0
@@ -55,7 +57,7 @@ pub record IsLearnedTable (problem : Problem) (learned : Table) : Type 0 where
   pub short : ¬ IsTooLong learned
   pub low : ¬ IsTooDeep learned
 
--- the world's atoms are a set, and the tables are like those of plans and learned ones, of which there are at most 32
+-- the world's atoms are a set, and the tables are like those of plans and learned ones, of which there are no more than may be learned
 pub record IsSession (problem : Problem) (state : SessionState) : Type 0 where
   pub atoms : IsAtomSet state.atoms
   pub plans : All (IsPlanTable problem) state.plans.tables

@@ -8,7 +8,7 @@ use Rattle.px_planex.specs.Executors.{running}
 use Rattle.px_planex.specs.RunTraces.{run_events, run_outcomes}
 use Rattle.px_printer.specs.declared.reply.Reply.TheVariants as reply
 use Rattle.px_printer.specs.declared.turn.Turn.{Turn}
-use Rattle.px_script.specs.Commands.{Run}
+use Rattle.px_script.specs.declared.command.Command.TheVariants.{Run}
 use Rattle.px_session.specs.Lawful.{Lawful, turn_told}
 use Rattle.px_session.specs.Sessions.{IsSession, SessionState, any_table, leaves_edit}
 

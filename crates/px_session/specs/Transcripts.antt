@@ -5,7 +5,7 @@ use Rattle.px_names.specs.Lists.{NameLists}
 use Rattle.px_terms.specs.declared.problem.Problem.{Problem}
 use Rattle.px_printer.specs.Replies.{reply_text}
 use Rattle.px_printer.specs.declared.reply.Reply.{Reply}
-use Rattle.px_script.specs.Commands.{Command}
+use Rattle.px_script.specs.declared.command.Command.{Command}
 use Rattle.px_script.specs.Content.{ScriptValue}
 use Rattle.px_script.specs.Scripts.{IsScript}
 use Rattle.px_script.specs.Stages.{stage_now}

@@ -8,7 +8,7 @@ use Rattle.px_printer.specs.declared.reply.Reply.{Reply}
 use Rattle.px_printer.specs.declared.reply.Reply.TheVariants as reply
 use Rattle.px_printer.specs.declared.turn.Turn.{Turn}
 use Rattle.px_printer.specs.declared.turn.TurnEnd.TheVariants.{Goal, NoKernel}
-use Rattle.px_script.specs.Commands as command
+use Rattle.px_script.specs.declared.command.Command.TheVariants as command
 use Rattle.px_script.specs.Content.{ScriptValue}
 use Rattle.px_session.specs.Transcripts.{AreAnswersTo, texts}
 

@@ -2,7 +2,6 @@
 ghost use Rattle.std.specs.Prelude.{◌≡◌, ◌<◌, ◌++◌, All, Contains, IfOk, OnErr, OnOk, length, map};
 ghost use Rattle.px_base.specs.Bounds.{u32_max};
 ghost use Rattle.px_terms.specs.Validity.{IsValid};
-ghost use Rattle.px_reader.specs.CommandViews.{binding_pair, command_view};
 ghost use Rattle.px_script.specs.Ranges.{result_given};
 ghost use Rattle.px_session.specs.KeptSessions.{IsRunnable};
 ghost use Rattle.px_session.specs.Lawful.{Lawful};
@@ -13,8 +12,8 @@ use crate::edit::Edit;
 use crate::state::State;
 use px_base::{NoMemory, Sequence, push};
 use px_printer::Reply;
-use px_reader::{Binding, Command};
 use px_rooms::RoomWorld;
+use px_script::{Binding, Command};
 use px_terms::Problem;
 use px_world::{AtomEdit, RoomEdit};
 use std::alloc::Global;
@@ -34,10 +33,10 @@ pub(crate) fn run_command(
     requires problem { IsValid problem.now }
     requires state { IsSession problem.now state.old }
     requires placed { IsPlaced problem.now building.old state.old }
-    requires runnable { IsRunnable problem.now building.old (command_view command.now) }
+    requires runnable { IsRunnable problem.now building.old command.now }
     requires few { length state.old.recorded < u32_max }
-    requires new_names { All (λ name. ¬ Contains state.old.learned.names name) (result_given (command_view command.now)) }
-    ensures lawful { IfOk result (λ reply. Lawful problem.now state.old (command_view command.now) reply state.new) }
+    requires new_names { All (λ name. ¬ Contains state.old.learned.names name) (result_given command.now) }
+    ensures lawful { IfOk result (λ reply. Lawful problem.now state.old command.now reply state.new) }
     ensures placed { OnOk result (IsPlaced problem.now building.new state.new) }
     ensures takes { TakeSame building.old building.new }
     ensures kept { OnErr result (state.new ≡ state.old) }
@@ -75,11 +74,11 @@ pub(crate) fn run_command(
 
 /// Returns the bindings as pairs of a parameter and an object.
 fn pairs(alloc: Global, bindings: &[Binding]) -> Result<Vec<(u32, u32)>, NoMemory>
-    ensures { IfOk result (λ bound. bound.items ≡ map binding_pair bindings.now) }
+    ensures { IfOk result (λ bound. bound.items ≡ bindings.now) }
 {
     let mut bound = Vec::new(alloc);
     for binding in bindings {
-        push(&mut bound, (binding.parameter, binding.object))?;
+        push(&mut bound, binding.pair())?;
     }
     Ok(bound)
 }

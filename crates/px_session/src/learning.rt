@@ -1,7 +1,7 @@
 //! Learning in a session.
 ghost use Rattle.std.specs.Prelude.{◌≡◌, ◌≤◌, Contains, IfOk, OnErr, length};
 ghost use Rattle.px_terms.specs.Validity.{IsValid};
-ghost use Rattle.px_library.specs.Libraries.{most_tables};
+ghost use Rattle.px_table.specs.Limits.{most_steps, most_tables};
 ghost use Rattle.px_session.specs.Learning.{IsPut};
 ghost use Rattle.px_session.specs.Lawful.{TellsLearning};
 ghost use Rattle.px_session.specs.Sessions.{IsSession};
@@ -22,7 +22,7 @@ use std::alloc::Global;
 fn put_into(library: &mut Library, name: u32, general: Table) -> Result<Reply, NoMemory>
     requires new_name { ¬ Contains library.old.names name }
     requires few { length library.old.tables ≤ most_tables }
-    requires short { length general.steps ≤ 64 }
+    requires short { length general.steps ≤ most_steps }
     ensures put { IfOk result (λ reply. IsPut library.old name general reply library.new) }
     ensures kept { OnErr result (library.new ≡ library.old) }
 {

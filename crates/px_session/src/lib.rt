@@ -4,7 +4,7 @@
 //!
 //! # Calling it
 //!
-//! - [`Session::new`] takes a [`px_reader::Script`] that was read. [`Session::execute`] answers command `k`, each once and in
+//! - [`Session::new`] takes a [`px_script::Script`] that was read. [`Session::execute`] answers command `k`, each once and in
 //!   order: `plan`, `learn`, `show`, `disturb`, `run` and `facts`. Its reply is lawful, each number that it prints as a name has
 //!   one, and after a refusal for memory the session is as it was. Contracts see a session as a `SessionValue` (`specs/Opened`); what it
 //!   keeps is in `specs/KeptSessions`.

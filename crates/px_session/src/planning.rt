@@ -1,5 +1,6 @@
 //! Planning in a session.
 ghost use Rattle.std.specs.Prelude.{◌≡◌, ◌<◌, ◌≤◌, All, IfOk, OnErr};
+ghost use Rattle.px_terms.specs.Limits.{most_formula_variables};
 ghost use Rattle.px_terms.specs.Validity.{IsAtomOf, IsValid};
 ghost use Rattle.px_ends.specs.Tasks.{task_of};
 ghost use Rattle.px_session.specs.Lawful.{TellsSearch};
@@ -30,7 +31,7 @@ impl State {
     ) -> Result<Reply, NoMemory>
         requires problem { IsValid problem.now }
         requires goal { All (IsAtomOf problem.now vars) goal.now }
-        requires few_variables { vars ≤ 12 }
+        requires few_variables { vars ≤ most_formula_variables }
         requires some_object { 0 < vars → 0 < problem.now.objects }
         requires session { IsSession problem.now self.old }
         ensures told { IfOk result (λ reply. TellsSearch

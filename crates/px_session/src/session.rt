@@ -3,8 +3,8 @@ ghost use Rattle.std.specs.Prelude.{◌≡◌, ◌+◌, ◌<◌, All, IfOk, IfSo
 ghost use Rattle.std.specs.Option.{option_map};
 ghost use Rattle.px_base.specs.Bounds.{u32_max};
 ghost use Rattle.px_printer.specs.Replies.{IsReplyNamed};
-ghost use Rattle.px_reader.specs.LineReads.{content};
-ghost use Rattle.px_script.specs.Commands.{Facts};
+ghost use Rattle.px_script.specs.ReadScripts.{content};
+ghost use Rattle.px_script.specs.declared.command.Command.TheVariants.{Facts};
 ghost use Rattle.px_rooms.specs.States.{IsBuilding, first_state};
 ghost use Rattle.px_table.specs.Kernels.{KernelsCarry};
 ghost use Rattle.px_session.specs.Lawful.{Lawful};
@@ -16,8 +16,8 @@ use px_base::{NoMemory, Sequence};
 use px_names::Names;
 use px_ops::Model;
 use px_printer::Reply;
-use px_reader::{Command, Script};
 use px_rooms::{Building, RoomErr, RoomWorld};
+use px_script::{Command, Script};
 use px_terms::Problem;
 use std::alloc::Global;
 
@@ -34,10 +34,8 @@ pub struct Session {
 }
 
 impl std::marker::Model for Session {
-    ghost use Rattle.std.specs.Prelude.{map};
     ghost use Rattle.std.specs.Coded.{codes};
     ghost use Rattle.px_proof.specs.contracts.proof.Proof as term;
-    ghost use Rattle.px_reader.specs.CommandViews.{command_view};
     ghost use Rattle.px_session.specs.KeptSessions.{IsKeptSession};
     ghost use Rattle.px_session.specs.Opened.{SessionValue};
 
@@ -48,7 +46,7 @@ impl std::marker::Model for Session {
     ghost view = { λ s. record {
       problem = s.problem;
       names = s.names;
-      commands = map command_view s.commands;
+      commands = s.commands;
       done = s.done;
       state = s.state;
     } };
@@ -56,7 +54,7 @@ impl std::marker::Model for Session {
     ghost invariant = { λ s. IsKeptSession s.building (record {
       problem = s.problem;
       names = s.names;
-      commands = map command_view s.commands;
+      commands = s.commands;
       done = s.done;
       state = s.state;
     }) };

@@ -5,6 +5,7 @@ use Rattle.std.proofs.Math.Seq.{drop-cons}
 use Rattle.std.proofs.Math.ListN.{drop_of_length-le}
 use Rattle.std.proofs.lemmas.List.{append-nil, reverse-append}
 use Rattle.std.proofs.lemmas.List.Elements.{All-append, All-cons, All-head, All-nil, All-tail}
+use Rattle.px_table.specs.Limits.{most_steps}
 use Rattle.px_base.specs.declared.no_memory.NoMemory.{NoMemory}
 use Rattle.px_terms.specs.declared.atom.Atom.{Atom}
 use Rattle.px_terms.specs.declared.instance.OpInst.{OpInst}
@@ -117,7 +118,7 @@ module _ (task : Task) where
     pub rows : (rest : List (List Derivation)) → MovesRows task (node_in walk) walk.steps.items (drop i moves) rest
         → MovesRows task (initial_node task) [] moves (rows_of walk.rows.items ++ rest)
     pub all_ground : All (IsGroundInstanceOf task.problem) walk.steps.items
-    pub short : length walk.steps.items + 64 * length (drop i moves) ≤ 64 * length moves
+    pub short : length walk.steps.items + most_steps * length (drop i moves) ≤ most_steps * length moves
 
 module _ (task : Task) (learned : AreLearned task.problem task.tables) where
   -- the steps that are left, with those of the first move
@@ -151,7 +152,7 @@ module _ (task : Task) (learned : AreLearned task.problem task.tables) where
       let instances = macro-instances task.problem (table_at task.tables number) prefix sigma found.0 found.1 in
       λ k d below. instance-is_ground task.problem _ (instances k d below)
 
-  entry-short : (entry : Entry) → IsEntry task.problem task.tables entry → length (effect_of task.tables entry) ≤ 64
+  entry-short : (entry : Entry) → IsEntry task.problem task.tables entry → length (effect_of task.tables entry) ≤ most_steps
   entry-short (Op inst) is = omega arith
   entry-short (Macro number prefix sigma) is =
       let table = table_at task.tables number in
@@ -164,7 +165,7 @@ module _ (task : Task) (learned : AreLearned task.problem task.tables) where
   top-ground [] all = All-nil (IsGroundInstanceOf task.problem)
   top-ground (entry ∷ below) all = entry-ground entry (All-head (IsEntry task.problem task.tables) entry below all)
 
-  top-short : (stack : List Entry) → All (IsEntry task.problem task.tables) stack → length (top_steps task.tables stack) ≤ 64
+  top-short : (stack : List Entry) → All (IsEntry task.problem task.tables) stack → length (top_steps task.tables stack) ≤ most_steps
   top-short [] all = omega arith
   top-short (entry ∷ below) all = entry-short entry (All-head (IsEntry task.problem task.tables) entry below all)
 
@@ -173,7 +174,7 @@ module _ (task : Task) (learned : AreLearned task.problem task.tables) where
   by-ground node (Push entry) all = All-nil (IsGroundInstanceOf task.problem)
   by-ground node Apply all = top-ground node.stack all
 
-  by-short : (node : Node) (m : Move) → All (IsEntry task.problem task.tables) node.stack → length (steps_by task node m) ≤ 64
+  by-short : (node : Node) (m : Move) → All (IsEntry task.problem task.tables) node.stack → length (steps_by task node m) ≤ most_steps
   by-short node (Push entry) all = omega arith
   by-short node Apply all = top-short node.stack all
 
@@ -209,7 +210,7 @@ module _ (task : Task) (learned : AreLearned task.problem task.tables) where
   next-takeable moves i m walk below is going = (subst (AreTakeable task (node_in walk)) (next-left moves i m below is) going.takeable).0
 
   pub next-short : (moves : List Move) (i : ℕ) (walk : Walk) → i < length moves → IsGoing task moves i walk
-      → length walk.steps.items + 64 ≤ 64 * length moves
+      → length walk.steps.items + most_steps ≤ most_steps * length moves
   next-short moves i walk below going = let d = length-drop-some moves i below in omega (arith, d, going.short)
     where
       length-drop-some : (moves : List Move) (i : ℕ) → i < length moves → 0 < length (drop i moves)
@@ -223,8 +224,8 @@ module _ (task : Task) (learned : AreLearned task.problem task.tables) where
       let rest = drop (i + 1) moves in
       let by = steps_by task (node_in walk) m in
       let here = by-short (node_in walk) m going.entries in
-      let was : length walk.steps.items + 64 * length (m ∷ rest) ≤ 64 * length moves =
-      subst (λ (l : List Move). length walk.steps.items + 64 * length l ≤ 64 * length moves) left going.short in
+      let was : length walk.steps.items + most_steps * length (m ∷ rest) ≤ most_steps * length moves =
+      subst (λ (l : List Move). length walk.steps.items + most_steps * length l ≤ most_steps * length moves) left going.short in
       let long : length next.steps.items ≡ length walk.steps.items + length by =
       ap length taken.steps ∙ length-append walk.steps.items by in
       record {

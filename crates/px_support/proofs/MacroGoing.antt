@@ -5,6 +5,7 @@ use Rattle.std.specs.List.{AllZip}
 use Rattle.std.proofs.lemmas.List.{append-nil, length-map}
 use Rattle.std.proofs.lemmas.List.Elements.{All-append, All-cons, All-head, All-nil, All-tail}
 use Rattle.std.proofs.lemmas.Option.{slice_get_read, slice_get_within}
+use Rattle.px_table.specs.Limits.{most_steps}
 use Rattle.px_base.specs.Bounds.{u32_max}
 use Rattle.px_base.specs.declared.no_memory.NoMemory.{NoMemory}
 use Rattle.px_base.specs.ListLaws.{All-each}
@@ -291,13 +292,13 @@ module _ (problem : Problem) (tables : List Table) (all : AreLearned problem tab
       ap (λ (o : Option Table). unwrap_or o empty_table)
       (slice_get_read tables (length tables) number table refl (slice_get_within tables number entry.0 entry.1) is)
 
-  pub table-learned : IsTable problem table × IsMacro problem table prefix sigma × (length table.steps ≤ 64)
+  pub table-learned : IsTable problem table × IsMacro problem table prefix sigma × (length table.steps ≤ most_steps)
   table-learned =
-      subst (λ (t : Table). IsTable problem t × IsMacro problem t prefix sigma × (length t.steps ≤ 64)) found
+      subst (λ (t : Table). IsTable problem t × IsMacro problem t prefix sigma × (length t.steps ≤ most_steps)) found
       (macro-table problem tables all number prefix sigma entry)
 
   pub learned-is : (learned : Learned) → learned.table.now ≡ table → learned.prefix ≡ prefix → learned.sigma.now ≡ sigma
-      → learned.terms.now ≡ map Obj sigma → learned.shift + 64 ≤ u32_max → IsLearnedOf problem learned
+      → learned.terms.now ≡ map Obj sigma → learned.shift + most_steps ≤ u32_max → IsLearnedOf problem learned
   learned-is learned table_is prefix_is sigma_is terms room = record {
     table = subst (IsTable problem) (sym table_is) table-learned.0;
     is_macro = rw (table_is, prefix_is, sigma_is) table-learned.1;

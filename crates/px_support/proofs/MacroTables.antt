@@ -3,6 +3,7 @@ use Rattle.std.specs.Prelude.{◌≡◌, ◌≤◌, ℕ, Option, List, [], ◌�
 use Rattle.std.proofs.Common.{zero, suc, refl, sym, ap, ◌∙◌, subst, inl, arith}
 use Rattle.std.proofs.lemmas.List.{length-map}
 use Rattle.std.proofs.lemmas.List.Elements.{All-map, All-take}
+use Rattle.px_table.specs.Limits.{most_steps}
 use Rattle.px_base.specs.ListLaws.{All-at, All-each}
 use Rattle.px_terms.specs.declared.instance.OpInst.{OpInst}
 use Rattle.px_terms.specs.declared.problem.Problem.{Problem}
@@ -28,13 +29,13 @@ module _ (problem : Problem) (tables : List Table) (learned : AreLearned problem
       ap (λ (o : Option Table). unwrap_or o empty_table) entry.1
 
   pub macro-table : IsTable problem (table_at tables number) × IsMacro problem (table_at tables number) prefix sigma
-      × (length (table_at tables number).steps ≤ 64)
+      × (length (table_at tables number).steps ≤ most_steps)
   macro-table =
       let has = has_at tables number entry.0 entry.1 in
-      subst (λ (t : Table). IsTable problem t × IsMacro problem t prefix sigma × (length t.steps ≤ 64)) (sym table-same) (
+      subst (λ (t : Table). IsTable problem t × IsMacro problem t prefix sigma × (length t.steps ≤ most_steps)) (sym table-same) (
         All-at (IsTable problem) tables entry.0 learned.each has,
         entry.2,
-        All-at (λ (t : Table). length t.steps ≤ 64) tables entry.0 learned.short has,
+        All-at (λ (t : Table). length t.steps ≤ most_steps) tables entry.0 learned.short has,
       )
 
 module _ (problem : Problem) (table : Table) (prefix : ℕ) (sigma : List ℕ) (is : IsTable problem table)

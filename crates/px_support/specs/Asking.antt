@@ -1,5 +1,6 @@
 -- What a search is asked, as the code has it, and what has to be found by the prover on the way.
 use Rattle.std.specs.Prelude.{◌≢◌, ◌<◌, ◌≤◌, List, [], ◌∷◌, All}
+use Rattle.px_terms.specs.Limits.{most_formula_variables}
 use Rattle.px_terms.specs.declared.problem.Problem.{Problem}
 use Rattle.px_terms.specs.Validity.{IsValid, IsAtomOf}
 use Rattle.px_proof.specs.declared.shape.Tick.{Tick}
@@ -22,7 +23,7 @@ pub record IsAskable (asked : Asked) : Type 0 where
   pub valid : IsValid asked.problem.now
   pub tables : AreLearned asked.problem.now asked.tables.now
   pub goal : All (IsAtomOf asked.problem.now asked.vars) asked.goal.now
-  pub few_variables : asked.vars ≤ 12
+  pub few_variables : asked.vars ≤ most_formula_variables
   pub some_object : 0 < asked.vars → 0 < asked.problem.now.objects
 
 -- the prover finds what is needed: there is an answer, and the limit of shapes isn't met before the first one

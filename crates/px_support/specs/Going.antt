@@ -1,5 +1,6 @@
 -- How far the code has gone through the moves, and what a move adds to that.
 use Rattle.std.specs.Prelude.{◌≡◌, ◌≤◌, ◌+◌, ◌*◌, List, [], ◌∷◌, ◌++◌, All, length, reverse}
+use Rattle.px_table.specs.Limits.{most_steps}
 use Rattle.px_base.specs.Bounds.{u32_max}
 use Rattle.px_terms.specs.declared.instance.OpInst.{OpInst}
 use Rattle.px_terms.specs.declared.problem.Problem.{Problem}
@@ -21,7 +22,7 @@ use Rattle.px_support.specs.Asking.{IsFindable}
 -- the steps that are taken have objects for arguments, and there are numbers for the columns of those that one entry more makes
 pub record HasRoom (problem : Problem) (walk : Walk) : Type 0 where
   pub all_ground : All (IsGroundInstanceOf problem) walk.steps.items
-  pub short : length walk.steps.items + 64 ≤ u32_max
+  pub short : length walk.steps.items + most_steps ≤ u32_max
 
 -- the node that is reached; the code has the top entry last
 abbrev pub node_in : Walk → Node
@@ -60,4 +61,4 @@ pub record AreMovesTaken (task : Task) (moves : List Move) (walk : Walk) : Type 
   pub rows : (row : List Derivation) → IsFirstRow task.problem walk.steps.items walk.model.atoms task.goal task.vars row
       → MovesRows task (initial_node task) [] moves (rows_of walk.rows.items ++ row ∷ [])
   pub all_ground : All (IsGroundInstanceOf task.problem) walk.steps.items
-  pub short : length walk.steps.items ≤ 64 * length moves
+  pub short : length walk.steps.items ≤ most_steps * length moves

@@ -1,6 +1,7 @@
 //! Rows of first proofs whose facts name where they come from.
 ghost use Rattle.std.specs.Prelude.{◌≤◌, ◌<◌, length, map, All, IfOk};
 ghost use Rattle.std.specs.List.{AllZip};
+ghost use Rattle.px_terms.specs.Limits.{most_formula_variables};
 ghost use Rattle.px_base.specs.Bounds.{u32_max};
 ghost use Rattle.px_terms.specs.Validity.{IsAtomOf, IsGroundInstanceOf, IsValid};
 ghost use Rattle.px_proof.specs.ProofTerm.{derivation_of};
@@ -51,7 +52,7 @@ pub fn first_row(
     requires steps { All (IsGroundInstanceOf problem.now) steps.now }
     requires short { length steps.now ≤ u32_max }
     requires formula { All (IsAtomOf problem.now vars) formula.now }
-    requires few_variables { vars ≤ 12 }
+    requires few_variables { vars ≤ most_formula_variables }
     requires some_object { 0 < vars → 0 < problem.now.objects }
     requires findable { IsFindable problem.now (record { formula = formula.now; vars = vars; facts = model.now.atoms }) }
     ensures { IfOk result (λ row. IsFirstRow problem.now steps.now model.now.atoms formula.now vars (map derivation_of row)) }

@@ -1,5 +1,6 @@
 //! The support of the moves that a search found.
 ghost use Rattle.std.specs.Prelude.{◌≡◌, ◌<◌, ◌*◌, [], length, All, IfOk};
+ghost use Rattle.px_table.specs.Limits.{most_steps};
 ghost use Rattle.px_base.specs.Bounds.{u32_max};
 ghost use Rattle.px_terms.specs.Plans.{Carries};
 ghost use Rattle.px_terms.specs.Sorts.{IsWellSorted};
@@ -33,7 +34,7 @@ pub struct Support {
 fn with_goal(asked: &Asked, walk: Walk, moves: &[Move]) -> Result<Support, NoMemory>
     requires asked { IsAskable asked.now }
     requires taken { AreMovesTaken (task_for asked.now) moves.now walk }
-    requires short { 64 * length moves.now < u32_max }
+    requires short { most_steps * length moves.now < u32_max }
     ensures steps { IfOk result (λ support. support.steps ≡ steps_of asked.now.tables.now [] moves.now) }
     ensures rows { IfOk result (λ support. MovesRows (task_for asked.now) (initial_node (task_for asked.now)) [] moves.now
         (rows_of support.rows.items)) }

@@ -1,5 +1,6 @@
 //! Going through the moves: the stack and the model as they change, the steps that are taken, and their rows.
 ghost use Rattle.std.specs.Prelude.{◌≡◌, ◌≤◌, ◌*◌, [], length, All, IfOk};
+ghost use Rattle.px_table.specs.Limits.{most_steps};
 ghost use Rattle.px_base.specs.Bounds.{u32_max};
 ghost use Rattle.px_terms.specs.Operators.{precondition};
 ghost use Rattle.px_terms.specs.Validity.{IsInstanceOf};
@@ -133,7 +134,7 @@ fn take(asked: &Asked, walk: Walk, m: &Move) -> Result<Walk, NoMemory>
 pub fn take_all(asked: &Asked, moves: &[Move]) -> Result<Walk, NoMemory>
     requires asked { IsAskable asked.now }
     requires takeable { AreTakeable (task_for asked.now) (initial_node (task_for asked.now)) moves.now }
-    requires short { 64 * length moves.now ≤ u32_max }
+    requires short { most_steps * length moves.now ≤ u32_max }
     ensures { IfOk result (AreMovesTaken (task_for asked.now) moves.now) }
 {
     let model = asked.initial.try_copy()?;

@@ -26,7 +26,7 @@ kernel_marks table i = filter (λ (mark : Mark). nat_le i mark.row && nat_lt mar
 abbrev pub kernel_of : Table → ℕ → List Atom
 kernel_of table i = each_once atom_eq (map (λ (mark : Mark). mark.atom) (kernel_marks table i))
 
--- one of the problem's objects for each parameter
+-- one of the problem's objects for each parameter, whatever the sorts
 pub record IsInstantiation (problem : Problem) (table : Table) (sigma : List ℕ) : Type 0 where
   pub count : length sigma ≡ table.params
   pub objects : All (λ n. n < problem.objects) sigma
@@ -55,7 +55,7 @@ goal_under table sigma = map (substitute_atom (map Obj sigma ++ variables table.
 abbrev pub rows_under : Table → List ℕ → List (List Derivation)
 rows_under table sigma = map (map (derivation_under (map Obj sigma))) (rows_of table.proofs)
 
--- no step from `i` on deletes the instance of a mark whose column it comes after and whose row it comes before
+-- no step from `i` on deletes the instance of a mark whose column it comes after and whose row it comes before, whatever the sorts
 abbrev pub IsProper : Problem → Table → List ℕ → ℕ → Type 0
 IsProper problem table sigma i = All (λ mark. IsKept problem (steps_under table sigma) i (mark_under sigma mark)) table.marks
 
@@ -64,7 +64,7 @@ abbrev pub TailCarries : Problem → Table → List ℕ → ℕ → Type 0
 TailCarries problem table sigma i = Carries problem (kernel_under table sigma i) (drop (i - 1) (steps_under table sigma)) table.goal_vars
     (goal_under table sigma)
 
--- each proper instance of each kernel carries the steps that are left to the goal
+-- each proper instance of each kernel carries the steps that are left to the goal, whatever the sorts of its objects
 pub record KernelsCarry (problem : Problem) (table : Table) : Type 0 where
   pub carry : (sigma : List ℕ) → IsInstantiation problem table sigma → (i : ℕ) → 1 ≤ i → i ≤ length table.steps + 1
       → IsProper problem table sigma i → TailCarries problem table sigma i

@@ -8,6 +8,7 @@ pub mod EntryOrder
 pub mod GrowthLaws
 pub mod KernelLaws
 pub mod Kernels
+pub mod Limits
 pub mod MarkLaws
 pub mod Marks
 pub mod NodeLaws

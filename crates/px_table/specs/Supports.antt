@@ -45,8 +45,9 @@ RowsProve IsTerm problem params (inst ∷ steps) goal goal_vars (row ∷ rows) =
     ProvesEachOf IsTerm problem.axioms (precondition problem inst) row × RowsProve IsTerm problem params steps goal goal_vars rows
 
 -- The rows support the steps and the goal from the atoms. The steps are instances of the problem's operators, over any
--- objects. The rows prove each precondition and the goal, over objects. Each fact that they rest on is one of the atoms,
--- or an add of a step before its row that the leaf names, and no step in between deletes it.
+-- objects, whatever the sorts: that the steps fit is said beside this. The rows prove each precondition and the goal, over
+-- objects. Each fact that they rest on is one of the atoms, or an add of a step before its row that the leaf names, and no
+-- step in between deletes it.
 pub record Supports (problem : Problem) (atoms : List Atom) (steps : List OpInst) (goal : List Atom) (goal_vars : ℕ)
     (rows : List (List Derivation)) : Type 0 where
   pub instances : All (IsGroundInstanceOf problem) steps

@@ -6,7 +6,7 @@ use Rattle.std.specs.List.{range_with_len}
 use borrow.Author.Tests.{eqb-true}
 use Rattle.std.proofs.Math.ListN.{get_or-append}
 use Rattle.std.proofs.lemmas.List.{get_or-map, length-map}
-use Rattle.std.proofs.lemmas.List.Elements.{All-append, All-cons, All-map, All-nil, Contains-append_left, Contains-append_right}
+use Rattle.std.proofs.lemmas.List.Elements.{All-append, All-cons, All-map, All-nil, Contains-append_cases, Contains-append_left, Contains-append_right}
 use Rattle.std.proofs.lemmas.List.FromFn.{get_or-map-range_with_len, length-map-range_with_len}
 use Rattle.px_base.specs.ListLaws.{All-at, All-each, Contains-none, Contains-first, Contains-later, Contains-cases}
 use Rattle.px_terms.specs.declared.instance.OpInst.{OpInst}
@@ -24,7 +24,7 @@ use Rattle.px_proof.specs.PlaceLaws.{Contains-mapped}
 use Rattle.px_table.specs.declared.table.Table.{Table}
 use Rattle.px_table.specs.Kernels.{instance_under, steps_under}
 use Rattle.px_table.specs.Tables.{IsStepOf, IsTable}
-use Rattle.px_table.specs.WellSorted.{IsWellSortedStep, IsWellSortedTable, ParametersFit, first_sort, paired, sort_places, sorts_by_places}
+use Rattle.px_table.specs.WellSorted.{HasSortOfPlaces, HasSortsOfPlaces, IsWellSortedStep, IsWellSortedTable, ParametersFit, StandsAt, first_sort, paired, sort_places, sorts_by_places}
 
 -- ---- under objects that fit, the steps fit
 
@@ -202,12 +202,12 @@ module _ (problem : Problem) (sorts sigma : List ℕ) (steps : List OpInst) (par
       (omega (arith, is, count)) (has sorted) sorted
   place-stands wanted Any is has fit = tt
 
-  abbrev Stands : OpInst → Type 0
-  Stands inst = MayStand sorts (sorts_by_places problem steps params) (schema_of problem inst).param_sorts inst.args
+  abbrev StandsByPlaces : OpInst → Type 0
+  StandsByPlaces inst = MayStand sorts (sorts_by_places problem steps params) (schema_of problem inst).param_sorts inst.args
 
   step-stands : (inst : OpInst) → Contains steps inst → IsStepOf problem params inst
       → IsWellSortedBy sorts problem (instance_under sigma inst)
-      → Stands inst
+      → StandsByPlaces inst
   step-stands inst has is fit k below =
       let wanted = (schema_of problem inst).param_sorts in
       let arg : Term = slice_index_or inst.args k Any in
@@ -220,9 +220,9 @@ module _ (problem : Problem) (sorts sigma : List ℕ) (steps : List OpInst) (par
       (subst (λ (t : Term). FitsSort sorts (slice_index wanted k) (object_of t)) there (fit k inside))
 
   -- each parameter stands only where its sort by its places allows
-  pub places-stand : All (IsStepOf problem params) steps → All Stands steps
+  pub places-stand : All (IsStepOf problem params) steps → All StandsByPlaces steps
   places-stand are =
-      All-each Stands steps (λ inst has.
+      All-each StandsByPlaces steps (λ inst has.
       step-stands inst has (All-at (IsStepOf problem params) steps inst are has)
       (All-at (IsWellSortedBy sorts problem) (map (instance_under sigma) steps) (instance_under sigma inst) fits
       (Contains-mapped (instance_under sigma) steps inst has)))
@@ -277,3 +277,119 @@ places-are_well_sorted problem table sigma valid are count by_places fits =
       steps = subst (λ (l : List ℕ). All (IsWellSortedStep problem l) table.steps) (sym by_places)
           (places-stand problem problem.object_sorts sigma table.steps table.params count fits are);
     }
+
+-- ---- what is said of the places and what is computed agree
+
+-- what is in the list of arguments beside their sorts stands at a place
+pub paired-place : (wanted : List ℕ) (args : List Term) (w : ℕ) (t : Term) → Contains (paired wanted args) (w, t)
+    → (k : ℕ) × (k < length args) × (slice_index_or args k Any ≡ t) × (slice_index wanted k ≡ w)
+paired-place [] args w t has = absurd (Contains-none (w, t) has)
+paired-place (s ∷ wanted) [] w t has = absurd (Contains-none (w, t) has)
+paired-place (s ∷ wanted) (a ∷ args) w t has = elim (Contains-cases (s, a) (paired wanted args) (w, t) has) [
+  | inl here ↦ (0, omega arith, ap (λ (p : ℕ × Term). p.1) here, ap (λ (p : ℕ × Term). p.0) here)
+  | inr later ↦
+      let found = paired-place wanted args w t later in (suc found.0, omega (arith, found.1), found.2, found.3)
+]
+
+-- a parameter that is in the list stands at a place of a step
+stands-at : (problem : Problem) (steps : List OpInst) (v w : ℕ) → Contains (sort_places problem steps) (w, Var v)
+    → StandsAt problem steps v w
+stands-at problem [] v w has = absurd (Contains-none (w, Var v) has)
+stands-at problem (inst ∷ steps) v w has =
+    elim (Contains-append_cases (paired (schema_of problem inst).param_sorts inst.args) (sort_places problem steps) (w, Var v) has) [
+      | inl first ↦
+          let found = paired-place (schema_of problem inst).param_sorts inst.args w (Var v) first in
+          record {
+            inst = inst;
+            has = Contains-first inst steps;
+            place = found.0;
+            within = found.1;
+            here = found.2;
+            sorted = found.3;
+          }
+      | inr later ↦
+          let found = stands-at problem steps v w later in
+          record {
+            inst = found.inst;
+            has = Contains-later inst steps found.inst found.has;
+            place = found.place;
+            within = found.within;
+            here = found.here;
+            sorted = found.sorted;
+          }
+    ]
+
+-- and one that stands at a sorted place is in it
+stands-in : (problem : Problem) (steps : List OpInst) (v w : ℕ) → w ≢ 0 → StandsAt problem steps v w
+    → Contains (sort_places problem steps) (w, Var v)
+stands-in problem steps v w other there =
+    let wanted = (schema_of problem there.inst).param_sorts in
+    let same : (slice_index wanted there.place, slice_index_or there.inst.args there.place Any) ≡ (w, Var v) = λ i. (there.sorted i, there.here i) in
+    subst (λ (place : ℕ × Term). Contains (sort_places problem steps) place) same
+    (places-have problem steps there.inst there.has (slice_index wanted there.place, slice_index_or there.inst.args there.place Any)
+    (sorted-paired wanted there.inst.args there.place there.within (λ zero_here. other (sym there.sorted ∙ zero_here))))
+
+zero-unless : (n : ℕ) → (n ≢ 0 → n ≡ 0) → n ≡ 0
+zero-unless zero unless = refl
+zero-unless (suc n) unless = unless (λ e. absurd (omega (arith, e)))
+
+by-zero : {G : Type 0} (n : ℕ) → (n ≡ 0 → G) → (n ≢ 0 → G) → G
+by-zero zero here other = here refl
+by-zero (suc n) here other = other (λ e. absurd (omega (arith, e)))
+
+-- in a table that is well-sorted, the first sort of the places at which a parameter stands is that of each sorted one
+first_sort-of_places : (problem : Problem) (table : Table) (v : ℕ) → IsWellSortedTable problem table
+    → slice_index table.param_sorts v ≡ first_sort (sort_places problem table.steps) v
+    → HasSortOfPlaces problem table.steps v (slice_index table.param_sorts v)
+first_sort-of_places problem table v sorted is = record {
+  at_each = λ wanted other there.
+      let place_sort = slice_index (schema_of problem there.inst).param_sorts there.place in
+      let stands = All-at (IsWellSortedStep problem table.param_sorts) table.steps there.inst sorted.steps there.has there.place there.within in
+      subst (λ (t : Term). IsOfSort problem.object_sorts table.param_sorts place_sort t) there.here stands
+      (λ zero_here. other (sym there.sorted ∙ zero_here))
+      ∙ there.sorted;
+  at_none = λ unsorted. zero-unless (slice_index table.param_sorts v) (λ other.
+      let first = first_sort (sort_places problem table.steps) v in
+      is ∙ unsorted first (stands-at problem table.steps v first (first_sort-stands (sort_places problem table.steps) v
+      (λ zero_here. other (is ∙ zero_here)))));
+}
+
+-- the sort that a parameter has by its places is the first one
+sort-of_places : (problem : Problem) (steps : List OpInst) (v sort : ℕ) → HasSortOfPlaces problem steps v sort
+    → sort ≡ first_sort (sort_places problem steps) v
+sort-of_places problem steps v sort is =
+    let first = first_sort (sort_places problem steps) v in
+    by-zero first
+    (λ zero_here. is.at_none (λ w there. zero-unless w (λ other. absurd
+    (first_sort-some (sort_places problem steps) v w (stands-in problem steps v w other there) other zero_here)))
+    ∙ sym zero_here)
+    (λ other. is.at_each first other (stands-at problem steps v first (first_sort-stands (sort_places problem steps) v other)))
+
+same-sorts : (xs ys : List ℕ) → length xs ≡ length ys → ((k : ℕ) → k < length xs → slice_index xs k ≡ slice_index ys k) → xs ≡ ys
+same-sorts [] [] count each = refl
+same-sorts [] (y ∷ ys) count each = absurd (omega (arith, count))
+same-sorts (x ∷ xs) [] count each = absurd (omega (arith, count))
+same-sorts (x ∷ xs) (y ∷ ys) count each =
+    let first : x ≡ y = each 0 (omega arith) in
+    let rest = same-sorts xs ys (omega (arith, count)) (λ k below. each (suc k) (omega (arith, below))) in
+    λ i. first i ∷ rest i
+
+-- where each parameter has the sort of the sorted places at which it stands, or 0, these sorts are the ones that are computed
+pub sorts_of_places-computed : (problem : Problem) (table : Table) → HasSortsOfPlaces problem table
+    → table.param_sorts ≡ sorts_by_places problem table.steps table.params
+sorts_of_places-computed problem table is =
+    same-sorts table.param_sorts (sorts_by_places problem table.steps table.params)
+    (is.count ∙ sym (length-map-range_with_len (first_sort (sort_places problem table.steps)) 0 table.params))
+    (λ v below.
+    let inside : v < table.params = omega (arith, below, is.count) in
+    sort-of_places problem table.steps v (slice_index table.param_sorts v) (is.each v inside)
+    ∙ sym (sort-at problem table.steps table.params v inside))
+
+-- and in a well-sorted table the sorts that are computed are those
+pub sorts_by_places-said : (problem : Problem) (table : Table) → IsWellSortedTable problem table
+    → table.param_sorts ≡ sorts_by_places problem table.steps table.params → HasSortsOfPlaces problem table
+sorts_by_places-said problem table sorted by_places = record {
+  count = sorted.count;
+  each = λ v below. first_sort-of_places problem table v sorted
+      (ap (λ (l : List ℕ). slice_index l v) by_places ∙ sort-at problem table.steps table.params v below);
+}

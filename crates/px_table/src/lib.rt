@@ -19,7 +19,9 @@
 //! - A table is well-sorted (`IsWellSortedTable` of `specs/WellSorted.antt`) where each parameter has a sort of the problem or none,
 //!   each object in a step fits its place, and each parameter stands in steps only at places that have its sort or none. Under
 //!   objects that fit the parameters ([`fit_parameters`]) its steps then fit. [`sorts_by_places`] finds the sorts that parameters
-//!   have by the places of some steps. Kernels, properness between steps, and what carries are whatever the sorts.
+//!   have by the places of some steps. That each parameter has the sort of the sorted places of the steps at which it stands, or 0
+//!   where there is none, is said as `HasSortsOfPlaces`; of a well-sorted table it says the same (`WellSortedLaws`). Kernels,
+//!   properness between steps, and what carries are whatever the sorts.
 //! - [`marks`] makes the marks of rows, also of rows over parameters, for a caller that makes a table in another way, in time as the
 //!   leaves.
 //! - [`kernel`] lists what has to hold so that the steps from one on lead to the goal: the atoms of the marks whose row
@@ -53,6 +55,8 @@
 //! - [`Node`] is a world model with a stack of entries, the top one first. Contracts see it as these two lists
 //!   (`NodeValue` in `specs/NodeValue.antt`); how much room is left in its model doesn't count. Two nodes are equal, and
 //!   are hashed alike, where these are the same (`specs/Nodes.antt`, with the laws in `specs/NodeLaws.antt`).
+//! - There are at most [`MOST_TABLES`] learned tables, of at most [`MOST_STEPS`] steps each (`specs/Limits`), which the crates above
+//!   cite; nothing here asks for it.
 //! - `try_copy` of each returns an equal value, or `NoMemory`. `check_table`, `rows_make_table`, `proper`, `fit_parameters` and
 //!   `is_macro` do not allocate.
 #![tactic(auto)]
@@ -65,6 +69,7 @@ mod kept;
 mod kernel_atoms;
 mod laws;
 mod leaf_sources;
+mod limits;
 mod mark;
 mod mark_list;
 mod node;
@@ -84,6 +89,7 @@ pub use laws::{
     nodes_are_compared, rows_meet_preconditions, supports_carry, supports_refuse,
     tables_are_decided,
 };
+pub use limits::{MOST_STEPS, MOST_TABLES};
 pub use mark::Mark;
 pub use node::Node;
 pub use prefix::{is_macro, is_used, proper_prefix};
@@ -91,4 +97,4 @@ pub use proper_instance::proper;
 pub use table::{Row, Table};
 pub use under_objects::{atom_with, instance_with};
 pub use validation::{check_table, rows_make_table};
-pub use well_sorted::{fit_parameters, sorts_by_places};
+pub use well_sorted::{fit_parameters, sort_in_step, sorts_by_places};

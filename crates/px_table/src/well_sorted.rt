@@ -15,7 +15,7 @@ use crate::table::Table;
 use crate::under_objects::instance_with;
 use px_base::{NoMemory, Sequence};
 use px_ops::schema_of;
-use px_terms::{OpInst, Problem, Term, are_sorts_of, fits, fits_sort, sort_at};
+use px_terms::{OpInst, Problem, Term, are_sorts_of, fits, fits_sort, objects_fit, sort_at};
 use std::alloc::Global;
 
 /// Returns whether the term may stand at a place of the wanted sort.
@@ -85,13 +85,7 @@ pub fn fit_parameters(problem: &Problem, table: &Table, sigma: &[u32]) -> bool
     ensures { IsTrue result ↔ ParametersFit problem.now.object_sorts table.now sigma.now }
 {
     let sorts = problem.object_sorts.as_slice();
-    let param_sorts = table.param_sorts.as_slice();
-    for (parameter, object) in sigma.iter().enumerate() {
-        if !fits_sort(sorts, sort_at(param_sorts, parameter), *object) {
-            return false;
-        }
-    }
-    true
+    objects_fit(sorts, table.param_sorts.as_slice(), sigma)
 }
 
 /// Returns whether each of the steps fits, with the objects of `sigma` for the parameters.
@@ -128,8 +122,9 @@ fn stands_sorted(wanted: &[u32], args: &[Term], place: usize, parameter: u32) ->
     args[place] == Term::Var(parameter) && sort_at(wanted, place) != 0
 }
 
-/// Returns the first sort other than 0 of the places of the step at which the parameter stands, or 0.
-fn sort_in_step(wanted: &[u32], args: &[Term], parameter: u32) -> u32
+/// Returns the first sort other than 0 of the places at which the parameter stands, or 0, where the places want these sorts. Does not
+/// allocate.
+pub fn sort_in_step(wanted: &[u32], args: &[Term], parameter: u32) -> u32
     ensures { result ≡ first_sort (paired wanted.now args.now) parameter }
 {
     for place in 0..args.len() {

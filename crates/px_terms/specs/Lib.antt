@@ -8,6 +8,7 @@ pub mod InstanceLaws
 pub mod Instances
 pub mod Lamps
 pub mod Language
+pub mod Limits
 pub mod MergedNames
 pub mod MergedNamesLaws
 pub mod OperatorLaws

@@ -1,4 +1,4 @@
--- Operators and problems without sorts, and the limits of problems.
+-- Operators and problems without sorts.
 use Rattle.std.specs.Prelude.{ℕ, List, replicate}
 use Rattle.px_terms.specs.declared.atom.Atom.{Atom}
 use Rattle.px_terms.specs.declared.clause.Clause.{Clause}
@@ -24,16 +24,3 @@ problem_without_sorts objects arities axioms schemas height nodes shapes = recor
   object_sorts = replicate objects 0;
   weight = 0;
 }
-
--- the greatest limits that a problem may have: the height of a proof, the nodes of a search, the shapes of a question, and the weight
-abbrev pub most_height : ℕ
-most_height = 8
-
-abbrev pub most_nodes : ℕ
-most_nodes = 1000000
-
-abbrev pub most_shapes : ℕ
-most_shapes = 70000
-
-abbrev pub most_weight : ℕ
-most_weight = 1000

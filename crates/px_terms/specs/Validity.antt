@@ -10,8 +10,8 @@ use Rattle.px_terms.specs.declared.term.Term.{Term}
 use Rattle.px_terms.specs.declared.term.Term.TheVariants.{Obj, Var, Any}
 use Rattle.px_terms.specs.Clauses.{IsArena}
 use Rattle.px_terms.specs.Language.{IsObject, IsPlainBelow, IsVariableBelow}
+use Rattle.px_terms.specs.Limits.{most_formula_variables, most_height, most_nodes, most_parameters, most_shapes, most_weight}
 use Rattle.px_terms.specs.Operators.{no_schema, schema_of}
-use Rattle.px_terms.specs.Problems.{most_height, most_nodes, most_shapes, most_weight}
 
 -- the term is one of the problem's objects or one of `vars` variables
 abbrev pub IsTermOf : Problem → ℕ → Term → Type 0
@@ -43,7 +43,7 @@ pub record IsSchemaWellFormed (schema : Schema) : Type 0 where
   pub add : All (λ atom. All (IsPlainBelow schema.params) atom.args) schema.add
   pub del : All (λ atom. All (IsVariableBelow schema.params) atom.args) schema.del
 
--- the list has fewer than 4,294,967,295 entries
+-- the list has fewer entries than the greatest number of 32 bits
 abbrev pub IsShort : {X : Type 0} → List X → Type 0
 IsShort xs = length xs < u32_max
 
@@ -51,24 +51,24 @@ IsShort xs = length xs < u32_max
 abbrev pub AreSortsOf : Problem → List ℕ → Type 0
 AreSortsOf problem sorts = All (λ sort. sort ≤ problem.sorts) sorts
 
--- The operator at a place of the problem: its number is the place, it has at most eight parameters, its atoms are the problem's, and
+-- The operator at a place of the problem: its number is the place, it has no more parameters than an operator may have, its atoms are the problem's, and
 -- so are its sorts, one for each parameter.
 pub record IsSchemaOf (problem : Problem) (place : ℕ) (schema : Schema) : Type 0 where
   pub number : schema.op ≡ place
-  pub params : schema.params ≤ 8
+  pub params : schema.params ≤ most_parameters
   pub pre : All (IsAtomOf problem schema.params) schema.pre
   pub del : All (IsPatternOf problem schema.params) schema.del
   pub add : All (IsAtomOf problem schema.params) schema.add
   pub short : IsShort schema.pre × IsShort schema.del × IsShort schema.add
   pub sorts : (length schema.param_sorts ≡ schema.params) × AreSortsOf problem schema.param_sorts
 
--- an axiom of the problem has at most twelve variables, and its atoms are the problem's
+-- an axiom of the problem has no more variables than one may have, and its atoms are the problem's
 pub record IsAxiomOf (problem : Problem) (clause : Clause) : Type 0 where
-  pub vars : clause.vars ≤ 12
+  pub vars : clause.vars ≤ most_formula_variables
   pub lits : All (λ lit. IsAtomOf problem clause.vars lit.atom) clause.lits
 
 -- All numbers of the problem are in range, its limits too, there is a sort for each object, and there is an object where a variable or
--- parameter is declared. Each of its lists is short; the axioms are at most 64 clauses of one to six literals.
+-- parameter is declared. Each of its lists is short; the axioms are such clauses as an arena has, and no more.
 pub record IsValid (problem : Problem) : Type 0 where
   pub schemas : EachIndex problem.schemas (λ k. IsSchemaOf problem k (slice_index_or problem.schemas k no_schema))
   pub axioms : All (IsAxiomOf problem) problem.axioms

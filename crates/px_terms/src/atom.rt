@@ -6,10 +6,12 @@ ghost use Rattle.std.specs.Ordering.{as_partial_cmp};
 ghost use Rattle.std.specs.Cmp.Lexicographic.{pointwise};
 ghost use Rattle.px_terms.specs.Instances.{IsGround, IsInstance, is_filled_place, is_instance};
 ghost use Rattle.px_terms.specs.Language.{IsVariableBelow};
+ghost use Rattle.px_terms.specs.Limits.{most_arguments};
 ghost use Rattle.px_terms.specs.Substitution.{substitute_atom};
 ghost use Rattle.px_terms.specs.Order.{atom_eq, atom_cmp, atom_hash_input};
 ghost use Rattle.px_terms.specs.OrderLaws.{atom_eq-equivalence, atom_cmp-total, atom_cmp-matches_eq, atom_cmp-partial, atom_hash-alike};
 
+use crate::limits::MOST_ARGUMENTS;
 use crate::substitution::substitute_all;
 use crate::term::Term;
 use std::cmp::Ordering;
@@ -23,11 +25,12 @@ use std::marker::Model;
 pub struct Atom {
     pred: u32,
     len: usize,
-    terms: [Term; 6],
+    terms: [Term; MOST_ARGUMENTS],
 }
 
 impl Model for Atom {
     ghost use Rattle.std.specs.Prelude.{take, length};
+    ghost use Rattle.px_terms.specs.Limits.{most_arguments};
     ghost use Rattle.px_terms.specs.Padding.{IsPadded, padded};
     ghost use Rattle.px_terms.specs.Language.{AtomValue};
 
@@ -35,21 +38,21 @@ impl Model for Atom {
 
     ghost view = { λ a. record { pred = a.pred; args = take a.len a.terms } };
 
-    ghost invariant = { λ a. IsPadded 6 a.len a.terms };
+    ghost invariant = { λ a. IsPadded most_arguments a.len a.terms };
 
-    ghost inverse = { λ v. record { pred = v.pred; len = length v.args; terms = padded 6 v.args } };
+    ghost inverse = { λ v. record { pred = v.pred; len = length v.args; terms = padded most_arguments v.args } };
 }
 
 impl Atom {
     /// Returns the atom of a predicate with these arguments; `None` exactly where there are more than six. Does not allocate.
     pub fn new(pred: u32, args: &[Term]) -> Option<Atom>
-        ensures fits { IsSome result ↔ (length args.now ≤ 6) }
+        ensures fits { IsSome result ↔ (length args.now ≤ most_arguments) }
         ensures value { IfSome result (λ atom. atom ≡ record { pred = pred; args = args.now }) }
     {
-        if args.len() > 6 {
+        if args.len() > MOST_ARGUMENTS {
             return None;
         }
-        let mut terms = [Term::Any; 6];
+        let mut terms = [Term::Any; MOST_ARGUMENTS];
         terms[..args.len()].copy_from_slice(args);
         Some(Atom {
             pred,
@@ -60,7 +63,7 @@ impl Atom {
 
     /// Returns the atom of a predicate with these arguments, which are at most six. Does not allocate.
     pub fn of(pred: u32, args: &[Term]) -> Atom
-        requires { length args.now ≤ 6 }
+        requires { length args.now ≤ most_arguments }
         ensures { result ≡ record { pred = pred; args = args.now } }
     {
         match Atom::new(pred, args) {
@@ -79,7 +82,7 @@ impl Atom {
     /// Returns the arguments, from the left.
     pub fn args(&self) -> &[Term]
         ensures value { result.now ≡ self.now.args }
-        ensures at_most { length self.now.args ≤ 6 }
+        ensures at_most { length self.now.args ≤ most_arguments }
     {
         &self.terms[..self.len]
     }
@@ -150,7 +153,7 @@ pub fn apply(map: &[Term], atom: &Atom) -> Atom
     ensures { result ≡ substitute_atom map.now atom.now }
 {
     let args = atom.args();
-    let mut terms = [Term::Any; 6];
+    let mut terms = [Term::Any; MOST_ARGUMENTS];
     substitute_all(map, args, &mut terms);
     Atom {
         pred: atom.pred(),

@@ -1,8 +1,10 @@
 //! Clauses, and the arena that keeps them by number.
 ghost use Rattle.std.specs.Prelude.{◌≡◌, ◌<◌, ◌≤◌, ◌↔◌, ◌++◌, [], ◌∷◌, length, slice_index_or, All, IfOk, OnErr};
 ghost use Rattle.px_terms.specs.Clauses.{ArePlainBelow, HasClauseLength, IsArena};
+ghost use Rattle.px_terms.specs.Limits.{most_clauses};
 
 use crate::atom::Atom;
+use crate::limits::{MOST_CLAUSES, MOST_LITERALS};
 use px_base::{NoMemory, Sequence};
 use std::alloc::Global;
 use std::marker::Model;
@@ -79,14 +81,14 @@ impl ClauseArena {
         ensures number { IfOk result (λ number. number ≡ length self.old) }
         ensures added { IfOk result (λ _. self.new ≡ self.old ++ record { vars = vars; lits = lits.now } ∷ []) }
         ensures length { (result ≡ Err ArenaErr.BadLength) ↔ (¬ HasClauseLength lits.now) }
-        ensures full { (result ≡ Err ArenaErr.Full) ↔ (HasClauseLength lits.now × (length self.old ≡ 64)) }
+        ensures full { (result ≡ Err ArenaErr.Full) ↔ (HasClauseLength lits.now × (length self.old ≡ most_clauses)) }
         ensures err { OnErr result (self.new ≡ self.old) }
     {
-        if lits.is_empty() || lits.len() > 6 {
+        if lits.is_empty() || lits.len() > MOST_LITERALS {
             return Err(ArenaErr::BadLength);
         }
         let number = self.count();
-        if number == 64 {
+        if number as usize == MOST_CLAUSES {
             return Err(ArenaErr::Full);
         }
         let lits = match Sequence::from_slice(*self.clauses.allocator(), lits) {
@@ -102,7 +104,7 @@ impl ClauseArena {
     /// Returns the number of clauses.
     pub fn count(&self) -> u32
         ensures count { result ≡ length self.now }
-        ensures most { length self.now ≤ 64 }
+        ensures most { length self.now ≤ most_clauses }
     {
         self.clauses.len() as u32
     }

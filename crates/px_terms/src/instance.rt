@@ -4,10 +4,12 @@ ghost use Rattle.std.proofs.Common.{refl};
 ghost use Rattle.std.specs.Cmp.{partial_equiv_from_equiv};
 ghost use Rattle.std.specs.Ordering.{as_partial_cmp};
 ghost use Rattle.px_terms.specs.Language.{IsVariableBelow};
+ghost use Rattle.px_terms.specs.Limits.{most_parameters};
 ghost use Rattle.px_terms.specs.Substitution.{substitute_instance};
 ghost use Rattle.px_terms.specs.Order.{instance_eq, instance_cmp, instance_hash_input};
 ghost use Rattle.px_terms.specs.OrderLaws.{instance_eq-equivalence, instance_cmp-total, instance_cmp-matches_eq, instance_cmp-partial, instance_hash-alike};
 
+use crate::limits::MOST_PARAMETERS;
 use crate::substitution::substitute_all;
 use crate::term::Term;
 use std::cmp::Ordering;
@@ -22,11 +24,12 @@ use std::marker::Model;
 pub struct OpInst {
     op: u32,
     len: usize,
-    terms: [Term; 8],
+    terms: [Term; MOST_PARAMETERS],
 }
 
 impl Model for OpInst {
     ghost use Rattle.std.specs.Prelude.{take, length};
+    ghost use Rattle.px_terms.specs.Limits.{most_parameters};
     ghost use Rattle.px_terms.specs.Padding.{IsPadded, padded};
     ghost use Rattle.px_terms.specs.Language.{InstanceValue};
 
@@ -34,21 +37,21 @@ impl Model for OpInst {
 
     ghost view = { λ a. record { op = a.op; args = take a.len a.terms } };
 
-    ghost invariant = { λ a. IsPadded 8 a.len a.terms };
+    ghost invariant = { λ a. IsPadded most_parameters a.len a.terms };
 
-    ghost inverse = { λ v. record { op = v.op; len = length v.args; terms = padded 8 v.args } };
+    ghost inverse = { λ v. record { op = v.op; len = length v.args; terms = padded most_parameters v.args } };
 }
 
 impl OpInst {
     /// Returns the operator with these arguments; `None` exactly where there are more than eight. Does not allocate.
     pub fn new(op: u32, args: &[Term]) -> Option<OpInst>
-        ensures fits { IsSome result ↔ (length args.now ≤ 8) }
+        ensures fits { IsSome result ↔ (length args.now ≤ most_parameters) }
         ensures value { IfSome result (λ inst. inst ≡ record { op = op; args = args.now }) }
     {
-        if args.len() > 8 {
+        if args.len() > MOST_PARAMETERS {
             return None;
         }
-        let mut terms = [Term::Any; 8];
+        let mut terms = [Term::Any; MOST_PARAMETERS];
         terms[..args.len()].copy_from_slice(args);
         Some(OpInst {
             op,
@@ -67,7 +70,7 @@ impl OpInst {
     /// Returns the arguments, by parameter.
     pub fn args(&self) -> &[Term]
         ensures value { result.now ≡ self.now.args }
-        ensures at_most { length self.now.args ≤ 8 }
+        ensures at_most { length self.now.args ≤ most_parameters }
     {
         &self.terms[..self.len]
     }
@@ -128,7 +131,7 @@ pub fn apply_inst(map: &[Term], inst: &OpInst) -> OpInst
     ensures { result ≡ substitute_instance map.now inst.now }
 {
     let args = inst.args();
-    let mut terms = [Term::Any; 8];
+    let mut terms = [Term::Any; MOST_PARAMETERS];
     substitute_all(map, args, &mut terms);
     OpInst {
         op: inst.op(),

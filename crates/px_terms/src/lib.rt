@@ -14,7 +14,7 @@
 //! - A [`Schema`] is an operator, a [`Problem`] all that a search is about. Fields that are lists are [`Sequence`]s. `without_sorts` of
 //!   each makes one without sorts; a problem's [`Limits`] are at most `MOST_HEIGHT`, `MOST_NODES` and `MOST_SHAPES`.
 //! - Each object and each parameter has a sort, a number; 0 is no sort. An object fits a place that wants no sort or the object's
-//!   ([`fits_sort`]), and an instance fits where each of its objects does ([`fits`]). [`sort_at`] reads a list of sorts, and
+//!   ([`fits_sort`], [`objects_fit`]), and an instance fits where each of its objects does ([`fits`]). [`sort_at`] reads a list of sorts, and
 //!   [`are_sorts_of`] tests one. What isn't said to fit is whatever the sorts: states, runs, and what a plan is worth.
 //!   Calls of other crates that borrow a problem ask that it is valid: `IsValid` in `specs/Validity.antt`. [`is_valid`] tests
 //!   it; [`is_atom_of`], [`are_atoms_of`], [`is_instance_of`] and [`is_term_of`] test what belongs to a problem; [`is_ground`],
@@ -33,6 +33,7 @@ mod atom;
 mod clause;
 mod instance;
 mod laws;
+mod limits;
 mod problem;
 mod sorts;
 mod substitution;
@@ -47,13 +48,16 @@ pub use instance::{OpInst, apply_inst};
 pub use laws::{
     atoms_are_ordered, contradiction, drop_plan, lit_lamp, merged_names, sorted_instances,
 };
+pub use limits::{
+    MOST_ARGUMENTS, MOST_CLAUSES, MOST_FORMULA_VARIABLES, MOST_HEIGHT, MOST_LITERALS, MOST_NODES,
+    MOST_PARAMETERS, MOST_SHAPES, MOST_WEIGHT,
+};
 pub use problem::{Limits, Problem, Schema};
 pub use px_base::{NoMemory, Sequence};
-pub use sorts::{fits, fits_sort, sort_at};
+pub use sorts::{fits, fits_sort, objects_fit, sort_at};
 pub use substitution::apply_term;
 pub use term::{Term, object_of};
 pub use validity::{
-    MOST_HEIGHT, MOST_NODES, MOST_SHAPES, MOST_WEIGHT, are_atoms_of, are_objects_below,
-    are_plain_below, are_sorts_of, are_variables_below, is_atom_of, is_ground, is_instance_of,
-    is_term_of, is_valid,
+    are_atoms_of, are_objects_below, are_plain_below, are_sorts_of, are_variables_below,
+    is_atom_of, is_ground, is_instance_of, is_term_of, is_valid,
 };

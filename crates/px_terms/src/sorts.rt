@@ -1,7 +1,7 @@
 //! Tests of sorts: which objects fit a place, and which instances are well-sorted. None of them allocates.
 ghost use Rattle.std.specs.Prelude.{◌≡◌, ◌↔◌, ◌<◌, length, slice_index, slice_index_or, IsTrue};
 ghost use Rattle.px_terms.specs.Language.{object_of};
-ghost use Rattle.px_terms.specs.Sorts.{AreOfSorts, FitsSort, IsWellSorted};
+ghost use Rattle.px_terms.specs.Sorts.{AreOfSorts, FitsSort, IsWellSorted, ObjectsFit};
 ghost use Rattle.px_terms.specs.Validity.{IsInstanceOf};
 ghost use Rattle.px_terms.specs.declared.term.Term.TheVariants.{Any};
 
@@ -22,6 +22,18 @@ pub fn fits_sort(sorts: &[u32], wanted: u32, object: u32) -> bool
     ensures { IsTrue result ↔ FitsSort sorts.now wanted object }
 {
     wanted == 0 || sort_at(sorts, object as usize) == wanted
+}
+
+/// Returns whether each object fits the place of its number, where the objects have these sorts and the places want these.
+pub fn objects_fit(sorts: &[u32], wanted: &[u32], objects: &[u32]) -> bool
+    ensures { IsTrue result ↔ ObjectsFit sorts.now wanted.now objects.now }
+{
+    for place in 0..objects.len() {
+        if !fits_sort(sorts, sort_at(wanted, place), objects[place]) {
+            return false;
+        }
+    }
+    true
 }
 
 /// Returns whether the argument at the place fits it.

@@ -3,13 +3,16 @@ ghost use Rattle.std.specs.Prelude.{◌≡◌, ◌<◌, ◌≤◌, ◌↔◌, le
 ghost use Rattle.px_terms.specs.Clauses.{ArePlainBelow, IsArena};
 ghost use Rattle.px_terms.specs.Instances.{IsGround};
 ghost use Rattle.px_terms.specs.Language.{IsObject, IsObjectBelow, IsPlainBelow, IsVariableBelow};
+ghost use Rattle.px_terms.specs.Limits.{most_height, most_nodes, most_parameters, most_shapes, most_weight};
 ghost use Rattle.px_terms.specs.Operators.{no_schema};
-ghost use Rattle.px_terms.specs.Problems.{most_height, most_nodes, most_shapes, most_weight};
 ghost use Rattle.px_terms.specs.Validity.{AreSortsOf, HasArity, IsAtomOf, IsAxiomOf, IsInstanceOf, IsPatternOf, IsPatternTermOf, IsSchemaOf, IsShort, IsTermOf, IsValid};
 
 use crate::atom::Atom;
 use crate::clause::{Clause, Lit};
 use crate::instance::OpInst;
+use crate::limits::{
+    MOST_FORMULA_VARIABLES, MOST_HEIGHT, MOST_NODES, MOST_PARAMETERS, MOST_SHAPES, MOST_WEIGHT,
+};
 use crate::problem::{Problem, Schema};
 use crate::term::Term;
 
@@ -171,12 +174,12 @@ pub fn is_instance_of(problem: &Problem, inst: &OpInst) -> bool
         && inst.args().iter().all(|term| is_term_of(problem, 0, term))
 }
 
-/// Returns whether the axiom has at most twelve variables, and its atoms are the problem's.
+/// Returns whether the axiom has at most [`MOST_FORMULA_VARIABLES`] variables, and its atoms are the problem's.
 fn is_axiom_of(problem: &Problem, clause: &Clause) -> bool
     ensures { IsTrue result ↔ IsAxiomOf problem.now clause.now }
 {
     let vars = clause.vars;
-    vars <= 12
+    vars as usize <= MOST_FORMULA_VARIABLES
         && clause
             .lits
             .as_slice()
@@ -186,14 +189,6 @@ fn is_axiom_of(problem: &Problem, clause: &Clause) -> bool
 
 /// A length that no list of a problem reaches.
 const TOO_LONG: usize = u32::MAX as usize;
-/// The greatest height of a proof that a problem may ask for.
-pub const MOST_HEIGHT: u32 = 8;
-/// The most nodes that a problem may ask for.
-pub const MOST_NODES: u32 = 1_000_000;
-/// The most shapes that a problem may ask for.
-pub const MOST_SHAPES: u32 = 70_000;
-/// The greatest weight of a problem.
-pub const MOST_WEIGHT: u32 = 1_000;
 
 /// Returns whether the schema's lists are short.
 fn has_short_lists(schema: &Schema) -> bool
@@ -214,11 +209,11 @@ fn has_atoms_of(problem: &Problem, schema: &Schema) -> bool
         && are_atoms_of(problem, vars, schema.add.as_slice())
 }
 
-/// Returns whether the schema has the number of the place, and at most eight parameters.
+/// Returns whether the schema has the number of the place, and at most [`MOST_PARAMETERS`] parameters.
 fn is_numbered(place: usize, schema: &Schema) -> bool
-    ensures { IsTrue result ↔ ((schema.now.op ≡ place) × (schema.now.params ≤ 8)) }
+    ensures { IsTrue result ↔ ((schema.now.op ≡ place) × (schema.now.params ≤ most_parameters)) }
 {
-    schema.op as usize == place && schema.params <= 8
+    schema.op as usize == place && schema.params as usize <= MOST_PARAMETERS
 }
 
 /// Returns whether the numbers are sorts of the problem, or 0, which is no sort.

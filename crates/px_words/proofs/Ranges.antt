@@ -1,14 +1,14 @@
 -- A demo that is ordered has its numbers in their ranges.
 use Rattle.std.proofs.Common.{◌≡◌, ◌≤◌, ◌&&◌, ℕ, List, [], ◌∷◌, codes, sym, subst, leb-true}
-use Rattle.std.specs.Prelude.{nat_le, Option, None, Some, IfSome, option_and_then, option_map}
+use Rattle.std.specs.Prelude.{nat_le, if◌then◌else◌, Option, None, Some, IfSome, option_and_then, option_map}
 use Rattle.std.specs.Str.{bytes_eq}
 use Rattle.std.specs.Str.Parse.{digits_value}
 use Rattle.std.proofs.lemmas.Bool.{and_parts, cond_both}
 use Rattle.px_words.specs.Numbers.{in_range, is_number, number_within}
-use Rattle.px_words.specs.Orders.{HasRanges, demo_order, order_of}
+use Rattle.px_words.specs.Orders.{HasRanges, demo_order, lone_order, order_of}
 use Rattle.px_words.specs.Reading.{order_in}
 use Rattle.px_words.specs.declared.orders.Order.{Order}
-use Rattle.px_words.specs.declared.orders.Order.TheVariants.{Demo}
+use Rattle.px_words.specs.declared.orders.Order.TheVariants.{Check, Demo, Run}
 
 abbrev IsBetween : ℕ → ℕ → ℕ → Type 0
 IsBetween least most n = (least ≤ n) × (n ≤ most)
@@ -33,12 +33,13 @@ demo-ranges word rooms seed = cond_both (bytes_eq word (codes "demo")) (demo_ord
     (λ is. both-ranges (number_within 3 12 rooms) (number_within 0 2147483647 seed) (number-ranges 3 12 rooms)
     (number-ranges 0 2147483647 seed)) (λ is. tt)
 
-run-ranges : (word : List ℕ) → HasRanges (order_in word None None)
-run-ranges word = cond_both (bytes_eq word (codes "run")) _ None HasRanges (λ is. tt) (λ is. tt)
+lone-ranges : (word : List ℕ) → HasRanges (lone_order word)
+lone-ranges word = cond_both (bytes_eq word (codes "run")) (Some Run) (if bytes_eq word (codes "check") then Some Check else None) HasRanges
+    (λ is. tt) (λ is. cond_both (bytes_eq word (codes "check")) (Some Check) None HasRanges (λ is. tt) (λ is. tt))
 
 pub order_ranges : (words : List (List ℕ)) → HasRanges (order_of words)
 order_ranges [] = tt
-order_ranges (word ∷ []) = run-ranges word
+order_ranges (word ∷ []) = lone-ranges word
 order_ranges (word ∷ rooms ∷ []) = tt
 order_ranges (word ∷ rooms ∷ seed ∷ []) = demo-ranges word rooms seed
 order_ranges (word ∷ rooms ∷ seed ∷ more ∷ words) = tt

@@ -13,10 +13,10 @@ use Rattle.clap.specs.declared.parser.matches.Found.{Found}
 use Rattle.clap.proofs.OnLiterals.{clap_on_literals}
 use Rattle.clap.proofs.WalkLemmas.{first_value-rows}
 use Rattle.px_words.specs.Numbers.{is_number, number_within}
-use Rattle.px_words.specs.Orders.{demo_order, order_of}
+use Rattle.px_words.specs.Orders.{demo_order, lone_order, order_of}
 use Rattle.px_words.specs.Reading.{order_in, order_read, planex}
 use Rattle.px_words.specs.declared.orders.Order.{Order}
-use Rattle.px_words.specs.declared.orders.Order.TheVariants.{Demo, Run}
+use Rattle.px_words.specs.declared.orders.Order.TheVariants.{Check, Demo, Run}
 use Rattle.px_words.proofs.Decimals.{other-than, plain-number}
 
 -- ---- what `clap` makes of the words
@@ -32,6 +32,14 @@ run-values = refl
 run-taken : takes planex (codes "run" ∷ []) ≡ true
 unfolding clap_on_literals
 run-taken = refl
+
+check-values : values (matches_of planex (codes "check" ∷ [])) ≡ (Some (codes "check"), (None, None))
+unfolding clap_on_literals
+check-values = refl
+
+check-taken : takes planex (codes "check" ∷ []) ≡ true
+unfolding clap_on_literals
+check-taken = refl
 
 -- ---- words that don't begin with a hyphen
 
@@ -172,11 +180,24 @@ demo-shape word rooms seed is =
       plain_too = other-than other.first 45 other.digit (omega arith);
     }
 
-taken-shape : (words : List (List ℕ)) → is_some (order_of words) ≡ true → (words ≡ codes "run" ∷ []) ⊎ IsDemo words
+some-either : (b c : Bool) → is_some (if b then Some Run else (if c then Some Check else None)) ≡ true → (b ≡ true) ⊎ (c ≡ true)
+some-either true c is = inl refl
+some-either false true is = inr refl
+some-either false false is = absurd (true≢false (sym is))
+
+-- `run` or `check`, alone
+abbrev IsLone : List (List ℕ) → Type 0
+IsLone words = (words ≡ codes "run" ∷ []) ⊎ (words ≡ codes "check" ∷ [])
+
+lone-shape : (word : List ℕ) → is_some (lone_order word) ≡ true → IsLone (word ∷ [])
+lone-shape word is = elim (some-either (bytes_eq word (codes "run")) (bytes_eq word (codes "check")) is) [
+  | inl run ↦ inl (ap (λ (w : List ℕ). w ∷ []) ((bytes_eq-Decides word (codes "run")).0 run))
+  | inr check ↦ inr (ap (λ (w : List ℕ). w ∷ []) ((bytes_eq-Decides word (codes "check")).0 check))
+]
+
+taken-shape : (words : List (List ℕ)) → is_some (order_of words) ≡ true → IsLone words ⊎ IsDemo words
 taken-shape [] is = absurd (true≢false (sym is))
-taken-shape (word ∷ []) is =
-    let word_is : word ≡ codes "run" = (bytes_eq-Decides word (codes "run")).0 (some-cond (bytes_eq word (codes "run")) (Some Run) is).0 in
-    inl (ap (λ (w : List ℕ). w ∷ []) word_is)
+taken-shape (word ∷ []) is = inl (lone-shape word is)
 taken-shape (word ∷ rooms ∷ []) is = absurd (true≢false (sym is))
 taken-shape (word ∷ rooms ∷ seed ∷ []) is = inr (demo-shape word rooms seed is)
 taken-shape (word ∷ rooms ∷ seed ∷ more ∷ words) is = absurd (true≢false (sym is))
@@ -195,7 +216,10 @@ read-from found rows is =
 
 values-order : (words : List (List ℕ)) → is_some (order_of words) ≡ true → order-from (values (matches_of planex words)) ≡ order_of words
 values-order words is = elim (taken-shape words is) [
-  | inl run ↦ subst (λ (ws : List (List ℕ)). order-from (values (matches_of planex ws)) ≡ order_of ws) (sym run) (ap order-from run-values)
+  | inl (inl run) ↦ subst (λ (ws : List (List ℕ)). order-from (values (matches_of planex ws)) ≡ order_of ws) (sym run)
+      (ap order-from run-values)
+  | inl (inr check) ↦ subst (λ (ws : List (List ℕ)). order-from (values (matches_of planex ws)) ≡ order_of ws) (sym check)
+      (ap order-from check-values)
   | inr demo ↦ subst (λ (ws : List (List ℕ)). order-from (values (matches_of planex ws)) ≡ order_of ws) (sym demo.whole)
       (ap order-from (demo-values demo.first demo.rest demo.second demo.more demo.plain demo.plain_too))
 ]
@@ -206,7 +230,8 @@ reads found words taken is = read-from found (matches_of planex words) is ∙ va
 
 pub takes-them : (words : List (List ℕ)) → is_some (order_of words) ≡ true → takes planex words ≡ true
 takes-them words is = elim (taken-shape words is) [
-  | inl run ↦ subst (λ (ws : List (List ℕ)). takes planex ws ≡ true) (sym run) run-taken
+  | inl (inl run) ↦ subst (λ (ws : List (List ℕ)). takes planex ws ≡ true) (sym run) run-taken
+  | inl (inr check) ↦ subst (λ (ws : List (List ℕ)). takes planex ws ≡ true) (sym check) check-taken
   | inr demo ↦ subst (λ (ws : List (List ℕ)). takes planex ws ≡ true) (sym demo.whole)
       (demo-taken demo.first demo.rest demo.second demo.more demo.plain demo.plain_too)
 ]

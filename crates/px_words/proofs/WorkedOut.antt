@@ -6,10 +6,12 @@ use Rattle.px_words.specs.Worked.{WorkedWords}
 pub worked_words : WorkedWords
 worked_words = record {
   run = refl;
+  check = refl;
   demo = refl;
   zeros = refl;
   nothing = refl;
   more = refl;
+  more_to_check = refl;
   fewer = refl;
   too_few_rooms = refl;
   too_many_rooms = refl;

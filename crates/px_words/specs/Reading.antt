@@ -5,9 +5,8 @@ use Rattle.clap.specs.Simple.{App, new_app, new_rule, on_top, with_rule}
 use Rattle.clap.specs.Walk.{Rule}
 use Rattle.clap.specs.Words.{first_value}
 use Rattle.clap.specs.declared.parser.matches.Found.{Found}
-use Rattle.px_words.specs.Orders.{demo_order}
+use Rattle.px_words.specs.Orders.{demo_order, lone_order}
 use Rattle.px_words.specs.declared.orders.Order.{Order}
-use Rattle.px_words.specs.declared.orders.Order.TheVariants.{Run}
 
 abbrev pub word_rule : Rule
 word_rule = record (new_rule (codes "WORD")) { required = true }
@@ -19,7 +18,7 @@ planex = with_rule (with_rule (with_rule (on_top (λ top. record top { no_binary
 
 -- what a first word orders, with the two words that may follow it
 abbrev pub order_in : List ℕ → (rooms seed : Option (List ℕ)) → Option Order
-order_in word None None = if bytes_eq word (codes "run") then Some Run else None
+order_in word None None = lone_order word
 order_in word (Some rooms) (Some seed) = if bytes_eq word (codes "demo") then demo_order rooms seed else None
 order_in word None (Some seed) = None
 order_in word (Some rooms) None = None

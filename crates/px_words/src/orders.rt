@@ -1,6 +1,6 @@
 //! What the words order.
 ghost use Rattle.std.specs.Prelude.{◌≡◌, IfErr, IfOk, Some, is_some, map, option_map, true};
-ghost use Rattle.px_words.specs.Orders.{HasRanges, demo_order, order_of};
+ghost use Rattle.px_words.specs.Orders.{HasRanges, demo_order, lone_order, order_of};
 ghost use Rattle.px_words.specs.Reading.{order_in};
 
 use crate::numbers::number_within;
@@ -13,6 +13,8 @@ use std::alloc::Global;
 pub enum Order {
     /// A script is to be read and run.
     Run,
+    /// A certificate is to be read and checked.
+    Check,
     /// The demo is to be made and run.
     Demo {
         /// How many rooms.
@@ -57,9 +59,22 @@ pub(crate) fn order_in(word: &str, rooms: Option<&str>, seed: Option<&str>) -> O
     ensures { result ≡ order_in word.now (option_map (λ text. text.now) rooms.entry) (option_map (λ text. text.now) seed.entry) }
 {
     match (rooms, seed) {
-        (None, None) if word == "run" => Some(Order::Run),
+        (None, None) => lone_order(word),
         (Some(rooms), Some(seed)) if word == "demo" => demo_order(rooms, seed),
         _ => None,
+    }
+}
+
+/// Returns what a word orders that stands alone.
+fn lone_order(word: &str) -> Option<Order>
+    ensures { result ≡ lone_order word.now }
+{
+    if word == "run" {
+        Some(Order::Run)
+    } else if word == "check" {
+        Some(Order::Check)
+    } else {
+        None
     }
 }
 

@@ -10,8 +10,9 @@ fn orders(alloc: Global, words: &[&str], order: Option<Order>) -> Result<bool, N
 }
 
 #[test]
-fn run_is_read(rt: HostRuntime) -> Result<(), NoMemory> {
+fn words_alone_are_read(rt: HostRuntime) -> Result<(), NoMemory> {
     assert!(&rt; orders(rt.alloc(), &["run"], Some(Order::Run))?);
+    assert!(&rt; orders(rt.alloc(), &["check"], Some(Order::Check))?);
     Ok(())
 }
 

@@ -1,5 +1,5 @@
 -- Worlds as an executor knows them: what one may refuse, and what edits of facts are and leave.
-use Rattle.std.specs.Prelude.{◌≡◌, List, All, Contains}
+use Rattle.std.specs.Prelude.{◌≡◌, ◌≤◌, ◌+◌, List, length, All, Contains}
 use Rattle.px_terms.specs.declared.atom.Atom.{Atom}
 use Rattle.px_terms.specs.declared.instance.OpInst.{OpInst}
 use Rattle.px_terms.specs.declared.problem.Problem.{Problem}
@@ -36,3 +36,7 @@ edited (Remove atom) atoms = without_atom atom atoms
 abbrev pub IsGroundEdit : AtomEdit → Type 0
 IsGroundEdit (Add atom) = IsGround atom
 IsGroundEdit (Remove atom) = IsGround atom
+
+-- an edit leaves at most one atom more
+abbrev pub EditsAddOne : {E : Type 0} → (E → List Atom → List Atom) → Type 0
+EditsAddOne {E} leaves = (edit : E) (atoms : List Atom) → length (leaves edit atoms) ≤ length atoms + 1

@@ -12,7 +12,8 @@
 //!   the precondition isn't among the world's atoms but follows from them, nothing can be refused ([`worked_guard`]).
 //! - A world with [`Regrow`] can be given more room between two runs, and counts its true atoms. Of its methods `regrow` alone takes
 //!   memory.
-//! - [`AtomWorld`] is a set of atoms with a problem. It never answers `Guard`, and it admits each [`AtomEdit`] of a ground atom.
+//! - [`AtomWorld`] is a set of atoms with a problem. It never answers `Guard`, and it admits each [`AtomEdit`] of a ground atom, which
+//!   leaves at most one atom more ([`atom_edits_add_one`]).
 //! - [`RoomEdit`] is a change in a building, whose things are given as [`Thing`]s.
 #![tactic(auto)]
 
@@ -27,7 +28,7 @@ mod world;
 
 pub use atom_world::AtomWorld;
 pub use edits::{AtomEdit, RoomEdit};
-pub use laws::worked_guard;
+pub use laws::{atom_edits_add_one, worked_guard};
 pub use regrow::Regrow;
 pub use thing::Thing;
 pub use world::{Guard, World};

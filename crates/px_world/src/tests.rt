@@ -3,7 +3,7 @@ ghost use Rattle.std.specs.Prelude.{◌≡◌, IfOk, length, slice_index_or};
 ghost use Rattle.px_terms.specs.Operators.{no_schema};
 ghost use Rattle.px_terms.specs.Validity.{IsValid};
 
-use crate::{AtomEdit, AtomWorld, Regrow, World, worked_guard};
+use crate::{AtomEdit, AtomWorld, Regrow, World, atom_edits_add_one, worked_guard};
 use px_ops::Model;
 use px_terms::{Atom, ClauseArena, Limits, NoMemory, OpInst, Problem, Schema, Sequence};
 use std::alloc::Global;
@@ -57,4 +57,5 @@ fn a_world_of_atoms(rt: HostRuntime) -> Result<(), NoMemory> {
 #[test]
 fn laws_are_calls(_rt: HostRuntime) {
     worked_guard();
+    atom_edits_add_one();
 }

@@ -51,7 +51,7 @@ pub trait World {
         ensures atoms { into.new.atoms ≡ atoms self.now }
         ensures spare { into.old.spare ≤ into.new.spare + length (atoms self.now) };
 
-    /// Takes the action: what the instance deletes goes, then what it adds comes.
+    /// Takes the action: what the instance deletes goes, then what it adds comes, whatever the sorts of its objects.
     ///
     /// # Errors
     /// `Guard` only where the precondition may be false: in some state in which the axioms and all atoms hold, one of its

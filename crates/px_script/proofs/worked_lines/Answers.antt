@@ -19,7 +19,28 @@ returns-clause-buildings c = search (after-so, refuse-so) depth 14
 
 pub returns-clause-commands : goal.returns-clause-commands
 unfolding lines_read scan_by unicode_ident encode all_within items_after with_item set_of digits
-returns-clause-commands c = search (after-so, refuse-so) depth 14
+returns-clause-commands c = record {
+  plans = search (after-so, refuse-so) depth 14;
+  numbers_variables = search (after-so, refuse-so) depth 14;
+  learns = search (after-so, refuse-so) depth 14;
+  shows = search (after-so, refuse-so) depth 14;
+  disturbs = search (after-so, refuse-so) depth 14;
+  disturbs_after_run = search (after-so, refuse-so) depth 14;
+  disturbs_rooms = search (after-so, refuse-so) depth 14;
+  runs = search (after-so, refuse-so) depth 14;
+  last_parameter = search (after-so, refuse-so) depth 14;
+  tells_facts = search (after-so, refuse-so) depth 14;
+  no_form = search (after-so, refuse-so) depth 14;
+  unknown = search (after-so, refuse-so) depth 14;
+  known_result = search (after-so, refuse-so) depth 14;
+  arity = search (after-so, refuse-so) depth 14;
+  unbound = search (after-so, refuse-so) depth 14;
+  out_of_order = search (after-so, refuse-so) depth 14;
+  many_commands = search (after-so, refuse-so) depth 14;
+  many_disturbing_rooms = search (after-so, refuse-so) depth 14;
+  many_disturbed_rooms = search (after-so, refuse-so) depth 14;
+  limits = search (after-so, refuse-so) depth 14;
+}
 
 -- the plain scan finds its spelling
 spell : (characters : List ℕ) (s : Statement) → scan characters ≡ Some (spelling s) → Spell characters s

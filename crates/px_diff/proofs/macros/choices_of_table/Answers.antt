@@ -29,7 +29,7 @@ choices_of_rows-requires c = record {
       subst (IsBinding c.args.request.now.problem.now.objects) (sym c.as_slice-terms.ensures.value)
       (unbound-binding c.args.request.now.problem.now.objects c.args.table.now.params c.in_ok-made.made.items c.in_ok-made.ensures
       (λ _. omega (arith, c.if-problem-eq0.false)));
-  few = omega (arith, c.if-table-gt4096.false);
+  few = omega (arith, c.if-table-gt-MOST_GAP_VARIABLES.false);
 }
 
 pub returns : goal.returns

@@ -10,7 +10,8 @@ use Rattle.px_terms.specs.Operators.{IsAdded}
 use Rattle.px_diff.specs.Pushes.{IsRelevant}
 use Rattle.px_diff.proofs.GatherLemmas.{front-table}
 use Rattle.px_base.proofs.Loops.{is_false, said_no, said_yes}
-use Rattle.px_diff.proofs.MacroLemmas.{macro_adds, prefix-instances, relevance_macro}
+use Rattle.px_diff.proofs.MacroLemmas.{macro_adds, relevance_macro}
+use Rattle.px_table.specs.PrefixLaws.{prefix-instances}
 use Rattle.px_entries.proofs.RowSteps.{steps-variables}
 use Rattle.px_diff.proofs.macros.is_relevant_macro.Goals as goal
 
@@ -32,7 +33,7 @@ pub add_wanted-requires-clause-steps : goal.add_wanted-requires-clause-steps
 add_wanted-requires-clause-steps c =
     subst (All (IsInstanceOf c.args.front.now.request.problem.now)) (sym (c.deref.ensures.value ∙ c.in_ok-steps.ensures))
     (prefix-instances c.args.front.now.request.problem.now c.args.front.now.table.now c.args.front.now.count c.args.sigma.now
-    (front-table c.args.front.now c.requires.front) c.requires.sigma)
+    (front-table c.args.front.now c.requires.front).in_range.steps c.requires.sigma.count c.requires.sigma.used)
 
 pub returns : goal.returns
 returns c =

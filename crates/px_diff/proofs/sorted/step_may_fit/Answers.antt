@@ -13,7 +13,7 @@ returns c = λ none sigma extends fits.
     let problem = c.args.problem.now in
     let step = c.args.step.now in
     let terms = c.args.terms.now in
-    c.may_stand.ensures none sigma (read-fits problem.object_sorts (schema_of problem step).param_sorts c.as_slice.result.now
+    c.objects_may_stand.ensures none sigma (read-fits problem.object_sorts (schema_of problem step).param_sorts c.as_slice.result.now
     c.as_slice-2.result.now sigma (map (substitute terms) step.args) c.args-2.result.now c.as_slice.ensures
     (c.as_slice-2.ensures ∙ ap (λ (schema : Schema). schema.param_sorts) c.schema_of.ensures.schema)
     (c.args-2.ensures.value ∙ ap (λ (inst : OpInst). inst.args) c.apply_inst-here.ensures)

@@ -6,4 +6,4 @@ use Rattle.px_printer.proofs.table_text.push_after_spaces.Given as goal
 
 abbrev pub invariant-loop-atom : goal.invariant-loop-atom
 invariant-loop-atom l = string_bytes l.text ≡ string_bytes l.initial.text
-    ++ after_spaces (map (atom_text l.names l.params) (take l.atom-index l.atoms))
+    ++ after_spaces (map (atom_text l.names l.spelling) (take l.atom-index l.atoms))

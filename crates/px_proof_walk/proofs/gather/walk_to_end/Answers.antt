@@ -1,10 +1,10 @@
 -- Proofs of the goals that `walk_to_end` of src/gather.rt leaves open.
-use Rattle.std.proofs.Common.{List, [], ◌∷◌, ◌++◌, ◌+◌, ◌<◌, refl, length, arith, ap, subst, ◌∙◌}
+use Rattle.std.proofs.Common.{List, [], ◌∷◌, ◌++◌, ◌+◌, ◌<◌, refl, length, arith, ap, subst, sym, ◌∙◌}
 use Rattle.px_proof.specs.declared.shape.Tick.{Tick}
 use Rattle.px_proof_walk.specs.Order.{IsNext, NoneAfter}
 use Rattle.px_proof_walk.proofs.Visits.{seen-start, seen-next, all-come, limit-comes, length-seen}
-use Rattle.px_proof_walk.proofs.Trails.{trail-next, trail-shapes}
-use Rattle.px_proof_walk.specs.Trail.{BranchesOff, shapes_along}
+use Rattle.px_proof_walk.proofs.Trails.{trail-next, trail-visits}
+use Rattle.px_proof_walk.specs.Trail.{AreVisits, BranchesOff}
 use Rattle.px_proof_walk.proofs.gather.walk_to_end.Goals as goal
 
 pub loop-count-init : goal.loop-count-init
@@ -15,7 +15,10 @@ loop-count-init g c = record {
   here = rw c.requires.start c.requires.possible;
   visits = (
     [],
-    rw c.new-trail.ensures.items (record { branches = rw c.requires.start refl; shapes = refl }),
+    rw c.new-trail.ensures.items (record {
+      visits = record { each = tt; branches = λ k below. absurd (omega (arith, below)) };
+      branches = rw c.requires.start refl;
+    }),
     refl,
     rw c.requires.start (seen-start (g.W.Walk.possible c.args.question.now) (λ ticks. ⊥)),
     c.requires.nothing,
@@ -26,9 +29,11 @@ pub returns-then-count-limit-clause-limited : goal.returns-then-count-limit-clau
 returns-then-count-limit-clause-limited g c =
     let visits = c.loop-count.invariant.visits in (
       visits.0 ++ g.W.Walk.ticks c.loop-count.walk ∷ [],
-      c.in_ok-shapes.ensures ∙ ap (shapes_along []) (c.deref.ensures.value ∙ c.in_ok-push.ensures.ok)
-          ∙ trail-shapes (g.W.Walk.places c.args.question.now) c.loop-count.trail.items visits.0 (g.W.Walk.ticks c.loop-count.walk)
-          c.visit-visit.result visits.1 c.visit-visit.ensures,
+      c.in_ok-shapes.ensures (g.W.Walk.places c.args.question.now) (visits.0 ++ g.W.Walk.ticks c.loop-count.walk ∷ [])
+          (subst (AreVisits (g.W.Walk.places c.args.question.now) (visits.0 ++ g.W.Walk.ticks c.loop-count.walk ∷ []))
+          (sym (c.deref.ensures.value ∙ c.in_ok-push.ensures.ok))
+          (trail-visits (g.W.Walk.places c.args.question.now) c.loop-count.trail.items visits.0 (g.W.Walk.ticks c.loop-count.walk)
+          c.visit-visit.result visits.1 c.visit-visit.ensures)),
       limit-comes (g.W.Walk.possible c.args.question.now) (λ ticks. ⊥) visits.0 _ visits.3 c.loop-count.invariant.here (λ h. h) c.args.limit
           (rw visits.2 c.if-count-limit.true),
     )

@@ -1,8 +1,8 @@
 -- Proofs of the goals that `walk_to_finished` of src/steps.rt leaves open.
-use Rattle.std.proofs.Common.{[], ◌∷◌, ◌++◌, ◌+◌, ◌<◌, refl, length, ap, arith, ◌∙◌}
+use Rattle.std.proofs.Common.{[], ◌∷◌, ◌++◌, ◌+◌, ◌<◌, refl, length, arith, ◌∙◌, subst, sym}
 use Rattle.px_proof_walk.proofs.Visits.{seen-start, seen-next, none-comes, limit-comes, length-seen}
-use Rattle.px_proof_walk.proofs.Trails.{trail-next, trail-shapes}
-use Rattle.px_proof_walk.specs.Trail.{shapes_along}
+use Rattle.px_proof_walk.proofs.Trails.{trail-next, trail-visits}
+use Rattle.px_proof_walk.specs.Trail.{AreVisits}
 use Rattle.px_proof_walk.proofs.steps.walk_to_finished.Goals as goal
 
 pub loop-count-init : goal.loop-count-init
@@ -13,7 +13,10 @@ loop-count-init g c = record {
   here = rw c.requires.start c.requires.possible;
   visits = (
     [],
-    rw c.new-trail.ensures.items (record { branches = rw c.requires.start refl; shapes = refl }),
+    rw c.new-trail.ensures.items (record {
+      visits = record { each = tt; branches = λ k below. absurd (omega (arith, below)) };
+      branches = rw c.requires.start refl;
+    }),
     refl,
     rw c.requires.start (seen-start (g.W.Walk.possible c.args.question.now) (g.W.Walk.finished c.args.question.now)),
   );
@@ -23,9 +26,11 @@ pub returns-then-count-limit-clause-end : goal.returns-then-count-limit-clause-e
 returns-then-count-limit-clause-end g c =
     let visits = c.loop-count.invariant.visits in (
       visits.0 ++ g.W.Walk.ticks c.loop-count.walk ∷ [],
-      c.in_ok-shapes.ensures ∙ ap (shapes_along []) (c.deref.ensures.value ∙ c.in_ok-push.ensures.ok)
-          ∙ trail-shapes (g.W.Walk.places c.args.question.now) c.loop-count.trail.items visits.0 (g.W.Walk.ticks c.loop-count.walk)
-          c.visit-visit.result visits.1 c.visit-visit.ensures,
+      c.in_ok-shapes.ensures (g.W.Walk.places c.args.question.now) (visits.0 ++ g.W.Walk.ticks c.loop-count.walk ∷ [])
+          (subst (AreVisits (g.W.Walk.places c.args.question.now) (visits.0 ++ g.W.Walk.ticks c.loop-count.walk ∷ []))
+          (sym (c.deref.ensures.value ∙ c.in_ok-push.ensures.ok))
+          (trail-visits (g.W.Walk.places c.args.question.now) c.loop-count.trail.items visits.0 (g.W.Walk.ticks c.loop-count.walk)
+          c.visit-visit.result visits.1 c.visit-visit.ensures)),
       limit-comes (g.W.Walk.possible c.args.question.now)
           (g.W.Walk.finished c.args.question.now) visits.0 _ visits.3 c.loop-count.invariant.here
           (λ finished. let is_finished = c.is_finished.ensures.1 finished in let is_not = c.if-is_finished.false in cc)

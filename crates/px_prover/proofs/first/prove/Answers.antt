@@ -1,6 +1,7 @@
 -- Proofs of the goals that `prove` of src/first.rt leaves open.
 use Rattle.std.proofs.Common.{◌≡◌, ◌≤◌, arith, sym, false, [], subst, List, ℕ, map, ◌<◌}
 use Rattle.std.specs.Prelude.{All}
+use Rattle.px_terms.specs.Limits.{most_formula_variables}
 use Rattle.px_ops.specs.Models.{IsModel}
 use Rattle.px_proof.specs.Derivation.{derivations}
 use Rattle.px_proof.specs.ProofTerm.{derivation_of}
@@ -19,7 +20,7 @@ use Rattle.px_terms.specs.declared.problem.Problem.{Problem}
 use Rattle.px_prover.proofs.first.prove.Goals as goal
 
 asked_in : (problem : Problem) (listed atoms formula : List Atom) (vars : ℕ) → listed ≡ atoms → IsModel atoms → IsValid problem
-    → All (IsAtomOf problem vars) formula → vars ≤ 12 → (0 < vars → 0 < problem.objects)
+    → All (IsAtomOf problem vars) formula → vars ≤ most_formula_variables → (0 < vars → 0 < problem.objects)
     → IsProperQuestion (setting_of problem listed) formula vars
 asked_in problem listed atoms formula vars same model valid scope few some =
     asked-of problem listed formula vars valid (subst (λ (xs : List Atom). IsModel xs) (sym same) model) scope (omega (arith, few)) some

@@ -1,6 +1,6 @@
 -- Proofs of the goals that `counted` of src/counts.rt leaves open.
 use Rattle.std.proofs.Common.{◌<◌, ◌≤◌, ◌++◌, ◌∷◌, List, [], length, sym, subst, arith}
-use Rattle.px_script.specs.Commands.{Command}
+use Rattle.px_script.specs.declared.command.Command.{Command}
 use Rattle.px_run.proofs.AnswerLemmas.{one-more, so-far-start}
 use Rattle.px_run.proofs.CountLemmas.{answered-all, count-more, count-start}
 use Rattle.px_run.proofs.counts.counted.Goals as goal

@@ -1,6 +1,6 @@
 -- Proofs of the goals that `demo` of src/demo.rt leaves open.
 use Rattle.std.proofs.Common.{◌∙◌, ℕ, List, subst}
-use Rattle.px_reader.specs.LineReads.{content}
+use Rattle.px_script.specs.ReadScripts.{content}
 use Rattle.px_script.specs.Scripts.{IsScript}
 use Rattle.px_script.specs.Stages.{stage_now}
 use Rattle.px_run.specs.Transcripts.{IsScriptRefused}

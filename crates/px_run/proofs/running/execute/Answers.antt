@@ -1,6 +1,6 @@
 -- Proofs of the goals that `execute` of src/running.rt leaves open.
 use Rattle.std.proofs.Common.{◌<◌, ◌≤◌, ◌++◌, ◌∷◌, List, [], length, refl, sym, subst, ◌∙◌, arith}
-use Rattle.px_script.specs.Commands.{Command}
+use Rattle.px_script.specs.declared.command.Command.{Command}
 use Rattle.px_session.specs.Transcripts.{texts}
 use Rattle.px_run.proofs.AnswerLemmas.{begun-of, broke-after, next-of, one-more, so-far-start, text-more, text-of, wrote-both, wrote-none, wrote-nothing}
 use Rattle.px_run.proofs.running.execute.Goals as goal

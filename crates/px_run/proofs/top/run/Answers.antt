@@ -1,5 +1,5 @@
 -- Proofs of the goals that `run` of src/top.rt leaves open.
-use Rattle.px_reader.specs.LineReads.{content}
+use Rattle.px_script.specs.ReadScripts.{content}
 use Rattle.px_run.proofs.OutcomeLemmas.{run-executed, run-refused}
 use Rattle.px_run.proofs.top.run.Goals as goal
 

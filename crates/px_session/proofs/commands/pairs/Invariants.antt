@@ -1,7 +1,6 @@
 -- What the loops of `pairs` in src/commands.rt keep true.
-use Rattle.std.proofs.Common.{◌≡◌, map, take}
-use Rattle.px_reader.specs.CommandViews.{binding_pair}
+use Rattle.std.proofs.Common.{◌≡◌, take}
 use Rattle.px_session.proofs.commands.pairs.Given as goal
 
 abbrev pub invariant-loop-binding : goal.invariant-loop-binding
-invariant-loop-binding l = l.bound.items ≡ map binding_pair (take l.binding-index l.bindings)
+invariant-loop-binding l = l.bound.items ≡ take l.binding-index l.bindings

@@ -1,5 +1,5 @@
 -- Proofs of the goals that `count_edits` of src/running.rt leaves open.
-use Rattle.std.proofs.Common.{◌≡◌, ◌+◌, List, length, take, ap, arith}
+use Rattle.std.proofs.Common.{◌≡◌, ◌+◌, length, take, ap, arith}
 use Rattle.px_planex.specs.Turns.{Recorded}
 use Rattle.px_session.specs.Running.{edits_in}
 use Rattle.px_session.specs.Sessions.{Edit}

@@ -1,5 +1,5 @@
 -- Proofs of the goals that `most_adds` of src/running.rt leaves open.
-use Rattle.std.proofs.Common.{◌≤◌, ◌≡◌, List, length, sym, subst, arith, ap}
+use Rattle.std.proofs.Common.{◌≤◌, ◌≡◌, List, subst, arith}
 use Rattle.px_terms.specs.declared.problem.Schema.{Schema}
 use Rattle.px_session.specs.Running.{adds_most}
 use Rattle.px_session.proofs.RunPlaces.{most-end, most-next}

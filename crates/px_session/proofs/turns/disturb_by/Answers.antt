@@ -1,5 +1,5 @@
 -- Proofs of the goals that `disturb_by` of src/turns.rt leaves open.
-use Rattle.std.proofs.Common.{List, [], ◌∷◌, ◌+◌, take, sym, subst}
+use Rattle.std.proofs.Common.{List, [], ◌∷◌, take, sym, subst}
 use Rattle.px_base.proofs.Loops.{take_next}
 use Rattle.px_session.specs.Places.{Takes, building_of}
 use Rattle.px_session.specs.Running.{IsDisturbed}

@@ -1,6 +1,6 @@
 -- Proofs of the goals that `Reader::add_facts` of src/reader.rt leaves open.
 use Rattle.px_reader.proofs.Common.{◌++◌, [], map, refl, sym, ap, ◌∙◌, subst, take_all, set_of-sorted, atom_set, IsGround, atom_cmp, Atom, atom_of, declared_of, signed_view, Reader}
-use Rattle.px_reader.specs.declared.statement.SignedAtom.{SignedAtom}
+use Rattle.px_lines.specs.declared.items.SignedAtom.{SignedAtom}
 use Rattle.px_reader.proofs.Facts.{numbered, facts-more}
 use Rattle.px_reader.proofs.reader.Reader.add_facts.Goals as goal
 

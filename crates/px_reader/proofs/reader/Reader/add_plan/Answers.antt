@@ -1,6 +1,7 @@
 -- Proofs of the goals that `Reader::add_plan` of src/reader.rt leaves open.
 use Rattle.px_reader.proofs.Common.{◌≡◌, [], ◌∷◌, map, length, sym, ap, ◌∙◌, arith, common_steps, atom_of, variable_names_of, with_command, with_names, a_plan, declared_of, signed_view, text_of}
-use Rattle.px_script.specs.Commands.{Command, Plan}
+use Rattle.px_script.specs.declared.command.Command.{Command}
+use Rattle.px_script.specs.declared.command.Command.TheVariants.{Plan}
 use Rattle.px_reader.proofs.Facts.{map_map}
 use Rattle.std.proofs.lemmas.Result.{on_ok_weaker}
 use Rattle.px_reader.proofs.reader.Reader.add_plan.Goals as goal

@@ -1,6 +1,6 @@
 -- Proofs of the goals that `Reader::atom` of src/reader.rt leaves open.
 use Rattle.px_reader.proofs.Common.{◌≡◌, ◌≤◌, map, take, length, sym, ap, ◌∙◌, arith, take_all, map-map, Term, Atom, parameters_here, term_of, atom_of, declared_of, argument_view, signed_view, text_of}
-use Rattle.px_reader.specs.declared.statement.Argument.{Argument}
+use Rattle.px_lines.specs.declared.items.Argument.{Argument}
 use Rattle.px_reader.proofs.reader.Reader.atom.Goals as goal
 
 pub returns : goal.returns

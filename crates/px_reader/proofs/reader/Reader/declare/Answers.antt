@@ -7,51 +7,51 @@ use Rattle.px_reader.proofs.reader.Reader.declare.Goals as goal
 pub add_axiom-requires-clause-few_variables : goal.add_axiom-requires-clause-few_variables
 add_axiom-requires-clause-few_variables c =
     let f = (rw c.in-Axiom.is at c.requires.faultless) refl in
-    rw c.deref-in-Axiom.ensures.value (at-most 12 _ f.limits.1.1.0)
+    (at-most 12 _ f.limits.1.1.0)
 
 pub add_axiom-requires-clause-readable : goal.add_axiom-requires-clause-readable
-add_axiom-requires-clause-readable c = readable (declared_of c.args.self.now) _ c.in-Axiom.literals.items _
-    c.deref-in-Axiom.ensures.value c.requires.range (rw c.in-Axiom.is at c.requires.right) refl
+add_axiom-requires-clause-readable c = readable (declared_of c.args.self.now) _ c.in-Axiom.literals.now _
+    refl c.requires.range (rw c.in-Axiom.is at c.requires.right) refl
 
 pub add_axiom-requires-clause-plain : goal.add_axiom-requires-clause-plain
 add_axiom-requires-clause-plain c =
     let f = (rw c.in-Axiom.is at c.requires.faultless) refl in
-    rw c.deref-in-Axiom.ensures.value (axiom-plain (declared_of c.args.self.now) _ c.requires.range
+    (axiom-plain (declared_of c.args.self.now) _ c.requires.range
     (rw c.in-Axiom.is at c.requires.formed) f)
 
 pub extend_operator-requires : goal.extend_operator-requires
-extend_operator-requires c = readable (declared_of c.args.self.now) _ c.in-Pre.atoms.items _
-    c.deref-in-Pre.ensures.value c.requires.range (rw c.in-Pre.is at c.requires.right) refl
+extend_operator-requires c = readable (declared_of c.args.self.now) _ c.in-Pre.atoms.now _
+    refl c.requires.range (rw c.in-Pre.is at c.requires.right) refl
 
 pub extend_operator-requires-in-Delete : goal.extend_operator-requires-in-Delete
-extend_operator-requires-in-Delete c = readable (declared_of c.args.self.now) _ c.in-Delete.atoms.items _
-    c.deref-in-Delete.ensures.value c.requires.range (rw c.in-Delete.is at c.requires.right) refl
+extend_operator-requires-in-Delete c = readable (declared_of c.args.self.now) _ c.in-Delete.atoms.now _
+    refl c.requires.range (rw c.in-Delete.is at c.requires.right) refl
 
 pub extend_operator-requires-in-Add : goal.extend_operator-requires-in-Add
-extend_operator-requires-in-Add c = readable (declared_of c.args.self.now) _ c.in-Add.atoms.items _
-    c.deref-in-Add.ensures.value c.requires.range (rw c.in-Add.is at c.requires.right) refl
+extend_operator-requires-in-Add c = readable (declared_of c.args.self.now) _ c.in-Add.atoms.now _
+    refl c.requires.range (rw c.in-Add.is at c.requires.right) refl
 
 pub add_facts-requires-clause-readable : goal.add_facts-requires-clause-readable
-add_facts-requires-clause-readable c = readable (declared_of c.args.self.now) _ c.in-Fact.atoms.items _
-    c.deref-in-Fact.ensures.value c.requires.range (rw c.in-Fact.is at c.requires.right) refl
+add_facts-requires-clause-readable c = readable (declared_of c.args.self.now) _ c.in-Fact.atoms.now _
+    refl c.requires.range (rw c.in-Fact.is at c.requires.right) refl
 
 pub add_facts-requires-clause-all_ground : goal.add_facts-requires-clause-all_ground
 add_facts-requires-clause-all_ground c =
     let right = rw c.in-Fact.is at c.requires.right in
-    rw c.deref-in-Fact.ensures.value (facts-ground (declared_of c.args.self.now) c.in-Fact.atoms.items c.requires.range right)
+    (facts-ground (declared_of c.args.self.now) c.in-Fact.atoms.now c.requires.range right)
 
 pub add_plan-requires-clause-few_variables : goal.add_plan-requires-clause-few_variables
 add_plan-requires-clause-few_variables c =
     let f = (rw c.in-Plan.is at c.requires.faultless) refl in
-    rw c.deref-in-Plan.ensures.value (at-most 12 _ f.limits.0)
+    (at-most 12 _ f.limits.0)
 
 pub add_plan-requires-clause-readable : goal.add_plan-requires-clause-readable
-add_plan-requires-clause-readable c = readable (declared_of c.args.self.now) _ c.in-Plan.goal.items _
-    c.deref-in-Plan.ensures.value c.requires.range (rw c.in-Plan.is at c.requires.right) refl
+add_plan-requires-clause-readable c = readable (declared_of c.args.self.now) _ c.in-Plan.goal.now _
+    refl c.requires.range (rw c.in-Plan.is at c.requires.right) refl
 
 pub disturb_atoms-requires-clause-readable : goal.disturb_atoms-requires-clause-readable
-disturb_atoms-requires-clause-readable c = readable (declared_of c.args.self.now) _ c.in-DisturbAtoms.edits.items _
-    c.deref-in-DisturbAtoms.ensures.value c.requires.range (rw c.in-DisturbAtoms.is at c.requires.right) refl
+disturb_atoms-requires-clause-readable c = readable (declared_of c.args.self.now) _ c.in-DisturbAtoms.edits.now _
+    refl c.requires.range (rw c.in-DisturbAtoms.is at c.requires.right) refl
 
 pub disturb_atoms-requires-clause-room : goal.disturb_atoms-requires-clause-room
 disturb_atoms-requires-clause-room c =
@@ -65,4 +65,10 @@ disturb_rooms-requires c =
 
 pub declare_names-requires-clause-named : goal.declare_names-requires-clause-named
 declare_names-requires-clause-named c =
-    rw c.deref.ensures.value (objects-named c.in-Object.names.items (rw c.in-Object.is at c.requires.named).1)
+    (objects-named c.in-Object.names.now (rw c.in-Object.is at c.requires.named).1)
+
+pub returns-in-Door : goal.returns-in-Door
+returns-in-Door c = rw c.in-Door.is c.add_door.ensures
+
+pub returns-in-Box : goal.returns-in-Box
+returns-in-Box c = rw c.in-Box.is c.add_box.ensures

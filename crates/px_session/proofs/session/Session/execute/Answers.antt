@@ -1,7 +1,6 @@
 -- Proofs of the goals that `Session::execute` of src/session.rt leaves open.
-use Rattle.std.proofs.Common.{◌≡◌, ◌+◌, ◌<◌, All, Contains, flat_map, get_or, length, map, take, refl, sym, subst, arith}
+use Rattle.std.proofs.Common.{◌≡◌, ◌+◌, ◌<◌, All, Contains, flat_map, get_or, length, take, refl, sym, subst, arith}
 use Rattle.px_printer.specs.Replies.{IsReplyNamed}
-use Rattle.px_reader.specs.CommandViews.{command_view}
 use Rattle.px_script.specs.Ranges.{result_given}
 use Rattle.px_session.specs.KeptSessions.{IsRunnable}
 use Rattle.px_session.specs.Named.{IsTellable}
@@ -25,13 +24,13 @@ invariant_of-self-2 c =
     c.index-as_slice-k.result
     c.self.invariant.commands c.as_slice.ensures below c.index-as_slice-k.is in
     let next : c.args.k ≡ c.self.inside.done = subst (λ (s : SessionValue). c.args.k ≡ s.done) (sym c.self.view_is) c.requires.next in
-    let is = command-at c.self.inside.commands c.as_slice.result.now c.args.k c.index-as_slice-k.result c.as_slice.ensures below
+    let is = command-at c.self.inside.commands c.as_slice.result.now c.args.k c.index-as_slice-k.result c.as_slice.ensures
     c.index-as_slice-k.is in
     kept-after c.self.inside.building c.run_command.new.building (held.the_view c.self.inside)
-    (command_view c.index-as_slice-k.result) c.in_ok-reply.reply c.run_command.new.state (c.self.inside.done + 1)
+    c.index-as_slice-k.result c.in_ok-reply.reply c.run_command.new.state (c.self.inside.done + 1)
     c.self.invariant refl (omega (arith, below, next))
-    (subst (λ n. command_view c.index-as_slice-k.result ≡ get_or (map command_view c.self.inside.commands) n
-    (command_view c.index-as_slice-k.result)) next is)
+    (subst (λ n. c.index-as_slice-k.result ≡ get_or c.self.inside.commands n
+    c.index-as_slice-k.result) next is)
     runs c.in_ok-reply.ensures.lawful c.in_ok-reply.ensures.placed c.run_command.ensures.takes
 
 pub returns-clause-named : goal.returns-clause-named
@@ -42,25 +41,25 @@ returns-clause-named c =
     c.index-as_slice-k.result c.self.invariant.tellable c.as_slice.ensures below c.index-as_slice-k.is in
     subst (λ (s : SessionValue). IsReplyNamed s.names c.in_ok-reply.reply) c.self.view_is
     (named-after c.self.inside.building (held.the_view c.self.inside)
-    (command_view c.index-as_slice-k.result) c.in_ok-reply.reply c.run_command.new.state c.self.invariant tellable
+    c.index-as_slice-k.result c.in_ok-reply.reply c.run_command.new.state c.self.invariant tellable
     c.in_ok-reply.ensures.lawful)
 
 pub returns-clause-kernels : goal.returns-clause-kernels
 returns-clause-kernels c =
     kernels-after c.self.inside.building (held.the_view c.self.inside)
-    (command_view c.index-as_slice-k.result) c.in_ok-reply.reply c.run_command.new.state c.self.invariant
+    c.index-as_slice-k.result c.in_ok-reply.reply c.run_command.new.state c.self.invariant
     c.in_ok-reply.ensures.lawful
 
 pub run_command-requires-clause-new_names : goal.run_command-requires-clause-new_names
 run_command-requires-clause-new_names c =
     let below = subst (λ (s : SessionValue). c.args.k < length s.commands) (sym c.self.view_is) c.requires.below in
     let next : c.args.k ≡ c.self.inside.done = subst (λ (s : SessionValue). c.args.k ≡ s.done) (sym c.self.view_is) c.requires.next in
-    let is = command-at c.self.inside.commands c.as_slice.result.now c.args.k c.index-as_slice-k.result c.as_slice.ensures below
+    let is = command-at c.self.inside.commands c.as_slice.result.now c.args.k c.index-as_slice-k.result c.as_slice.ensures
     c.index-as_slice-k.is in
-    names-new (map command_view c.self.inside.commands) c.args.k
-    (command_view c.index-as_slice-k.result) c.self.inside.state.learned.names below is c.self.invariant.once
+    names-new c.self.inside.commands c.args.k
+    c.index-as_slice-k.result c.self.inside.state.learned.names below is c.self.invariant.once
     (subst (λ n. All (Contains (flat_map result_given
-    (take n (map command_view c.self.inside.commands)))) c.self.inside.state.learned.names) (sym next) c.self.invariant.learned)
+    (take n c.self.inside.commands))) c.self.inside.state.learned.names) (sym next) c.self.invariant.learned)
 
 pub run_command-requires-clause-few : goal.run_command-requires-clause-few
 run_command-requires-clause-few c =

@@ -1,11 +1,10 @@
 -- Proofs of the goals that `Session::new` of src/session.rt leaves open.
-use Rattle.std.proofs.Common.{◌<◌, List, map, length, sym, ◌∙◌, subst}
+use Rattle.std.proofs.Common.{◌<◌, List, length, sym, ◌∙◌, subst}
 use Rattle.std.specs.Prelude.{Option}
 use Rattle.px_base.specs.Bounds.{u32_max}
 use Rattle.px_world.specs.declared.thing.Thing.{Thing}
 use Rattle.px_rooms.specs.States.{IsBuilding, RoomState}
-use Rattle.px_reader.specs.CommandViews.{command_view}
-use Rattle.px_reader.specs.LineReads.{content}
+use Rattle.px_script.specs.ReadScripts.{content}
 use Rattle.px_script.specs.Ranges.{IsBuildingOf}
 use Rattle.px_session.specs.KeptSessions.{IsKeptSession}
 use Rattle.px_session.specs.Opened.{SessionValue}
@@ -38,7 +37,7 @@ invariant_of-result c =
     λ state. record {
       problem = script.problem;
       names = script.names;
-      commands = map command_view script.commands;
+      commands = script.commands;
       done = 0;
       state = state;
     } in

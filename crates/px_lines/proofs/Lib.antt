@@ -1,0 +1,12 @@
+-- The files of lemmas.
+pub mod Common
+-- characters and tokens
+pub mod Texts
+pub mod Numbers
+pub mod LineFronts
+-- lists of tokens
+pub mod Walks
+pub mod Parameters
+-- lines by their rows
+pub mod Ones
+pub mod Views

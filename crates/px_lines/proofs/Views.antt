@@ -1,0 +1,90 @@
+-- What single tokens say has no atoms and no parameters, and is filled; tests of all that a line's items have.
+use Rattle.px_lines.proofs.Common.{ℕ, Some, ◌≡◌, Bool, true, false, List, [], ◌∷◌, ◌++◌, map, refl, ap, sym, ◌∙◌, append-nil, list_all, list_all-append}
+use Rattle.std.specs.List.{flat_map, list_any}
+use Rattle.std.specs.Prelude.{◌&&◌, ◌||◌, is_some}
+use Rattle.std.proofs.lemmas.List.Folds.{list_all-map, list_any-append}
+use Rattle.px_script.specs.Items.{Item, arguments_in, atoms_in, has_parameter, is_filled}
+use Rattle.px_script.proofs.Forms.{there}
+use Rattle.px_script.proofs.ReadRows.{has-row, row-is_word}
+use Rattle.px_script.proofs.Rows.{row_of}
+use Rattle.px_script.specs.Limits.{is_word}
+use Rattle.px_lines.specs.ItemViews.{rest_view, said_items, said_view}
+use Rattle.px_lines.specs.LineViews.{row_view}
+use Rattle.px_lines.specs.declared.rows.Row.{Row}
+use Rattle.px_lines.specs.declared.items.Rest.{Rest}
+use Rattle.px_lines.specs.declared.items.Said.{Said}
+use Rattle.px_lines.specs.declared.items.Said.TheVariants as said
+
+-- a test of all, of items seen otherwise
+pub ruleset all_maps = (list_all-map)
+
+-- a list of one list
+pub ruleset whole = (append-nil)
+
+-- the words of version 1 are those of the table
+pub ruleset words = (row-is_word)
+
+-- the row of a word that was found is that of its own word
+pub known-row : (b : Bool) (w : List ℕ) (r : Row) → Some (row_view r) ≡ row_of b w → row_of b r.word.now ≡ Some (row_view r)
+known-row b w r is = there (λ t. row_of b t.word ≡ Some t) (row_of b w) (row_view r) (has-row b w) (sym is)
+
+pub known-word : (b : Bool) (w : List ℕ) (r : Row) → Some (row_view r) ≡ row_of b w → is_word 1 r.word.now ≡ true
+known-word b w r is = sym (row-is_word b r.word.now) ∙ ap is_some (known-row b w r is)
+
+pub ruleset known_rows = (known-row, known-word)
+
+one-filled : (x : Said) → is_filled (said_view x) ≡ true
+one-filled (said.The w) = refl
+one-filled _ = refl
+
+ones-filled : (ones : List Said) → list_all is_filled (map said_view ones) ≡ true
+ones-filled [] = refl
+ones-filled (x ∷ xs) = ap (λ b. b && list_all is_filled (map said_view xs)) (one-filled x) ∙ ones-filled xs
+
+no-atoms : (x : Said) → atoms_in (said_view x) ≡ []
+no-atoms (said.The w) = refl
+no-atoms _ = refl
+
+no-arguments : (x : Said) → arguments_in (said_view x) ≡ []
+no-arguments (said.The w) = refl
+no-arguments _ = refl
+
+-- a list of nothing
+none-in : {B : Type 0} (f : Item → List B) → ((x : Said) → f (said_view x) ≡ []) → (ones : List Said) (more : List Item)
+    → flat_map f (map said_view ones ++ more) ≡ flat_map f more
+none-in f none [] more = refl
+none-in f none (x ∷ xs) more = ap (λ t. t ++ flat_map f (map said_view xs ++ more)) (none x) ∙ none-in f none xs more
+
+pub filled-items : (ones : List Said) (last : Rest) → list_all is_filled (said_items ones last) ≡ list_all is_filled (rest_view last)
+filled-items ones last = list_all-append is_filled (map said_view ones) (rest_view last)
+    ∙ ap (λ b. b && list_all is_filled (rest_view last)) (ones-filled ones)
+
+pub atoms-items : (ones : List Said) (last : Rest) → flat_map atoms_in (said_items ones last) ≡ flat_map atoms_in (rest_view last)
+atoms-items ones last = none-in atoms_in no-atoms ones (rest_view last)
+
+pub arguments-items : (ones : List Said) (last : Rest) → flat_map arguments_in (said_items ones last) ≡ flat_map arguments_in (rest_view last)
+arguments-items ones last = none-in arguments_in no-arguments ones (rest_view last)
+
+no-parameter : (x : Said) → has_parameter (said_view x) ≡ false
+no-parameter (said.The w) = refl
+no-parameter _ = refl
+
+pub parameters-items : (ones : List Said) (last : Rest)
+    → list_any has_parameter (said_items ones last) ≡ list_any has_parameter (rest_view last)
+parameters-items [] last = refl
+parameters-items (x ∷ xs) last = ap (λ b. b || list_any has_parameter (said_items xs last)) (no-parameter x) ∙ parameters-items xs last
+
+or-group : (a b c : Bool) → (a || (b || c)) ≡ ((a || b) || c)
+or-group true b c = refl
+or-group false b c = refl
+
+-- a test of all that the items have, token by token, and of the rest
+pub any-said : {B : Type 0} (f : Item → List B) (p : B → Bool) (ones : List Said) (last : Rest)
+    → list_any p (flat_map f (said_items ones last))
+    ≡ (list_any (λ x. list_any p (f (said_view x))) ones || list_any p (flat_map f (rest_view last)))
+any-said f p [] last = refl
+any-said f p (x ∷ xs) last = list_any-append p (f (said_view x)) (flat_map f (said_items xs last))
+    ∙ ap (λ b. list_any p (f (said_view x)) || b) (any-said f p xs last)
+    ∙ or-group (list_any p (f (said_view x))) (list_any (λ x. list_any p (f (said_view x))) xs) (list_any p (flat_map f (rest_view last)))
+
+pub ruleset of_line = (filled-items, atoms-items, arguments-items, parameters-items)

@@ -1,0 +1,5 @@
+-- The files of definitions.
+pub mod Tokens
+pub mod ItemViews
+pub mod LineViews
+pub mod Common

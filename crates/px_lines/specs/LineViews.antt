@@ -1,0 +1,17 @@
+-- What the definitions see of rows and lines.
+use Rattle.std.specs.Prelude.{◌≡◌, Bool, IfSome, length}
+use Rattle.px_script.specs.Statements as lines
+use Rattle.px_script.proofs.Rows as rows
+use Rattle.px_lines.specs.ItemViews.{said_items}
+use Rattle.px_lines.specs.declared.rows.Row.{Row}
+use Rattle.px_lines.specs.declared.reading.Line.{Line}
+
+abbrev pub row_view : Row → rows.Row
+row_view r = rows.row r.word.now r.place r.manner r.ones.now r.last
+
+abbrev pub line_view : Line → lines.Line
+line_view l = rows.filled (row_view l.row) (said_items l.ones.items l.last)
+
+-- the line has as many things of one token each as the row of its word
+abbrev pub IsShaped : Bool → Line → Type 0
+IsShaped with_building l = IfSome (rows.row_of with_building l.row.word.now) (λ r. length l.ones.items ≡ length r.ones)

@@ -1,0 +1,28 @@
+//! The line of a script that characters are.
+//!
+//! # Calling it
+//!
+//! - [`tokens`] cuts a line into its [`Token`]s, or finds that a character begins none (`Lexes` of `px_script`).
+//! - [`formed_line`] returns the [`Line`] that tokens are: what its word is, where it may stand and what its atoms may be (its [`Row`]),
+//!   what its first tokens say ([`Said`], one token each), and what those to its end say ([`Rest`]). It is the line in its form
+//!   that `formed_line` of `px_script` reads of them, so the `line_of` of a statement, or there is none.
+//! - [`is_word`] returns whether a name may begin a line. The words stand in one table, `row_for` of `rows`; what a word's line has
+//!   follows from its row.
+//! - [`open_of`] returns what a word says of a door.
+//! - A line borrows its texts from the input.
+//!
+//! Of `specs/`, public clauses cite `Tokens`, `ItemViews` and `LineViews`: what the definitions see of tokens, of items and of lines.
+#![tactic(auto)]
+
+mod items;
+mod lists;
+mod reading;
+mod rows;
+mod series;
+mod token;
+
+pub use items::{Argument, Rest, Said, SignedAtom, WrittenBinding, WrittenRoomEdit};
+pub use reading::{Line, formed_line};
+pub use rows::{Row, is_word};
+pub use series::open_of;
+pub use token::{Token, tokens};

@@ -1,0 +1,221 @@
+//! The line that tokens are, by the row of its word.
+ghost use Rattle.std.specs.Prelude.{◌≡◌, ◌≤◌, ◌++◌, true, length, map, IfOk, IfSome};
+ghost use Rattle.std.specs.List.{flat_map, list_all, list_any};
+ghost use Rattle.px_script.proofs.Rows.{chosen, formed_line, last_at, line_at, one_of, ones_at, row_items};
+ghost use Rattle.px_script.specs.Declarations.{Declared, has_building};
+ghost use Rattle.px_script.specs.Forms.{arguments_of, is_formed, is_signed, line_atoms};
+ghost use Rattle.px_script.specs.Items.{has_parameter, is_filled};
+ghost use Rattle.px_script.specs.Limits.{is_word};
+ghost use Rattle.px_lines.specs.Common.{said_items, lexeme_of, lexemes_of, list_view, option_map, parts_view, rest_view, said_view, signed_view};
+ghost use Rattle.px_lines.specs.LineViews.{IsShaped, line_view, row_view};
+
+use crate::items::{Rest, Said, SignedAtom};
+use crate::lists::{listed_names, names};
+use crate::rows::{Row, row_for};
+use crate::series::{atoms, bindings, room_edits};
+use crate::token::Token;
+use px_base::NoMemory;
+use px_script::{Choice, Last, Manner, One};
+use std::alloc::Global;
+
+/// A line by its items: what its first tokens after the word say, and what those to its end say.
+#[derive(Drop)]
+pub struct Line<'a> {
+    /// The row of its word.
+    pub row: Row,
+    /// What the first tokens after the word say.
+    pub ones: Vec<Said<'a>>,
+    /// What the others say.
+    pub last: Rest<'a>,
+}
+
+fn has_word(choice: Choice, word: &str) -> bool
+    ensures { result ≡ chosen choice word.now }
+{
+    match choice {
+        Choice::Source => word == "from",
+        Choice::State => word == "open" || word == "closed",
+        Choice::Time => word == "between" || word == "before",
+    }
+}
+
+/// Returns what one token says.
+fn one_item<'a>(one: One, token: Token<'a>) -> Option<Said<'a>>
+    ensures { option_map said_view result ≡ one_of one (lexeme_of token.entry) }
+{
+    match (one, token) {
+        (One::Word(choice), Token::Name(word)) => {
+            if has_word(choice, word) {
+                Some(Said::The(word))
+            } else {
+                None
+            }
+        }
+        (One::Number, Token::Number(number)) => Some(Said::Number(number)),
+        (One::New(kind), Token::Name(name)) => Some(Said::New(kind, name)),
+        (One::Known(kind), Token::Name(name)) => Some(Said::Known(kind, name)),
+        _ => None,
+    }
+}
+
+/// Returns what the first tokens say, one token each.
+#[tactic(auto, using(crate::proofs::Ones::short))]
+fn one_items<'a>(
+    alloc: Global,
+    ones: &[One],
+    tokens: &[Token<'a>],
+) -> Result<Option<Vec<Said<'a>>>, NoMemory>
+    ensures found { IfOk result (λ found. list_view said_view found ≡ ones_at ones.now (lexemes_of tokens.now)) }
+    ensures within { IfOk result (λ found. IfSome found (λ items. length ones.now ≤ length tokens.now)) }
+    ensures as_many { IfOk result (λ found. IfSome found (λ items. length items.items ≡ length ones.now)) }
+{
+    if tokens.len() < ones.len() {
+        return Ok(None);
+    }
+    let mut items = Vec::new(alloc);
+    for (place, one) in ones.iter().enumerate() {
+        let Some(item) = one_item(*one, tokens[place]) else {
+            return Ok(None);
+        };
+        items.push(item)?;
+    }
+    Ok(Some(items))
+}
+
+/// Returns what the tokens to the end of a line say.
+fn last_item<'a>(
+    alloc: Global,
+    last: Last,
+    tokens: &[Token<'a>],
+) -> Result<Option<Rest<'a>>, NoMemory>
+    ensures { IfOk result (λ found. option_map rest_view found ≡ last_at last (lexemes_of tokens.now)) }
+{
+    match last {
+        Last::Nothing => Ok(nothing(tokens)),
+        Last::New(kind) => Ok(names(alloc, tokens)?.map(|names| Rest::Declared(kind, names))),
+        Last::Listed(kind) => {
+            Ok(listed_names(alloc, tokens)?.map(|names| Rest::Listed(kind, names)))
+        }
+        Last::Atoms => Ok(atoms(alloc, tokens)?.map(|atoms| Rest::Atoms(atoms))),
+        Last::Bindings => Ok(bindings(alloc, tokens)?.map(|bindings| Rest::Bindings(bindings))),
+        Last::RoomEdits => Ok(room_edits(alloc, tokens)?.map(|edits| Rest::RoomEdits(edits))),
+    }
+}
+
+fn nothing<'a>(tokens: &[Token<'_>]) -> Option<Rest<'a>>
+    ensures { option_map rest_view result ≡ last_at Last.Nothing (lexemes_of tokens.now) }
+{
+    match tokens {
+        [] => Some(Rest::Nothing),
+        _ => None,
+    }
+}
+
+/// Returns what the tokens after a word say, by its row.
+#[tactic(auto, using(crate::proofs::Ones::pieces))]
+fn parts<'a>(
+    alloc: Global,
+    row: &Row,
+    tokens: &[Token<'a>],
+) -> Result<Option<(Vec<Said<'a>>, Rest<'a>)>, NoMemory>
+    ensures found { IfOk result (λ found. option_map parts_view found ≡ row_items (row_view row.now) (lexemes_of tokens.now)) }
+    ensures as_many { IfOk result (λ found. IfSome found (λ parts. length parts.0.items ≡ length row.now.ones.now)) }
+{
+    let Some(ones) = one_items(alloc, row.ones, tokens)? else {
+        return Ok(None);
+    };
+    match last_item(alloc, row.last, &tokens[row.ones.len()..])? {
+        Some(last) => Ok(Some((ones, last))),
+        None => Ok(None),
+    }
+}
+
+/// Returns the line that the tokens are, in a script with or without a building so far.
+#[tactic(auto, using(crate::proofs::Views::known_rows))]
+fn whole_line<'a>(
+    alloc: Global,
+    with_building: bool,
+    tokens: &[Token<'a>],
+) -> Result<Option<Line<'a>>, NoMemory>
+    ensures found { IfOk result (λ found. option_map line_view found ≡ line_at with_building (lexemes_of tokens.now)) }
+    ensures shaped { IfOk result (λ found. IfSome found (λ line. IsShaped with_building line)) }
+    ensures word { IfOk result (λ found. IfSome found (λ line. is_word 1 line.row.word.now ≡ true)) }
+{
+    let [Token::Name(word), rest @ ..] = tokens else {
+        return Ok(None);
+    };
+    let Some(row) = row_for(with_building, word) else {
+        return Ok(None);
+    };
+    match parts(alloc, &row, rest)? {
+        Some((ones, last)) => Ok(Some(Line { row, ones, last })),
+        None => Ok(None),
+    }
+}
+
+/// Returns the line in its form that the tokens are, in a script of version 1 with or without a building so far.
+///
+/// # Errors
+/// `NoMemory` where there is no memory for it.
+pub fn formed_line<'a>(
+    alloc: Global,
+    with_building: bool,
+    tokens: &[Token<'a>],
+) -> Result<Option<Line<'a>>, NoMemory>
+    ensures found { (d : Declared) → d.version ≡ 1 → has_building d ≡ with_building
+        → IfOk result (λ found. option_map line_view found ≡ formed_line d (lexemes_of tokens.now)) }
+    ensures shaped { IfOk result (λ found. IfSome found (λ line. IsShaped with_building line)) }
+{
+    let Some(line) = whole_line(alloc, with_building, tokens)? else {
+        return Ok(None);
+    };
+    if line.is_formed(with_building) {
+        Ok(Some(line))
+    } else {
+        Ok(None)
+    }
+}
+
+impl<'a> Line<'a> {
+    /// Returns whether a line of one of the words has its form, in a script of version 1 with or without a building so far.
+    #[tactic(auto, using(crate::proofs::Views::of_line))]
+    fn is_formed(&self, with_building: bool) -> bool
+        ensures { (d : Declared) → d.version ≡ 1 → is_word 1 self.now.row.word.now ≡ true → has_building d ≡ with_building
+            → result ≡ is_formed d (line_view self.now) }
+    {
+        let manner = self.row.manner;
+        self.last.is_filled()
+            && are_signed(manner, self.last.atoms())
+            && manner.is_of_script(with_building)
+    }
+
+    /// Returns whether the line has a parameter of an operator, or of a table in a binding. Does not allocate.
+    #[tactic(auto, using(crate::proofs::Views::of_line))]
+    pub fn has_parameter(&self) -> bool
+        ensures { result ≡ list_any has_parameter (line_view self.now).items }
+    {
+        self.last.has_parameter()
+    }
+
+    /// Returns the atoms of the line, which has no arguments but theirs. Does not allocate.
+    #[tactic(auto, using(crate::proofs::Views::of_line))]
+    pub fn atoms(&self) -> &[SignedAtom<'a>]
+        ensures atoms { map signed_view result.now ≡ line_atoms (line_view self.now) }
+        ensures arguments { flat_map (λ x. x.atom.arguments) (map signed_view result.now) ≡ arguments_of (line_view self.now) }
+    {
+        self.last.atoms()
+    }
+}
+
+#[tactic(auto, using(crate::proofs::Views::all_maps))]
+fn are_signed(manner: Manner, atoms: &[SignedAtom<'_>]) -> bool
+    ensures { result ≡ list_all (λ x. is_signed manner x.sign) (map signed_view atoms.now) }
+{
+    each_signed(manner, atoms)
+}
+
+fn each_signed(manner: Manner, atoms: &[SignedAtom<'_>]) -> bool
+    ensures { result ≡ list_all (λ x. is_signed manner x.sign) atoms.now }
+{
+    atoms.iter().all(|atom| manner.is_signed(atom.sign))
+}

@@ -1,0 +1,164 @@
+//! The table of the words.
+ghost use Rattle.std.specs.Prelude.{◌≡◌, IfSome};
+ghost use Rattle.std.specs.Option.{option_map};
+ghost use Rattle.px_script.proofs.Rows.{disturb_row, row as spec_row, row_of};
+ghost use Rattle.px_script.specs.Limits.{is_word};
+ghost use Rattle.px_lines.specs.LineViews.{row_view};
+
+use px_script::{Block, Choice, Last, Manner, Named, One, Place};
+
+/// What a word's line has, in its order: its word, things of one token each, and what stands to its end.
+#[derive(Clone, Copy)]
+pub struct Row {
+    /// The word that begins the line.
+    pub word: &'static str,
+    /// Where the line may stand.
+    pub place: Place,
+    /// What its atoms may be.
+    pub manner: Manner,
+    /// What the first tokens after the word are there for.
+    pub ones: &'static [One],
+    /// What the others are there for.
+    pub last: Last,
+}
+
+const NONE: [One; 0] = [];
+
+const NUMBER: [One; 1] = [One::Number];
+
+const PREDICATE: [One; 2] = [One::New(Named::Predicate), One::Number];
+
+const OPERATOR: [One; 1] = [One::New(Named::Operator)];
+
+const ROOM: [One; 1] = [One::New(Named::Room)];
+
+const DOOR: [One; 4] = [
+    One::New(Named::Door),
+    One::Known(Named::Room),
+    One::Known(Named::Room),
+    One::Word(Choice::State),
+];
+
+const BOX: [One; 2] = [One::New(Named::Box), One::Known(Named::Room)];
+
+const ROBOT: [One; 1] = [One::Known(Named::Room)];
+
+const PLAN: [One; 1] = [One::New(Named::Plan)];
+
+const LEARN: [One; 3] = [
+    One::New(Named::Table),
+    One::Word(Choice::Source),
+    One::Known(Named::Plan),
+];
+
+const TABLE: [One; 1] = [One::Known(Named::Table)];
+
+const DISTURB: [One; 2] = [One::Number, One::Word(Choice::Time)];
+
+fn described(
+    word: &'static str,
+    place: Place,
+    manner: Manner,
+    ones: &'static [One],
+    last: Last,
+) -> Row
+    ensures { row_view result ≡ spec_row word.now place manner ones.now last }
+{
+    Row {
+        word,
+        place,
+        manner,
+        ones,
+        last,
+    }
+}
+
+fn plain(word: &'static str, place: Place, ones: &'static [One], last: Last) -> Row
+    ensures { row_view result ≡ spec_row word.now place Manner.Plain ones.now last }
+{
+    described(word, place, Manner::Plain, ones, last)
+}
+
+fn disturbance(with_building: bool) -> Row
+    ensures { row_view result ≡ disturb_row with_building }
+{
+    if with_building {
+        described(
+            "disturb",
+            Place::Command,
+            Manner::RoomChanges,
+            &DISTURB,
+            Last::RoomEdits,
+        )
+    } else {
+        described(
+            "disturb",
+            Place::Command,
+            Manner::AtomChanges,
+            &DISTURB,
+            Last::Atoms,
+        )
+    }
+}
+
+/// Returns the row of a word, in a script with or without a building so far. Does not allocate.
+pub fn row_for(with_building: bool, word: &str) -> Option<Row>
+    ensures { option_map row_view result ≡ row_of with_building word.now }
+{
+    match word {
+        "script" => Some(plain("script", Place::First, &NUMBER, Last::Nothing)),
+        "object" => Some(plain("object", Place::Domain, &NONE, Last::New(Named::Object))),
+        "predicate" => Some(plain("predicate", Place::Domain, &PREDICATE, Last::Nothing)),
+        "axiom" => Some(described("axiom", Place::Domain, Manner::Literals, &NONE, Last::Atoms)),
+        "operator" => Some(plain(
+            "operator",
+            Place::Opens(Block::Operator),
+            &OPERATOR,
+            Last::Listed(Named::Parameter),
+        )),
+        "pre" => Some(plain("pre", Place::Inside(Block::Operator), &NONE, Last::Atoms)),
+        "delete" => Some(described(
+            "delete",
+            Place::Inside(Block::Operator),
+            Manner::Patterns,
+            &NONE,
+            Last::Atoms,
+        )),
+        "add" => Some(plain("add", Place::Inside(Block::Operator), &NONE, Last::Atoms)),
+        "building" => Some(plain(
+            "building",
+            Place::Opens(Block::Building),
+            &NONE,
+            Last::Nothing,
+        )),
+        "room" => Some(plain("room", Place::Inside(Block::Building), &ROOM, Last::Nothing)),
+        "door" => Some(plain("door", Place::Inside(Block::Building), &DOOR, Last::Nothing)),
+        "box" => Some(plain("box", Place::Inside(Block::Building), &BOX, Last::Nothing)),
+        "robot" => Some(plain(
+            "robot",
+            Place::Inside(Block::Building),
+            &ROBOT,
+            Last::Nothing,
+        )),
+        "end" => Some(plain("end", Place::Closes, &NONE, Last::Nothing)),
+        "fact" => Some(plain("fact", Place::Domain, &NONE, Last::Atoms)),
+        "height" => Some(plain("height", Place::Setting, &NUMBER, Last::Nothing)),
+        "nodes" => Some(plain("nodes", Place::Setting, &NUMBER, Last::Nothing)),
+        "shapes" => Some(plain("shapes", Place::Setting, &NUMBER, Last::Nothing)),
+        "plan" => Some(described("plan", Place::Command, Manner::Goals, &PLAN, Last::Atoms)),
+        "learn" => Some(plain("learn", Place::Command, &LEARN, Last::Nothing)),
+        "show" => Some(plain("show", Place::Command, &TABLE, Last::Nothing)),
+        "disturb" => Some(disturbance(with_building)),
+        "run" => Some(plain("run", Place::Command, &TABLE, Last::Bindings)),
+        "facts" => Some(plain("facts", Place::Command, &NONE, Last::Nothing)),
+        _ => None,
+    }
+}
+
+/// Returns whether the name is a word that may begin a line of version 1. Does not allocate.
+#[tactic(auto, using(crate::proofs::Views::words))]
+pub fn is_word(name: &str) -> bool
+    ensures { result ≡ is_word 1 name.now }
+{
+    row_for(false, name).is_some()
+}

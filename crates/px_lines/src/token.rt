@@ -1,0 +1,183 @@
+//! The tokens of a line.
+ghost use Rattle.std.specs.Prelude.{◌≡◌, ◌<◌, ◌++◌, List, true, length, map, IfOk, MatchOption};
+ghost use Rattle.std.specs.Char.{is_ascii_digit};
+ghost use Rattle.px_script.specs.Lexemes.{Lexeme, Lexes, is_sign, number_value, goes_on};
+ghost use Rattle.px_script.proofs.Scanning.{front_while, after_while, first, first_at, first_number, first_variable};
+ghost use Rattle.px_lines.specs.Common.{IsUtf8, chars, all_ascii_digits, lexeme_of, is_of, Skips, Scans, NameAt};
+
+use px_base::NoMemory;
+use px_names::{split_first, starts_name};
+use std::alloc::Global;
+
+/// A token of a line.
+#[derive(Clone, Copy)]
+pub enum Token<'a> {
+    /// A name or a word.
+    Name(&'a str),
+    /// A variable, without its question mark.
+    Variable(&'a str),
+    /// A number; of one above 32 bits the greatest of 32 bits.
+    Number(u32),
+    /// One of `( ) , ~ $ + - =`.
+    Sign(char),
+}
+
+#[derive(Clone, Copy)]
+struct BadToken;
+
+/// Returns the tokens of a line, or `None` where a character begins no token.
+///
+/// # Errors
+/// `NoMemory` where there is no memory for them.
+pub fn tokens<'a>(alloc: Global, line: &'a str) -> Result<Option<Vec<Token<'a>>>, NoMemory>
+    ensures { IfOk result (λ found. MatchOption found ((all : List Lexeme) → ¬ Lexes (chars line.now) all)
+        (λ tokens. Lexes (chars line.now) (map lexeme_of tokens.items))) }
+{
+    let mut tokens = Vec::new(alloc);
+    let mut rest = line;
+    loop {
+        match first_token(rest) {
+            Ok(Some((token, after))) => {
+                tokens.push(token)?;
+                rest = after;
+            }
+            Ok(None) => return Ok(Some(tokens)),
+            Err(_) => return Ok(None),
+        }
+    }
+}
+
+// Returns the first token of a line, and what follows it.
+fn first_token(line: &str) -> Result<Option<(Token<'_>, &str)>, BadToken>
+    ensures { Scans result (first (chars line.now)) }
+{
+    let (_, text) = split_while(line, Class::Blank);
+    token_at(text)
+}
+
+// Returns the token at the front of a text.
+fn token_at(text: &str) -> Result<Option<(Token<'_>, &str)>, BadToken>
+    ensures { Scans result (first_at (chars text.now)) }
+{
+    if let Some((name, rest)) = name_at(text) {
+        return Ok(Some((Token::Name(name), rest)));
+    }
+    let Some((first, rest)) = split_first(text) else {
+        return Ok(None);
+    };
+    if first == '#' {
+        Ok(None)
+    } else if first == '?' {
+        variable_at(rest)
+    } else if first.is_ascii_digit() {
+        number_at(text)
+    } else if is_sign(first) {
+        Ok(Some((Token::Sign(first), rest)))
+    } else {
+        Err(BadToken)
+    }
+}
+
+fn is_sign(ch: char) -> bool
+    ensures { result ≡ is_sign ch }
+{
+    matches!(ch, '(' | ')' | ',' | '~' | '$' | '+' | '-' | '=')
+}
+
+// Returns the name at the front of a text.
+fn name_at(text: &str) -> Option<(&str, &str)>
+    ensures { NameAt (chars text.now) result }
+{
+    let (first, _) = split_first(text)?;
+    if starts_name(first) {
+        Some(split_while(text, Class::Continues))
+    } else {
+        None
+    }
+}
+
+// Returns the variable whose question mark stands before a text.
+fn variable_at(text: &str) -> Result<Option<(Token<'_>, &str)>, BadToken>
+    ensures { Scans result (first_variable (chars text.now)) }
+{
+    match name_at(text) {
+        Some((name, rest)) => Ok(Some((Token::Variable(name), rest))),
+        None => Err(BadToken),
+    }
+}
+
+// Returns the number at the front of a text, which no name may follow.
+#[tactic(auto, using(crate::proofs::Numbers::digits))]
+fn number_at(text: &str) -> Result<Option<(Token<'_>, &str)>, BadToken>
+    requires { 0 < length (front_while is_ascii_digit (chars text.now)) }
+    ensures { Scans result (first_number (chars text.now)) }
+{
+    let (digits, rest) = split_while(text, Class::Digit);
+    if goes_on(rest) {
+        Err(BadToken)
+    } else {
+        Ok(Some((Token::Number(number_value(digits)), rest)))
+    }
+}
+
+// Returns whether a name could go on with this text.
+fn goes_on(text: &str) -> bool
+    ensures { result ≡ goes_on (chars text.now) }
+{
+    matches!(split_first(text), Some((first, _)) if unicode_ident::is_xid_continue(first))
+}
+
+// Returns the number that digits stand for, up to 32 bits.
+#[tactic(auto, using(crate::proofs::Numbers::digits))]
+fn number_value(digits: &str) -> u32
+    requires some { 0 < length (chars digits.now) }
+    requires digits { all_ascii_digits (chars digits.now) ≡ true }
+    ensures { result ≡ number_value (chars digits.now) }
+{
+    digits.parse().unwrap_or(u32::MAX)
+}
+
+#[derive(Clone, Copy)]
+enum Class {
+    Blank,
+    Continues,
+    Digit,
+}
+
+impl Class {
+    fn has(self, ch: char) -> bool
+        ensures { result ≡ is_of self ch }
+    {
+        match self {
+            Class::Blank => ch == ' ' || ch == '\t',
+            Class::Continues => unicode_ident::is_xid_continue(ch),
+            Class::Digit => ch.is_ascii_digit(),
+        }
+    }
+}
+
+// Returns what follows the longest front that is of a class.
+fn skip_while(text: &str, class: Class) -> &str
+    ensures { Skips (is_of class) text.now result.now }
+{
+    let mut rest = text;
+    while let Some((first, after)) = split_first(rest) {
+        if !class.has(first) {
+            return rest;
+        }
+        rest = after;
+    }
+    rest
+}
+
+// Returns the longest front of a text that is of a class, and what follows it.
+fn split_while(text: &str, class: Class) -> (&str, &str)
+    ensures whole { text.now ≡ result.0.now ++ result.1.now }
+    ensures front { chars result.0.now ≡ front_while (is_of class) (chars text.now) }
+    ensures front_text { IsUtf8 result.0.now }
+    ensures rest_text { IsUtf8 result.1.now }
+    ensures after { chars result.1.now ≡ after_while (is_of class) (chars text.now) }
+{
+    let rest = skip_while(text, class);
+    (&text[..text.len() - rest.len()], rest)
+}

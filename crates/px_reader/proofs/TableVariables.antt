@@ -1,0 +1,34 @@
+-- Variables of a table's block: in version 1 no such block is open.
+use Rattle.px_reader.proofs.Common.{◌≡◌, ℕ, false, List, [], ◌∷◌, refl, ap, Option, None, Some, codes, has_name, option_map, Declared, Reader, declared_of}
+use Rattle.std.specs.Fmt.{digits}
+use Rattle.px_script.specs.Causes.{is_goal_variable, is_numbered_by, is_table_parameter}
+use Rattle.px_script.specs.Declarations.{table_parameters, table_parameters_here}
+use Rattle.px_reader.specs.Readers.{kind_view, open_block_view}
+use Rattle.px_reader.specs.declared.blocks.BlockKind as block
+use Rattle.px_reader.specs.declared.blocks.OpenBlock.{OpenBlock}
+
+kind-has-none : (number : ℕ) (kind : block.BlockKind) → table_parameters (kind_view number kind) ≡ 0
+kind-has-none number (block.TheVariants.Operator o) = refl
+kind-has-none number block.TheVariants.Building = refl
+
+block-has-none : (number : ℕ) (opened : Option OpenBlock) → table_parameters_here (option_map (open_block_view number) opened) ≡ 0
+block-has-none number None = refl
+block-has-none number (Some b) = kind-has-none number b.kind
+
+pub no-table : (reader : Reader) → table_parameters_here (declared_of reader).block ≡ 0
+no-table reader = block-has-none _ reader.block
+
+pub ruleset no_table = (no-table)
+
+pub no-parameter : (d : Declared) (v : List ℕ) → table_parameters_here d.block ≡ 0 → is_table_parameter d v ≡ false
+no-parameter d v none = ap (λ n. is_numbered_by 112 n v) none
+
+pub ruleset without_table = (no-parameter)
+
+-- the variables of a goal, one by one
+pub each-goal-variable : (d : Declared) (v : List ℕ) → is_goal_variable d v ≡ has_name v (codes "g1" ∷ codes "g2" ∷ codes "g3"
+    ∷ codes "g4" ∷ codes "g5" ∷ codes "g6" ∷ codes "g7" ∷ codes "g8" ∷ codes "g9" ∷ codes "g10" ∷ codes "g11" ∷ codes "g12" ∷ [])
+unfolding digits
+each-goal-variable d v = refl
+
+pub ruleset goal_variables = (each-goal-variable)

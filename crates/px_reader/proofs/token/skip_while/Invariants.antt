@@ -1,9 +1,0 @@
--- What the loops of `skip_while` in src/token.rt keep true.
-use Rattle.px_reader.proofs.Common.{◌≡◌, ◌++◌, ℕ, List, length, true, list_all, IsUtf8, chars, is_of}
-use Rattle.px_reader.proofs.token.skip_while.Given as goal
-
-abbrev pub invariant-loop-first : goal.invariant-loop-first
-invariant-loop-first l = (front : List ℕ) × (l.text ≡ front ++ l.rest) × IsUtf8 l.rest × (list_all (is_of l.class) (chars front) ≡ true)
-
-abbrev pub decreases-loop-first : goal.decreases-loop-first
-decreases-loop-first l = length l.rest

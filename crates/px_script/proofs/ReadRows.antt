@@ -1,0 +1,254 @@
+-- The reader by the table reads exactly the forms of lines: each spelling back, and nothing else.
+use Rattle.px_script.proofs.Common.{◌≡◌, ℕ, Bool, true, false, List, [], ◌∷◌, ◌++◌, map, length, drop, refl, sym, ap, ◌∙◌, subst, append_assoc, append-nil, flat_map-append, Option, None, Some, is_some, codes, AllByRecursion, list_any, flat_map, option_map, option_and_then, IfSome, bytes_eq, if◌then◌else◌, ◌||◌, not-true, and_parts, Lexeme, name, number, SignedAtom, spell, spell_atom, spell_binding, spell_room_edit, open_word, time_word, is_word, Line, line_of, spelling, Declared, has_building, Forms, is_formed, Statement, inside, plain, goals, atom_changes, operator_block, building_block, script, «axiom», pre, delete, add, building, door, end, fact, height, nodes, shapes, disturb_atoms, disturb_rooms, run, facts}
+use Rattle.px_script.specs.Items.{Item, the, amount, amounts, new, declared, listed, known, wanted, atoms, bindings, room_edits, an_object, a_predicate, an_operator, a_parameter, a_room as room_name, a_door as door_name, a_box as box_name, a_plan, a_table}
+use Rattle.px_script.specs.Statements.{room_changes, line, spelling_of, domain, opens, command}
+use Rattle.px_script.specs.declared.kinds.One.{One}
+use Rattle.px_script.specs.declared.kinds.One.TheVariants as one
+use Rattle.px_script.specs.declared.kinds.Last.{Last}
+use Rattle.px_script.specs.declared.kinds.Last.TheVariants as last
+use Rattle.px_script.proofs.Parsing.{names_of, names_at, at_end, all_of, atom_at, binding_at, room_edit_at, which}
+use Rattle.px_script.proofs.Rows.{Row, Entry, chosen, one_of, ones_at, last_at, row_items, entries, entry_among, entry_of, row_of, filled, make_number, make_object, make_predicate, make_operator, make_atoms, make_nothing, make_room, make_door, make_box, make_robot, make_plan, make_learn, make_show, make_disturb, make_run, line_by, line_at, formed_only, formed_line, statement_of, parse, disturb_row}
+use Rattle.px_script.proofs.Forms.{IsWellFormed, well-formed, then-there, map-there, if-there, same_word, there, all-sound, names-again, names-sound, names-at-sound, parameters-again, which-sound, atoms-again, edits-again, bindings-again, atom-sound, binding-sound, room-edit-sound}
+
+-- ---- what is read by a row is spelled so: once for all words
+
+one-sound : (o : One) (x : Lexeme) → IfSome (one_of o x) (λ item. x ∷ [] ≡ spell item)
+one-sound (one.Word words) (name w) = if-there _ _ _ (chosen words w) (λ e. refl) (λ e. tt)
+one-sound one.Number (number n) = refl
+one-sound (one.New kind) (name n) = refl
+one-sound (one.Known kind) (name n) = refl
+one-sound _ _ = tt
+
+ones-sound : (ones : List One) (lexemes : List Lexeme)
+    → IfSome (ones_at ones lexemes) (λ items. lexemes ≡ flat_map spell items ++ drop (length ones) lexemes)
+ones-sound [] lexemes = refl
+ones-sound (o ∷ more) [] = tt
+ones-sound (o ∷ more) (x ∷ xs) = then-there _ _ (one_of o x) (one-sound o x) (λ item first.
+    map-there _ _ (ones_at more xs) (ones-sound more xs) (λ items rest.
+    ap (λ t. x ∷ t) rest ∙ ap (λ t. t ++ (flat_map spell items ++ drop (length more) xs)) first
+    ∙ sym (append_assoc (spell item) (flat_map spell items) (drop (length more) xs))))
+
+last-sound : (l : Last) (lexemes : List Lexeme) → IfSome (last_at l lexemes) (λ items. lexemes ≡ flat_map spell items)
+last-sound last.Nothing [] = refl
+last-sound last.Nothing (x ∷ xs) = tt
+last-sound (last.New kind) xs = map-there _ _ (names_of xs) (names-sound xs) (λ ns is. is ∙ sym (append-nil (map name ns)))
+last-sound (last.Listed kind) xs =
+    map-there _ _ (option_and_then at_end (names_at xs)) (then-there _ at_end (names_at xs) (names-at-sound xs) (λ r is. ends r.0 r.1 is))
+    (λ ns is. is)
+  where
+    ends : (ns : List (List ℕ)) (after : List Lexeme) → xs ≡ spell (listed kind ns) ++ after
+        → IfSome (at_end (ns, after)) (λ ns. xs ≡ spell (listed kind ns) ++ [])
+    ends ns [] is = is
+    ends ns (y ∷ ys) is = tt
+last-sound last.Atoms xs = map-there _ _ (all_of atom_at xs) (all-sound atom_at spell_atom atom-sound (length xs) xs)
+    (λ items is. is ∙ sym (append-nil (flat_map spell_atom items)))
+last-sound last.Bindings xs = map-there _ _ (all_of binding_at xs) (all-sound binding_at spell_binding binding-sound (length xs) xs)
+    (λ items is. is ∙ sym (append-nil (flat_map spell_binding items)))
+last-sound last.RoomEdits xs =
+    map-there _ _ (all_of room_edit_at xs) (all-sound room_edit_at spell_room_edit room-edit-sound (length xs) xs)
+    (λ items is. is ∙ sym (append-nil (flat_map spell_room_edit items)))
+
+items-sound : (r : Row) (lexemes : List Lexeme) → IfSome (row_items r lexemes) (λ items. lexemes ≡ flat_map spell items)
+items-sound r lexemes = then-there _ _ (ones_at r.ones lexemes) (ones-sound r.ones lexemes) (λ items front.
+    map-there _ _ (last_at r.last (drop (length r.ones) lexemes)) (last-sound r.last (drop (length r.ones) lexemes)) (λ more rest.
+    front ∙ ap (λ t. flat_map spell items ++ t) rest ∙ sym (flat_map-append spell items more)))
+
+-- ---- the row of a word has that word
+
+-- what the first entry of a word has, where all have it
+among-there : (P : Entry → Type 0) (w : List ℕ) (es : List Entry) → AllByRecursion P es
+    → IfSome (entry_among w es) (λ e. (w ≡ e.row.word) × P e)
+among-there P w [] all = tt
+among-there P w (e ∷ more) all = if-there _ _ _ (bytes_eq w e.row.word) (λ same. (same_word w e.row.word same, all.0))
+    (λ other. among-there P w more all.1)
+
+or-some : (b : Bool) (e : Entry) (w : List ℕ) (more : List Entry)
+    → is_some (option_map (λ e. e.row) (entry_among w more)) ≡ list_any (bytes_eq w) (map (λ (e : Entry). e.row.word) more)
+    → is_some (option_map (λ e. e.row) (if b then Some e else entry_among w more))
+    ≡ (b || list_any (bytes_eq w) (map (λ (e : Entry). e.row.word) more))
+or-some true e w more is = refl
+or-some false e w more is = is
+
+-- a word has a row where it is one of the table's
+some-among : (w : List ℕ) (es : List Entry)
+    → is_some (option_map (λ e. e.row) (entry_among w es)) ≡ list_any (bytes_eq w) (map (λ (e : Entry). e.row.word) es)
+some-among w [] = refl
+some-among w (e ∷ more) = or-some (bytes_eq w e.row.word) e w more (some-among w more)
+
+-- the words of version 1 are those of the table
+pub row-is_word : (b : Bool) (w : List ℕ) → is_some (row_of b w) ≡ is_word 1 w
+row-is_word b w = some-among w (entries b)
+
+-- the line of a row is told by its items
+abbrev pub IsMade : Entry → Type 0
+IsMade e = (items : List Item) → IfSome (e.make items) (λ s. line_of s ≡ filled e.row items)
+
+-- which of two words it is
+chosen-word : (word : Bool → List ℕ) (w : List ℕ) (f : Bool → Statement) (l : List ℕ → Line) → ((b : Bool) → line_of (f b) ≡ l (word b))
+    → IfSome (option_map f (which (word true) (word false) w)) (λ s. line_of s ≡ l w)
+chosen-word word w f l is = map-there _ _ (which (word true) (word false) w) (which-sound word w)
+    (λ b same. is b ∙ ap l (sym same))
+
+-- what a word's items make is described so
+abbrev Makes : (List Item → Option Statement) → (List Item → Line) → Type 0
+Makes make l = (items : List Item) → IfSome (make items) (λ s. line_of s ≡ l items)
+
+made-number : (f : ℕ → Statement) (l : List Item → Line) → ((n : ℕ) → line_of (f n) ≡ l (amount n ∷ [])) → Makes (make_number f) l
+made-number f l is (amounts (n ∷ []) ∷ []) = is n
+made-number f l is _ = tt
+
+made-atoms : (f : List SignedAtom → Statement) (l : List Item → Line) → ((xs : List SignedAtom) → line_of (f xs) ≡ l (atoms xs ∷ []))
+    → Makes (make_atoms f) l
+made-atoms f l is (atoms xs ∷ []) = is xs
+made-atoms f l is _ = tt
+
+made-nothing : (s : Statement) (l : List Item → Line) → line_of s ≡ l [] → Makes (make_nothing s) l
+made-nothing s l is [] = is
+made-nothing s l is _ = tt
+
+-- Alike: the lines below, one for each word.
+made-object : Makes make_object (line (codes "object") domain plain)
+made-object (declared an_object ns ∷ []) = refl
+made-object _ = tt
+
+made-predicate : Makes make_predicate (line (codes "predicate") domain plain)
+made-predicate (declared a_predicate (p ∷ []) ∷ amounts (arity ∷ []) ∷ []) = refl
+made-predicate _ = tt
+
+made-operator : Makes make_operator (line (codes "operator") (opens operator_block) plain)
+made-operator (declared an_operator (o ∷ []) ∷ listed a_parameter ps ∷ []) = refl
+made-operator _ = tt
+
+made-room : Makes make_room (line (codes "room") (inside building_block) plain)
+made-room (declared room_name (r ∷ []) ∷ []) = refl
+made-room _ = tt
+
+made-door : Makes make_door (line (codes "door") (inside building_block) plain)
+made-door (declared door_name (d ∷ []) ∷ wanted room_name (one ∷ []) ∷ wanted room_name (other ∷ []) ∷ the w ∷ []) =
+    chosen-word open_word w (door d one other) (λ v. line (codes "door") (inside building_block) plain
+    (new door_name d ∷ known room_name one ∷ known room_name other ∷ the v ∷ [])) (λ b. refl)
+made-door _ = tt
+
+made-box : Makes make_box (line (codes "box") (inside building_block) plain)
+made-box (declared box_name (b ∷ []) ∷ wanted room_name (r ∷ []) ∷ []) = refl
+made-box _ = tt
+
+made-robot : Makes make_robot (line (codes "robot") (inside building_block) plain)
+made-robot (wanted room_name (r ∷ []) ∷ []) = refl
+made-robot _ = tt
+
+made-plan : Makes make_plan (line (codes "plan") command goals)
+made-plan (declared a_plan (n ∷ []) ∷ atoms xs ∷ []) = refl
+made-plan _ = tt
+
+made-learn : Makes make_learn (line (codes "learn") command plain)
+made-learn (declared a_table (n ∷ []) ∷ the w ∷ wanted a_plan (source ∷ []) ∷ []) =
+    if-there _ _ _ (bytes_eq w (codes "from")) (λ e. rw (same_word w (codes "from") e) refl) (λ e. tt)
+made-learn _ = tt
+
+made-show : Makes make_show (line (codes "show") command plain)
+made-show (wanted a_table (n ∷ []) ∷ []) = refl
+made-show _ = tt
+
+made-disturb : (b : Bool) → Makes (make_disturb b) (filled (disturb_row b))
+made-disturb false (amounts (turn ∷ []) ∷ the w ∷ atoms xs ∷ []) =
+    chosen-word time_word w (λ between. disturb_atoms turn between xs) (λ v. line (codes "disturb") command atom_changes
+    (amount turn ∷ the v ∷ atoms xs ∷ [])) (λ b. refl)
+made-disturb true (amounts (turn ∷ []) ∷ the w ∷ room_edits es ∷ []) =
+    chosen-word time_word w (λ between. disturb_rooms turn between es) (λ v. line (codes "disturb") command room_changes
+    (amount turn ∷ the v ∷ room_edits es ∷ [])) (λ b. refl)
+made-disturb _ _ = tt
+
+made-run : Makes make_run (line (codes "run") command plain)
+made-run (wanted a_table (n ∷ []) ∷ bindings bs ∷ []) = refl
+made-run _ = tt
+
+also : {A B : Type 0} → A → B → A × B
+also a b = (a, b)
+
+all-made : (b : Bool) → AllByRecursion IsMade (entries b)
+all-made b = also (made-number script _ (λ n. refl)) (also made-object (also made-predicate (also (made-atoms «axiom» _ (λ xs. refl))
+    (also made-operator (also (made-atoms pre _ (λ xs. refl)) (also (made-atoms delete _ (λ xs. refl)) (also (made-atoms add _ (λ xs. refl))
+    (also (made-nothing building _ refl) (also made-room (also made-door (also made-box (also made-robot (also (made-nothing end _ refl)
+    (also (made-atoms fact _ (λ xs. refl)) (also (made-number height _ (λ n. refl)) (also (made-number nodes _ (λ n. refl)) (also
+    (made-number shapes _ (λ n. refl)) (also made-plan (also made-learn (also made-show (also (made-disturb b) (also made-run (also
+    (made-nothing facts _ refl) tt)))))))))))))))))))))))
+
+-- the row of a word is the row of its own word
+pub has-row : (b : Bool) (w : List ℕ) → IfSome (row_of b w) (λ r. row_of b r.word ≡ Some r)
+has-row b w = told (entry_of b w) refl (among-there IsMade w (entries b) (all-made b))
+  where
+    told : (o : Option Entry) → entry_of b w ≡ o → IfSome o (λ e. (w ≡ e.row.word) × IsMade e)
+        → IfSome (option_map (λ (e : Entry). e.row) o) (λ r. row_of b r.word ≡ Some r)
+    told None found is = tt
+    told (Some e) found is = ap (option_map (λ (e : Entry). e.row)) (subst (λ v. entry_of b v ≡ Some e) is.0 found)
+
+-- ---- each line is read back: its row takes its items, and they make it
+
+-- a line in its form is read back by the table
+line-again : (d : Declared) (s : Statement) → IsWellFormed d (line_of s) → line_at (has_building d) (spelling s) ≡ Some (line_of s)
+line-again d (door n one other true) formed = refl
+line-again d (door n one other false) formed = refl
+line-again d (disturb_atoms turn true xs) formed = rw (not-true (has_building d) formed.of_script, atoms-again xs) refl
+line-again d (disturb_atoms turn false xs) formed = rw (not-true (has_building d) formed.of_script, atoms-again xs) refl
+line-again d (disturb_rooms turn true es) formed = rw (formed.of_script, edits-again es) refl
+line-again d (disturb_rooms turn false es) formed = rw (formed.of_script, edits-again es) refl
+line-again d (run n bs) formed = rw (bindings-again bs (and_parts _ true formed.filled).0) refl
+line-again d _ formed = search (names-again, atoms-again, parameters-again)
+
+-- and its items make it
+made-again : (d : Declared) (s : Statement) → IsWellFormed d (line_of s) → statement_of (has_building d) (line_of s) ≡ Some s
+made-again d (door n one other true) formed = refl
+made-again d (door n one other false) formed = refl
+made-again d (disturb_atoms turn true xs) formed = rw (not-true (has_building d) formed.of_script) refl
+made-again d (disturb_atoms turn false xs) formed = rw (not-true (has_building d) formed.of_script) refl
+made-again d (disturb_rooms turn true es) formed = rw formed.of_script refl
+made-again d (disturb_rooms turn false es) formed = rw formed.of_script refl
+made-again d _ formed = refl
+
+pub parse-complete : (d : Declared) (lexemes : List Lexeme) (s : Statement) → Forms d lexemes s → parse d lexemes ≡ Some s
+parse-complete d lexemes s forms = let formed = well-formed d (line_of s) forms.1 in
+    ap (parse d) forms.0
+    ∙ ap (λ o. option_and_then (statement_of (has_building d)) (option_and_then (formed_only d) o)) (line-again d s formed)
+    ∙ ap (option_and_then (statement_of (has_building d))) only ∙ made-again d s formed
+  where
+    only : formed_only d (line_of s) ≡ Some (line_of s)
+    only = rw forms.1 refl
+
+-- ---- what is read is spelled so, and is the description of the statement that it makes
+
+-- what a line that was read is
+abbrev pub IsLineOf : Bool → List Lexeme → Line → Type 0
+IsLineOf b lexemes l = (lexemes ≡ spelling_of l) × ((s : Statement) → statement_of b l ≡ Some s → line_of s ≡ l)
+
+read-by : (b : Bool) (w : List ℕ) (rest : List Lexeme) (o : Option Entry) → entry_of b w ≡ o
+    → IfSome o (λ e. (w ≡ e.row.word) × IsMade e)
+    → IfSome (option_and_then (line_by rest) (option_map (λ e. e.row) o)) (IsLineOf b (name w ∷ rest))
+read-by b w rest None found is = tt
+read-by b w rest (Some e) found is = map-there (IsLineOf b (name w ∷ rest)) (filled e.row) (row_items e.row rest) (items-sound e.row rest)
+    (λ items spelled. (
+      ap (λ t. name w ∷ t) spelled ∙ ap (λ v. name v ∷ flat_map spell items) is.0,
+      λ s made. there (λ s. line_of s ≡ filled e.row items) (e.make items) s (is.1 items)
+          (sym (ap (option_and_then (λ x. x.make items)) (subst (λ v. entry_of b v ≡ Some e) is.0 found)) ∙ made),
+    ))
+
+line-sound : (b : Bool) (lexemes : List Lexeme) → IfSome (line_at b lexemes) (IsLineOf b lexemes)
+line-sound b (name w ∷ rest) = read-by b w rest (entry_of b w) refl (among-there IsMade w (entries b) (all-made b))
+line-sound b _ = tt
+
+-- a line in its form that was read is so, too
+pub formed-sound : (d : Declared) (lexemes : List Lexeme)
+    → IfSome (formed_line d lexemes) (λ l. IsLineOf (has_building d) lexemes l × (is_formed d l ≡ true))
+formed-sound d lexemes = then-there _ (formed_only d) (line_at (has_building d) lexemes) (line-sound (has_building d) lexemes)
+    (λ l is. if-there _ _ _ (is_formed d l) (λ formed. (is, formed)) (λ e. tt))
+
+pub parse-sound : (d : Declared) (lexemes : List Lexeme) (s : Statement) → parse d lexemes ≡ Some s → Forms d lexemes s
+parse-sound d lexemes s e = let P : Statement → Type 0 = Forms d lexemes in
+    there P (parse d lexemes) s (then-there P (statement_of (has_building d)) (formed_line d lexemes) (formed-sound d lexemes)
+    (λ l is. told l is.0 is.1 (statement_of (has_building d) l) refl)) e
+  where
+    told : (l : Line) → IsLineOf (has_building d) lexemes l → is_formed d l ≡ true → (o : Option Statement)
+        → statement_of (has_building d) l ≡ o → IfSome o (Forms d lexemes)
+    told l is formed None made = tt
+    told l is formed (Some s) made = let same : line_of s ≡ l = is.1 s made in
+        (is.0 ∙ ap spelling_of (sym same), ap (is_formed d) same ∙ formed)

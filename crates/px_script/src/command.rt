@@ -1,0 +1,79 @@
+//! The commands of a script.
+ghost use Rattle.std.specs.Prelude.{◌≡◌};
+
+use px_base::Sequence;
+use px_terms::Atom;
+use px_world::{AtomEdit, RoomEdit};
+use std::marker::Model;
+
+/// An object in the place of a parameter of a learned table, which has its number from 1. Contracts see it as the pair of both.
+#[derive(Clone, Copy)]
+pub struct Binding {
+    parameter: u32,
+    object: u32,
+}
+
+impl Model for Binding {
+    ghost use Rattle.std.specs.Prelude.{ℕ};
+
+    ghost Value = { ℕ × ℕ };
+
+    ghost view = { λ b. (b.parameter, b.object) };
+
+    ghost inverse = { λ v. record { parameter = v.0; object = v.1 } };
+}
+
+impl Binding {
+    /// Returns the binding of a parameter to an object. Does not allocate.
+    pub fn new(parameter: u32, object: u32) -> Binding
+        ensures { result ≡ (parameter, object) }
+    {
+        Binding { parameter, object }
+    }
+
+    /// Returns the parameter and the object. Does not allocate.
+    pub fn pair(self) -> (u32, u32)
+        ensures { result ≡ self }
+    {
+        (self.parameter, self.object)
+    }
+}
+
+/// A command, with its names by their numbers.
+#[derive(Drop)]
+pub enum Command {
+    /// Plan for a goal with `vars` variables.
+    Plan {
+        name: u32,
+        goal: Sequence<Atom>,
+        vars: u32,
+    },
+    /// Learn a table from a plan.
+    Learn {
+        name: u32,
+        source: u32,
+    },
+    /// Answer a table.
+    Show {
+        name: u32,
+    },
+    /// Change facts from outside at a turn of the next run, between sensing and acting, or before both.
+    DisturbAtoms {
+        turn: u32,
+        between: bool,
+        edits: Sequence<AtomEdit>,
+    },
+    /// Change the places of a building's things from outside, at such a point.
+    DisturbRooms {
+        turn: u32,
+        between: bool,
+        edits: Sequence<RoomEdit>,
+    },
+    /// Execute a table with objects for its parameters.
+    Run {
+        name: u32,
+        bindings: Sequence<Binding>,
+    },
+    /// Answer the facts.
+    Facts,
+}

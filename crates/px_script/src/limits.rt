@@ -1,0 +1,116 @@
+//! The limits of a script: each number stands here, and the definitions cite it.
+ghost use Rattle.std.specs.Prelude.{◌≡◌};
+ghost use Rattle.px_script.specs.Limits.{by_version, greatest, number_of};
+
+use px_terms::{
+    MOST_ARGUMENTS, MOST_CLAUSES, MOST_FORMULA_VARIABLES, MOST_LITERALS, MOST_PARAMETERS,
+};
+
+/// What a script has limits of, in the order of their numbers.
+#[derive(Clone, Copy)]
+pub enum Limit {
+    /// Bytes of a name that has a number in its kind.
+    NameBytes = 1,
+    Objects,
+    Predicates,
+    Arity,
+    Axioms,
+    /// Literals of an axiom.
+    Literals,
+    /// Variables of an axiom or of a goal.
+    Variables,
+    Operators,
+    Parameters,
+    /// Atoms of a precondition, of a delete list or of an add list.
+    OperatorAtoms,
+    /// Different facts of the lines `fact`.
+    Facts,
+    GoalAtoms,
+    Commands,
+    /// Disturbances since the last `run`, or since the start.
+    Disturbs,
+    /// Edits of a disturbance.
+    Edits,
+}
+
+// How many there may be of each, but for what each problem has limits of. Where version 2 allows more, it has a number of its own.
+
+/// Bytes of a name that has a number in its kind.
+pub const NAME_BYTES: u32 = 64;
+/// Objects of the script.
+pub const OBJECTS: u32 = 256;
+/// Objects of a script of version 2.
+pub const OBJECTS_OF_TWO: u32 = 1024;
+/// Predicates of the script.
+pub const PREDICATES: u32 = 64;
+/// Operators of the script.
+pub const OPERATORS: u32 = 32;
+/// Atoms of a list of an operator.
+pub const OPERATOR_ATOMS: u32 = 16;
+/// Different facts of the script.
+pub const FACTS: u32 = 512;
+/// Different facts of a script of version 2.
+pub const FACTS_OF_TWO: u32 = 1024;
+/// Atoms of a goal.
+pub const GOAL_ATOMS: u32 = 16;
+/// Commands of the script.
+pub const COMMANDS: u32 = 512;
+/// Commands of a script of version 2.
+pub const COMMANDS_OF_TWO: u32 = 1024;
+/// Disturbances since the last run.
+pub const DISTURBS: u32 = 64;
+/// Edits of a disturbance.
+pub const EDITS: u32 = 16;
+
+/// The number of the limit of numbers, those that a script may give.
+pub const NUMBER_OF_NUMBERS: u8 = 16;
+/// The most nodes that a script may ask for, which are fewer than a problem may.
+pub const MOST_SCRIPT_NODES: u32 = 50_000;
+/// The last turn that a disturbance may name.
+pub const LAST_TURN: u32 = 9999;
+/// The greatest number of a parameter.
+pub const LAST_PARAMETER: u32 = 9999;
+/// The greatest height of a proof where no line gives it.
+pub const DEFAULT_HEIGHT: u32 = 4;
+/// How many nodes a search may find where no line says it.
+pub const DEFAULT_NODES: u32 = 10_000;
+/// How many shapes a question may meet where no line says it.
+pub const DEFAULT_SHAPES: u32 = 10_000;
+
+impl Limit {
+    /// Returns the limit's number. Does not allocate.
+    pub fn number(self) -> u8
+        ensures { result ≡ number_of self }
+    {
+        self as u8
+    }
+}
+
+/// Returns how many there may be in a script of a version. Does not allocate.
+pub fn greatest(version: u32, limit: Limit) -> u32
+    ensures { result ≡ greatest version limit }
+{
+    match limit {
+        Limit::NameBytes => NAME_BYTES,
+        Limit::Objects => by_version(version, OBJECTS, OBJECTS_OF_TWO),
+        Limit::Predicates => PREDICATES,
+        Limit::Arity => MOST_ARGUMENTS as u32,
+        Limit::Axioms => MOST_CLAUSES as u32,
+        Limit::Literals => MOST_LITERALS as u32,
+        Limit::Variables => MOST_FORMULA_VARIABLES as u32,
+        Limit::Operators => OPERATORS,
+        Limit::Parameters => MOST_PARAMETERS as u32,
+        Limit::OperatorAtoms => OPERATOR_ATOMS,
+        Limit::Facts => by_version(version, FACTS, FACTS_OF_TWO),
+        Limit::GoalAtoms => GOAL_ATOMS,
+        Limit::Commands => by_version(version, COMMANDS, COMMANDS_OF_TWO),
+        Limit::Disturbs => DISTURBS,
+        Limit::Edits => EDITS,
+    }
+}
+
+fn by_version(version: u32, one: u32, two: u32) -> u32
+    ensures { result ≡ by_version version one two }
+{
+    if version == 2 { two } else { one }
+}
