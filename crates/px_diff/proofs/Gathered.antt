@@ -11,6 +11,7 @@ use Rattle.px_table.specs.declared.entry.Entry.TheVariants.{Op}
 use Rattle.px_entries.specs.Entries.{obligations_of}
 use Rattle.px_diff.specs.Gathering.{Gathers}
 use Rattle.px_diff.specs.Pushes.{IsPushable}
+use Rattle.px_gaps.specs.Needs.{IsOpen}
 use Rattle.px_gaps.specs.Questions.{AreUnlimited}
 
 module _ (problem : Problem) (tables : List Table) (wanted : List Atom) (stack : List Entry) (model : List Atom) where
@@ -57,5 +58,18 @@ module _ (problem : Problem) (tables : List Table) (wanted : List Atom) (stack :
           | inr is ↦ inr (subst (λ (i : OpInst). IsPushable problem tables wanted stack model (Op i)) is pushable)
         ];
     all = λ other is p. subst (λ (l : List OpInst). Contains l other) (sym put) ((Contains-pushed old inst other).1 (inr is));
+    unlimited = λ other is relevant. subst (λ (i : OpInst). AreUnlimited problem (obligations_of problem tables model (Op i))) is unlimited;
+  }
+
+  -- one instance that isn't open, and whose questions don't meet the limit
+  pub gathers_closed : (inst : OpInst) (found : List OpInst) → (¬ IsOpen problem (obligations_of problem tables model (Op inst)))
+      → AreUnlimited problem (obligations_of problem tables model (Op inst))
+      → Gathers problem tables wanted stack model (λ other. inst ≡ other) found found
+  gathers_closed inst found closed unlimited = record {
+    kept = λ other there. there;
+    only = λ other there. inl there;
+    all =
+        λ other is p. absurd (closed (subst (λ (i : OpInst). IsOpen problem (obligations_of problem tables model (Op i))) (sym is)
+        p.open_entry));
     unlimited = λ other is relevant. subst (λ (i : OpInst). AreUnlimited problem (obligations_of problem tables model (Op i))) is unlimited;
   }

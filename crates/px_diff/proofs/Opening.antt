@@ -13,60 +13,27 @@ use Rattle.px_proof.specs.Derivation.{Derivations}
 use Rattle.px_proof.specs.Proves.{Rules, ProvesEach, or_open}
 use Rattle.px_question.specs.declared.gap_list.GapList.{GapList}
 use Rattle.px_question.specs.Answers.{IsList, IsProvable, literals_of}
-use Rattle.px_question.specs.Gaps.{MeetsGapLimit, gaps_in}
+use Rattle.px_question.specs.Gaps.{gaps_in}
 use Rattle.px_question.specs.Limits.{IsGapLimited, IsLimited, IsPartialShape}
 use Rattle.px_question.specs.Settings.{Setting, loose_gaps_in, proofs_in, setting_of}
 use Rattle.px_table.specs.declared.entry.Entry.{Entry}
 use Rattle.px_table.specs.declared.table.Table.{Table}
 use Rattle.px_table.specs.declared.entry.Entry.TheVariants.{Op}
 use Rattle.px_gaps.specs.Closings.{IsChosenIn, IsClosedIn, OneOf}
-use Rattle.px_gaps.specs.Needs.{Obligation, HasAnswer, HasGap, IsOpen}
+use Rattle.px_gaps.specs.Needs.{HasAnswer, HasGap, IsOpen}
 use Rattle.px_diff.specs.Gathering.{AreObjectsFor, Gathers, IsOpenIn, instance_by}
 use Rattle.px_entries.specs.Instances.{Fills, IsPartialInstance, StandsFor}
 use Rattle.px_gaps.specs.Listed.{AreListed}
-use Rattle.px_diff.specs.Pushes.{IsRelevant, LimitsRelevant}
-use Rattle.px_gaps.specs.Questions.{Proving, FindingGaps, AreUnlimited}
+use Rattle.px_diff.specs.Pushes.{IsRelevant}
+use Rattle.px_gaps.specs.Questions.{AreUnlimited}
 use Rattle.px_entries.specs.declared.partial.PartialInstance.{PartialInstance}
 use Rattle.px_diff.proofs.SameInstance.{same_or_not}
-use Rattle.px_gaps.proofs.Singles.{any_one}
 use Rattle.px_gaps.proofs.GapLists.{answer_listed, gap_listed, list_of, list_of-members, listed_answer, listed_gap, loose_listed, partial-loose}
 use Rattle.px_entries.proofs.PartialLemmas.{same_needs}
 use Rattle.px_question.specs.FewerShapes.{few_firsts}
 use Rattle.std.proofs.lemmas.List.{nil_from_length}
 use Rattle.px_gaps.proofs.Grows.{some-item}
 use Rattle.px_entries.proofs.OpenNeeds.{needed_by, open_one, one_open, unlimited_one}
-
--- a question about a relevant instance that meets the limit: proving it, or finding its gaps
-pub limits_proving : (problem : Problem) (tables : List Table) (wanted : List Atom) (stack : List Entry) (model : List Atom) (inst : OpInst)
-    (kept : List Atom) (shapes : List (List Tick)) → IsRelevant problem tables wanted stack (Op inst) → kept ≡ precondition problem inst
-    → IsLimited (setting_of problem model) (precondition problem inst) 0 shapes
-    → LimitsRelevant problem tables wanted stack model kept shapes
-limits_proving problem tables wanted stack model inst kept shapes relevant is limited = record {
-  entry = Op inst;
-  relevant = relevant;
-  question = Proving (needed_by problem model inst);
-  asked =
-      any_one (λ (needed : Obligation). (Proving (needed_by problem model inst) ≡ Proving needed)
-      ⊎ ((¬ HasAnswer problem needed) × (Proving (needed_by problem model inst) ≡ FindingGaps needed))) (needed_by problem model inst)
-      (inl refl);
-  met = (is, limited);
-}
-
-pub limits_finding : (problem : Problem) (tables : List Table) (wanted : List Atom) (stack : List Entry) (model : List Atom) (inst : OpInst)
-    (kept : List Atom) (shapes : List (List Tick)) → IsRelevant problem tables wanted stack (Op inst)
-    → (¬ HasAnswer problem (needed_by problem model inst))
-    → MeetsGapLimit (setting_of problem model) (precondition problem inst) 0 kept shapes
-    → LimitsRelevant problem tables wanted stack model kept shapes
-limits_finding problem tables wanted stack model inst kept shapes relevant none met = record {
-  entry = Op inst;
-  relevant = relevant;
-  question = FindingGaps (needed_by problem model inst);
-  asked =
-      any_one (λ (needed : Obligation). (FindingGaps (needed_by problem model inst) ≡ Proving needed)
-      ⊎ ((¬ HasAnswer problem needed) × (FindingGaps (needed_by problem model inst) ≡ FindingGaps needed))) (needed_by problem model inst)
-      (inr (none, refl));
-  met = met;
-}
 
 -- the instance has an answer: a list that closes nothing
 abbrev pub IsAnsweredIn : PartialInstance → List GapList → OpInst → Type 0

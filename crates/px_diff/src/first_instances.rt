@@ -6,6 +6,7 @@ ghost use Rattle.px_terms.specs.declared.instance.OpInst.{OpInst as InstanceValu
 ghost use Rattle.px_terms.specs.Validity.{IsValid};
 ghost use Rattle.px_gaps.specs.Bounds.{AreBounds};
 ghost use Rattle.px_diff.specs.Firsts.{AreEnough, BringsFirstInstances, ComeBefore, IsNotAfter};
+ghost use Rattle.px_entries.specs.Learned.{AreLearned};
 ghost use Rattle.px_entries.specs.Instances.{IsCovered, IsPartialInstance, StandsFor};
 ghost use Rattle.px_gaps.specs.Outcomes.{IfLimit};
 ghost use Rattle.px_diff.specs.Requests.{GathersFor, LimitsFor};
@@ -107,6 +108,7 @@ pub fn gather_first(
     enough: usize,
 ) -> Result<bool, AskErr>
     requires problem { IsValid request.now.problem.now }
+    requires tables { AreLearned request.now.problem.now request.now.tables.now }
     requires bounds { AreBounds request.now.problem.now request.now.problem.now.height bounds.now.table }
     requires matches { All (IsPartialInstance request.now.problem.now) matches.now }
     ensures gathers { IfOk result (λ is_all. MatchBool is_all

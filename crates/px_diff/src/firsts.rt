@@ -47,6 +47,7 @@ fn ordered_matches(
 /// and all others that may be pushed come after them.
 fn first_operators(asker: &mut Asker, request: &Request, enough: usize) -> Result<First, AskErr>
     requires problem { IsValid request.now.problem.now }
+    requires tables { AreLearned request.now.problem.now request.now.tables.now }
     ensures gathers { IfOk result (λ first. MatchBool first.is_all (GathersEntriesFor request.now IsOperatorEntry [] first.entries.items)
         (BringsFirstEntries request.now enough (λ entry. Unit {0}) [] first.entries.items)) }
     ensures limited { IfLimit result (LimitsFor request.now) }

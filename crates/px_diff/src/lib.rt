@@ -21,19 +21,21 @@
 //!   stack's entries ([`relevance_over_stacks`]).
 //! - All calls answer `NoMemory` if there isn't enough memory, of which nothing more is said.
 //! - [`relevant_measured`] is `relevant` with a number in addition to the entries, for benchmarks ([`Measured`]): how often the prover was
-//!   asked, but for what is asked of each MACROP by itself. Finding gaps asks it for the gap patterns, and of the atoms that these
+//!   asked, but for what is asked of each entry by itself. Finding gaps asks it for the gap patterns, and of the atoms that these
 //!   close whether they have a proof. No clause of the call speaks of this number.
 //!
 //! The definitions are in `specs/`: `Pushes` (which entries are relevant, which may be pushed, and where that meets the limit),
 //! `Stacks` and `Models` (the laws). Only private functions cite the others. Laws for callers are in `proofs/`: `Opening` (when an
-//! operator's instance is open, and what is asked about it).
+//! operator's instance is open).
 //!
 //! Internally `relevant` matches what operators add with the wanted atoms (`matches_of` of `px_entries`). One question of gaps is
 //! asked for each match. An atom whose predicate some operator adds, and no axiom concludes, is a fact or a gap closes it, so it
 //! never decides whether an instance is open. Where the number of shapes is known to stay below the limit (`Bounds` of `px_gaps`),
 //! the question is therefore only about the other atoms of the precondition (`rest`). Else it is about the whole precondition.
 //! Where it meets the limit, the first variable is bound to each object in turn, and each of these narrower matches is asked in
-//! the same way. That ends where a question answers, or where no variable is left.
+//! the same way. That ends where a question answers, or where no variable is left. A match that stands for at most 9 instances isn't asked
+//! about as a whole: a question that meets the limit takes as many steps as the limit allows, and says nothing. An instance is asked about
+//! as an entry by itself is, its proof first.
 //!
 //! Where an object stands at a place of another sort, nothing is asked, and where an object is chosen for a variable or a parameter, those
 //! of another sort are passed over (`sorted`). A question with variables may range over such objects; where it meets the limit it answers
@@ -44,7 +46,8 @@
 //! from what the steps before it leave of the model, so it has no more shapes than that question, and nothing that the question
 //! doesn't offer. What is provable from the whole model says nothing of it, so nothing is left out for that. The objects that
 //! the rows offer are joined, a row with few choices first (`fitting`), so that tuples of objects aren't listed. Each
-//! MACROP that comes out is tried by itself, by the calls for one entry, whose questions aren't counted (`macros`).
+//! MACROP that comes out is tried by itself, by the calls for one entry, whose questions aren't counted (`macros`). `relevant` asks nothing
+//! about the rows of a table with at most 256 choices of objects: it tries each of its MACROPs by itself.
 //!
 //! Where the question of a row meets the limit, one of the row's own parameters is bound to each object in turn, and each of these
 //! narrower rows is asked in the same way. What is known of the other rows stays as it is. Where each parameter of the row has an

@@ -17,6 +17,7 @@ ghost use Rattle.px_diff.specs.RowQuestions.{AreTableChoices};
 use crate::fitting::{fewest, numbers_below, without_place};
 use crate::front::Front;
 use crate::macro_open::are_settled_marks;
+use crate::pushes::are_few;
 use crate::relevance::is_stacked;
 use crate::request::Request;
 use crate::row_choices::TableChoices;
@@ -366,6 +367,26 @@ pub fn choices_of_table(
     Ok(Some(rows))
 }
 
+/// Up to so many choices of objects for a table's parameters are each tried by themselves, where questions may meet the limit.
+const FEW_MACROPS: u64 = 256;
+
+/// Returns what is known of all rows of the table, as `choices_of_table`. `None`, too, where there are few choices of objects: a question
+/// about a row may take as many steps as the limit allows, and say nothing.
+fn rows_of_table(
+    asker: &mut Asker,
+    request: &Request,
+    table: &Table,
+) -> Result<Option<TableChoices>, NoMemory>
+    requires problem { IsValid request.now.problem.now }
+    requires table { IsTable request.now.problem.now table.now }
+    ensures { IfOk result (λ found. IfSome found (AreTableChoices request.now.problem.now request.now.model.now.atoms table.now)) }
+{
+    if are_few(request.problem.objects, table.params, FEW_MACROPS) {
+        return Ok(None);
+    }
+    choices_of_table(asker, request, table)
+}
+
 /// Adds those of the table's entries that may be pushed.
 fn gather_table(
     asker: &mut Asker,
@@ -380,7 +401,7 @@ fn gather_table(
     ensures limited { IfLimit result (LimitsFor request.now) }
 {
     let table = &request.tables[number as usize];
-    let made = choices_of_table(asker, request, table)?;
+    let made = rows_of_table(asker, request, table)?;
     let rows = &made;
     let steps = table.steps.len() as u32;
     for count in 2..steps + 1 {

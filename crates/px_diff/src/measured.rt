@@ -6,6 +6,6 @@ use px_table::Entry;
 pub struct Measured {
     /// The entries that may be pushed, in order, each once.
     pub entries: Vec<Entry>,
-    /// How many questions the prover was asked, but for those about each MACROP by itself.
+    /// How many questions the prover was asked, but for those about each entry by itself.
     pub questions: u64,
 }

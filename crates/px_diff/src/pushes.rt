@@ -1,24 +1,22 @@
 //! Which entries may be pushed where these atoms are wanted.
-ghost use Rattle.std.specs.Prelude.{◌≡◌, ◌↔◌, ◌⊎◌, ℕ, List, map, All, Any, Contains, IfOk, OnOk};
+ghost use Rattle.std.specs.Prelude.{◌≡◌, ◌↔◌, ◌⊎◌, ◌<◌, ◌≤◌, ℕ, List, map, All, Any, Contains, IfOk, IfSome, OnOk};
 ghost use Rattle.std.specs.List.Sorted.{IsStrictlySortedBy};
-ghost use Rattle.px_proof.specs.declared.shape.Tick.{Tick};
+ghost use Rattle.px_prover.specs.Limits.{most_gap_variables};
 ghost use Rattle.px_prover.specs.PatternLists.{lists_of};
 ghost use Rattle.px_question.specs.Settings.{setting_of};
-ghost use Rattle.px_question.specs.Gaps.{MeetsGapLimit};
 ghost use Rattle.px_table.specs.declared.entry.Entry.{Entry};
 ghost use Rattle.px_table.specs.declared.entry.Entry.TheVariants.{Op};
 ghost use Rattle.px_table.specs.EntryOrder.{order_of_entries};
 ghost use Rattle.px_terms.specs.declared.instance.OpInst.{OpInst};
-ghost use Rattle.px_terms.specs.Operators.{precondition};
-ghost use Rattle.px_terms.specs.Validity.{IsValid, IsInstanceOf};
+ghost use Rattle.px_terms.specs.Validity.{IsAtomOf, IsValid, IsInstanceOf};
 ghost use Rattle.px_gaps.specs.Bounds.{AreBounds};
 ghost use Rattle.px_gaps.specs.Closings.{OneOf};
 ghost use Rattle.px_entries.specs.Entries.{obligations_of};
-ghost use Rattle.px_gaps.specs.GapAnswers.{AnswersSome};
+ghost use Rattle.px_gaps.specs.GapAnswers.{AnswersSome, IsGapAnswer};
 ghost use Rattle.px_diff.specs.Gathering.{AreObjectsFor, IsOpenIn, instance_by};
 ghost use Rattle.px_entries.specs.Instances.{IsCovered, IsPartialInstance, StandsFor};
 ghost use Rattle.px_entries.specs.Learned.{AreLearned};
-ghost use Rattle.px_gaps.specs.Outcomes.{AtLimit, IfLimit};
+ghost use Rattle.px_gaps.specs.Outcomes.{IfLimit};
 ghost use Rattle.px_diff.specs.Pushes.{IsRelevant, IsPushable, LimitsRelevant};
 ghost use Rattle.px_gaps.specs.Questions.{AreBelow, AreUnlimited};
 ghost use Rattle.px_diff.specs.Requests.{AreBelowFor, AreUnlimitedFor, GathersFor, IsPushableFor, IsRelevantFor, LimitsFor};
@@ -30,45 +28,48 @@ use crate::request::Request;
 use crate::rest::rest_answer;
 use crate::sorted::{may_fit, variable_sorts};
 use px_base::push;
-use px_entries::{PartialInstance, bound_instance, filled, matches_of};
-use px_gaps::{AskErr, Asker, Bounds, GapAnswer, Sorting, ask_gaps, choices_of};
+use px_entries::{PartialInstance, bound_instance, filled, known_entry, matches_of};
+use px_gaps::{AskErr, Asker, Bounds, GapAnswer, Known, Sorting, ask_gaps, choices_of};
 use px_ops::{Model, precondition_of};
-use px_prover::ProveErr;
 use px_table::{Entry, Table};
 use px_terms::{Atom, NoMemory, OpInst, Problem, Sequence};
 use std::alloc::Global;
 
-/// Adds the instance without variables where it may be pushed, though finding its gaps meets this limit.
+/// Adds the instance without variables where it may be pushed, as questions about it alone show.
 fn gather_one(
-    asker: &mut Asker,
+    alloc: Global,
     found: &mut Vec<OpInst>,
     request: &Request,
     inst: &OpInst,
-    formula: &[Atom],
-    limit: AskErr,
 ) -> Result<(), AskErr>
     requires problem { IsValid request.now.problem.now }
+    requires tables { AreLearned request.now.problem.now request.now.tables.now }
     requires inst { IsInstanceOf request.now.problem.now inst.now }
-    requires formula { formula.now ≡ precondition request.now.problem.now inst.now }
-    requires limit { AtLimit limit (MeetsGapLimit (setting_of request.now.problem.now request.now.model.now.atoms) formula.now 0) }
     ensures gathers { OnOk result (GathersFor request.now (λ other. inst.now ≡ other) found.old.items found.new.items) }
     ensures limited { IfLimit result (LimitsFor request.now) }
 {
     if !is_relevant(request, inst) {
         return Ok(());
     }
-    match asker.prove(request.problem, formula, 0, request.model) {
-        Ok(_) => {
+    let entry = Entry::Op(*inst);
+    match known_entry(
+        alloc,
+        request.problem,
+        request.tables,
+        &entry,
+        request.model,
+    ) {
+        Ok(Known::Applicable) => {
             push(found, *inst)?;
             Ok(())
         }
-        Err(ProveErr::Unprovable) => Err(limit),
-        Err(ProveErr::ShapeLimit(shapes)) => {
-            let formula = Sequence::from_slice(asker.alloc, formula)?;
-            let shapes = Sequence::from_vec(shapes);
-            Err(AskErr::ShapeLimit { formula, shapes })
+        Ok(Known::Open(_)) => {
+            push(found, *inst)?;
+            Ok(())
         }
-        Err(ProveErr::NoMemory) => Err(AskErr::NoMemory),
+        Ok(Known::Closed) => Ok(()),
+        Ok(Known::Limited { formula, shapes }) => Err(AskErr::ShapeLimit { formula, shapes }),
+        Err(NoMemory) => Err(AskErr::NoMemory),
     }
 }
 
@@ -139,6 +140,47 @@ fn keep_open(
     keep_choices(found, request, partial, &choices)
 }
 
+/// Up to so many instances are each asked about by themselves, where a question about all of them may meet the limit. Such a question takes
+/// as many steps as the limit allows, and says nothing.
+const FEW_INSTANCES: u64 = 9;
+
+/// Returns whether there are at most this number of choices of objects for the variables. Nothing rests on the answer.
+pub fn are_few(objects: u32, vars: u32, most: u64) -> bool {
+    let mut choices: u64 = 1;
+    for _place in 0..vars {
+        choices = choices.saturating_mul(objects as u64);
+        if choices > most {
+            return false;
+        }
+    }
+    true
+}
+
+/// Returns what one question of gaps says of the formula. `None` where it meets the limit. It isn't asked where there are few choices of
+/// objects.
+fn whole_answer(
+    asker: &mut Asker,
+    request: &Request,
+    formula: &[Atom],
+    vars: u32,
+) -> Result<Option<GapAnswer>, NoMemory>
+    requires problem { IsValid request.now.problem.now }
+    requires formula { All (IsAtomOf request.now.problem.now vars) formula.now }
+    requires few_variables { vars ≤ most_gap_variables }
+    requires some_object { 0 < vars → 0 < request.now.problem.now.objects }
+    ensures { IfOk result (λ found. IfSome found (λ answer. IsGapAnswer (setting_of request.now.problem.now request.now.model.now.atoms)
+        formula.now vars answer.patterns.items answer.provable.atoms)) }
+{
+    if are_few(request.problem.objects, vars, FEW_INSTANCES) {
+        return Ok(None);
+    }
+    match ask_gaps(asker, request.problem, formula, vars, request.model) {
+        Ok(answer) => Ok(Some(answer)),
+        Err(AskErr::NoMemory) => Err(NoMemory),
+        Err(AskErr::ShapeLimit { .. }) => Ok(None),
+    }
+}
+
 /// Adds the instances that the partial one stands for and that may be pushed: by one question, about the rest of what it needs or about
 /// all of it, where this decides all of them, else in the same way for each object that its first variable may be. Each recursive call has
 /// one variable less. Nothing is asked where an object stands at a place of another sort.
@@ -150,6 +192,7 @@ pub fn gather(
     partial: &PartialInstance,
 ) -> Result<(), AskErr>
     requires problem { IsValid request.now.problem.now }
+    requires tables { AreLearned request.now.problem.now request.now.tables.now }
     requires bounds { AreBounds request.now.problem.now request.now.problem.now.height bounds.now.table }
     requires partial { IsPartialInstance request.now.problem.now partial.now }
     ensures gathers { OnOk result (GathersFor request.now (StandsFor request.now.problem.now partial.now) found.old.items found.new.items) }
@@ -168,29 +211,21 @@ pub fn gather(
         }
         None => {}
     }
-    match ask_gaps(
-        asker,
-        request.problem,
-        &formula,
-        partial.vars,
-        request.model,
-    ) {
-        Ok(answer) => {
-            keep_open(asker.alloc, found, request, partial, &answer)?;
-            Ok(())
-        }
-        Err(AskErr::NoMemory) => Err(AskErr::NoMemory),
-        Err(limit) => {
-            if partial.vars == 0 {
-                return gather_one(asker, found, request, &partial.inst, &formula, limit);
-            }
-            for object in 0..request.problem.objects {
-                let next = bound_instance(partial, 0, object);
-                gather(asker, found, request, bounds, &next)?;
-            }
-            Ok(())
-        }
+    if partial.vars == 0 {
+        return gather_one(asker.alloc, found, request, &partial.inst);
     }
+    match whole_answer(asker, request, &formula, partial.vars)? {
+        Some(answer) => {
+            keep_open(asker.alloc, found, request, partial, &answer)?;
+            return Ok(());
+        }
+        None => {}
+    }
+    for object in 0..request.problem.objects {
+        let next = bound_instance(partial, 0, object);
+        gather(asker, found, request, bounds, &next)?;
+    }
+    Ok(())
 }
 
 /// Adds the instances that the matches stand for and that may be pushed.
@@ -202,6 +237,7 @@ fn gather_matches(
     matches: &[PartialInstance],
 ) -> Result<(), AskErr>
     requires problem { IsValid request.now.problem.now }
+    requires tables { AreLearned request.now.problem.now request.now.tables.now }
     requires bounds { AreBounds request.now.problem.now request.now.problem.now.height bounds.now.table }
     requires matches { All (IsPartialInstance request.now.problem.now) matches.now }
     ensures gathers { OnOk result (GathersFor request.now (IsCovered request.now.problem.now matches.now) found.old.items found.new.items) }
@@ -256,7 +292,7 @@ fn pushable_for(asker: &mut Asker, request: &Request) -> Result<Vec<Entry>, AskE
 // `relevant` promises the same, but only of the entries.
 /// Returns what `relevant` does, with the number of questions that it asks the prover. The number is measured: it begins with 0,
 /// and the clause `counted` of each of the two methods that ask (`Asker::gap_patterns` and `Asker::prove`) says that
-/// it asks one more, up to the greatest number of 64 bits. What is asked of each MACROP by itself isn't counted. No clause of this
+/// it asks one more, up to the greatest number of 64 bits. What is asked of each entry by itself isn't counted. No clause of this
 /// call speaks of the number.
 ///
 /// # Errors

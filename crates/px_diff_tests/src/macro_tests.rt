@@ -1,8 +1,9 @@
 //! The first steps of tables as entries.
 use crate::asking::Case;
 use crate::relevance_tests::{are_entries, has_count, is_limited, pushes_of};
-use crate::sample_problems::{entry_of, things, two_steps};
-use crate::sample_tables::{both_steps, take_and_use};
+use crate::sample_problems::{entry_of, one_too_wide, things, two_steps};
+use crate::sample_tables::{begin_and_finish, both_steps, take_and_use};
+use px_gaps::AskErr;
 use px_ops::Model;
 use px_samples::{atom, model_of, moving, o, opening, parameters, rooms};
 use px_table::{Entry, Table};
@@ -145,4 +146,33 @@ fn a_row_alone_meets_the_limit(rt: HostRuntime) {
         let found = pushes_of(alloc, &rt, &case);
         assert!(&rt; is_limited(&found) == (shapes == 2) && has_count(&found, 2) == (shapes == 3));
     }
+}
+
+/// Returns what may be pushed so that atom 2 holds, where the last operator's parameter has this sort.
+fn pushes_where_one_is_too_wide(
+    alloc: Global,
+    rt: &impl Abort,
+    wanted: u32,
+) -> Result<Vec<Entry>, AskErr> {
+    let problem = one_too_wide(alloc, rt, wanted);
+    let model = model_of(alloc, &[atom(0, &[o(0)])]).expect(rt, "memory");
+    let tables = [begin_and_finish(alloc, rt, wanted)];
+    let case = Case {
+        problem: &problem,
+        wanted: &[atom(2, &[])],
+        stack: &[],
+        model: &model,
+        tables: &tables,
+    };
+    pushes_of(alloc, rt, &case)
+}
+
+/// A row asks nothing about an object that doesn't fit: where each object fits, the question about object 1 meets the limit.
+#[test]
+fn rows_ask_nothing_about_what_does_not_fit(rt: HostRuntime) {
+    let alloc = rt.alloc();
+    let found = pushes_where_one_is_too_wide(alloc, &rt, 1);
+    let expected = [entry_of(1, &[o(0)]), two_of(alloc, &rt, &[0])];
+    assert!(&rt; are_entries(&found, &expected));
+    assert!(&rt; is_limited(&pushes_where_one_is_too_wide(alloc, &rt, 0)));
 }

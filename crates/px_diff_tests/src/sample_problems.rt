@@ -4,7 +4,7 @@ ghost use Rattle.std.specs.Prelude.{◌≤◌, length};
 use px_ops::Model;
 use px_samples::{add_axiom, atom, instance, model_of, no, o, problem_of, schema, v, yes};
 use px_table::Entry;
-use px_terms::{ClauseArena, Problem, Term};
+use px_terms::{ClauseArena, Problem, Sequence, Term};
 use std::alloc::Global;
 use std::process::Abort;
 
@@ -114,4 +114,27 @@ pub fn two_steps(alloc: Global, rt: &impl Abort) -> Problem {
         schema(alloc, (1, 0), &needed, &[], &added).expect(rt, "memory"),
     ];
     problem_of(alloc, 1, &[0, 0, 0, 0], axioms, operators).expect(rt, "memory")
+}
+
+/// Returns a problem in which atom 0 of object 1 follows from each of four atoms, which is too much for four shapes. An operator adds
+/// atom 1; a second one needs atom 0 of an object, and atom 1, and adds atom 2. Only object 0 has the sort of its parameter, where it has
+/// one.
+pub fn one_too_wide(alloc: Global, rt: &impl Abort, wanted: u32) -> Problem {
+    let (begun, done) = (atom(1, &[]), atom(2, &[]));
+    let mut axioms = ClauseArena::new(alloc);
+    for given in 3..7 {
+        let lits = [no(atom(given, &[])), yes(atom(0, &[o(1)]))];
+        add_axiom(&mut axioms, 0, &lits).expect(rt, "an axiom");
+    }
+    let begin = schema(alloc, (0, 0), &[], &[], &[begun]).expect(rt, "memory");
+    let mut finish = schema(alloc, (1, 1), &[atom(0, &[v(0)]), begun], &[], &[done]).expect(
+        rt, "memory",
+    );
+    finish.param_sorts = Sequence::from_slice(alloc, &[wanted]).expect(rt, "memory");
+    let arities = [1, 0, 0, 0, 0, 0, 0];
+    let mut problem = problem_of(alloc, 2, &arities, axioms, [begin, finish]).expect(rt, "memory");
+    problem.sorts = 1;
+    problem.object_sorts = Sequence::from_slice(alloc, &[1, 0]).expect(rt, "memory");
+    problem.shapes = 4;
+    problem
 }

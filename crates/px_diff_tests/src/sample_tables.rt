@@ -118,3 +118,17 @@ pub fn take_and_use(alloc: Global, rt: &impl Abort, params: u32) -> Table {
     ];
     table_of(alloc, rt, params, &steps, &goal, 0, rows)
 }
+
+/// Returns the table of both operators of `one_too_wide` one after the other. Its parameter has this sort.
+pub fn begin_and_finish(alloc: Global, rt: &impl Abort, wanted: u32) -> Table {
+    let needed = [given(atom(0, &[v(0)])), added(1, 0, atom(1, &[]))];
+    let goal = [atom(2, &[])];
+    let mut rows = no_rows(alloc);
+    add_row(alloc, rt, &mut rows, 1, &[], &[]);
+    add_row(alloc, rt, &mut rows, 2, &needed, &[]);
+    add_row(alloc, rt, &mut rows, 3, &[added(2, 0, goal[0])], &[]);
+    let steps = [instance(0, &[]), instance(1, &[v(0)])];
+    let mut table = table_of(alloc, rt, 1, &steps, &goal, 0, rows);
+    table.param_sorts = Sequence::from_slice(alloc, &[wanted]).expect(rt, "memory");
+    table
+}

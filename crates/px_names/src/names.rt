@@ -119,7 +119,7 @@ impl Names {
     fn list(&self, kind: Kind) -> &NameList
         ensures list { result.now ≡ names_of kind self.now }
         ensures names { AreNames kind (names_of kind self.now) }
-        ensures small { length (names_of kind self.now) ≤ 1056 }
+        ensures small { length (names_of kind self.now) ≤ limit_of Kind.Result }
     {
         match kind {
             Kind::Object => &self.objects,

@@ -35,8 +35,6 @@ mod adding;
 mod all_states;
 mod building;
 mod change;
-#[cfg(test)]
-mod drawing;
 mod errors;
 mod fact_counts;
 mod facts;

@@ -1,9 +1,8 @@
 //! A world of a building and the plain simulator, side by side, for tests.
 use crate::action::RoomAction;
-use crate::drawing::instance;
 use crate::plain::Plain;
 use crate::{Building, RoomErr, RoomWorld, rooms_problem};
-use px_terms::{NoMemory, Problem, is_instance_of};
+use px_terms::{NoMemory, OpInst, Problem, Term, is_instance_of};
 use px_world::{RoomEdit, World};
 use std::alloc::Global;
 
@@ -89,5 +88,28 @@ impl Pair {
             .iter()
             .all(|fact| model.holds(fact) && self.world.holds(fact));
         Ok(all && model.atoms().iter().all(|atom| facts.contains(atom)))
+    }
+}
+
+/// Returns the action as an instance of its operator.
+pub(crate) fn instance(action: &RoomAction) -> Option<OpInst> {
+    match *action {
+        RoomAction::GoToBox(a, b) => OpInst::new(0, &[Term::Obj(a), Term::Obj(b)]),
+        RoomAction::GoToDoor(a, b, c) => OpInst::new(
+            1,
+            &[Term::Obj(a), Term::Obj(b), Term::Obj(c)],
+        ),
+        RoomAction::Open(a) => OpInst::new(2, &[Term::Obj(a)]),
+        RoomAction::Close(a) => OpInst::new(3, &[Term::Obj(a)]),
+        RoomAction::GoThrough(a, b, c) => OpInst::new(
+            4,
+            &[Term::Obj(a), Term::Obj(b), Term::Obj(c)],
+        ),
+        RoomAction::PushToDoor(a, b, c, d) => {
+            OpInst::new(5, &[Term::Obj(a), Term::Obj(b), Term::Obj(c), Term::Obj(d)])
+        }
+        RoomAction::PushThrough(a, b, c, d) => {
+            OpInst::new(6, &[Term::Obj(a), Term::Obj(b), Term::Obj(c), Term::Obj(d)])
+        }
     }
 }

@@ -15,8 +15,6 @@ pub(crate) struct Plain {
     robots: Vec<u32>,
     /// The box or the door that the robot is beside.
     robot_beside: u32,
-    /// How many boxes were pushed through doors.
-    pub(crate) pushed: u32,
 }
 
 impl Plain {
@@ -38,7 +36,6 @@ impl Plain {
             beside,
             robots,
             robot_beside: 0,
-            pushed: 0,
         })
     }
 
@@ -182,7 +179,6 @@ impl Plain {
             RoomAction::PushThrough(target, _, _, other) => {
                 self.move_robot(other);
                 self.move_box(target, other);
-                self.pushed = self.pushed.wrapping_add(1);
             }
         }
         true

@@ -1,9 +1,8 @@
-//! A building of two rooms, its problem and its world; and worlds of buildings that are drawn at random, beside a plain simulator.
+//! A building of two rooms, its problem and its world; and lists of things that are no building, beside a plain simulator.
 ghost use Rattle.std.specs.Prelude.{◌≡◌, IfOk};
 ghost use Rattle.px_rooms.specs.WorkedBuilding.{two_rooms as worked_rooms};
 
 use crate::action::RoomAction;
-use crate::drawing::Dice;
 use crate::facts::{ROBOT, in_room, next_to, opened};
 use crate::pair::{BegunPair, Pair};
 use crate::{
@@ -77,70 +76,45 @@ fn a_closed_door(rt: HostRuntime) -> Result<(), NoMemory> {
     Ok(())
 }
 
-/// Returns whether both take the same. Each eighth turn is an edit, the others are actions.
-fn take_the_same(dice: &mut Dice, turn: u32, pair: &mut Pair) -> bool {
-    if turn % 8 == 7 {
-        return pair.edit(&dice.edit());
-    }
-    let action = dice.action(&pair.plain);
-    pair.act(&action)
-}
-
-/// Returns whether both have the same facts at first and after each of some turns.
-fn stay_the_same(alloc: Global, dice: &mut Dice, pair: &mut Pair) -> Result<bool, NoMemory> {
-    if !pair.have_same_facts(alloc)? {
-        return Ok(false);
-    }
-    for turn in 0..40u32 {
-        if !(take_the_same(dice, turn, pair) && pair.have_same_facts(alloc)?) {
-            return Ok(false);
-        }
-    }
-    Ok(true)
-}
-
-/// What came of a building.
-#[derive(Clone, Copy, PartialEq, Eq)]
-enum Trial {
-    /// The world and the plain simulator differ.
-    Differs,
-    /// Both say that it isn't a building.
-    IsRefused,
-    /// They agree, and this many boxes were pushed through doors.
-    Agrees(u32),
-}
-
-/// Draws a building, and tries it.
-fn try_building(alloc: Global, dice: &mut Dice) -> Result<Trial, NoMemory> {
+/// Returns whether the world and the plain simulator both say that these things aren't a building.
+fn are_refused(alloc: Global, things: &[Thing]) -> Result<bool, NoMemory> {
     let building = Building {
-        things: Sequence::from_vec(dice.things(alloc)?),
+        things: Sequence::from_slice(alloc, things)?,
     };
-    match Pair::begin(alloc, &building)? {
-        BegunPair::One => Ok(Trial::Differs),
-        BegunPair::Neither => Ok(Trial::IsRefused),
-        BegunPair::Both(mut pair) => {
-            if stay_the_same(alloc, dice, &mut pair)? {
-                Ok(Trial::Agrees(pair.plain.pushed))
-            } else {
-                Ok(Trial::Differs)
-            }
-        }
-    }
+    Ok(matches!(Pair::begin(alloc, &building)?, BegunPair::Neither))
 }
+
+const ROBOT_IN_FIRST: Thing = Thing::Robot { room: 1 };
+
+/// A door that leads from the first room to itself.
+const DOOR_TO_ITSELF: Thing = Thing::Door {
+    a: 1,
+    b: 1,
+    is_open: true,
+};
+
+/// A door, of number 2, that leads from the first room to itself as a door.
+const DOOR_TO_DOOR: Thing = Thing::Door {
+    a: 1,
+    b: 2,
+    is_open: true,
+};
+
+/// No robot; two; one in a room that isn't there; a box there; the two doors.
+const NO_BUILDINGS: [&[Thing]; 6] = [
+    &[Thing::Room],
+    &[Thing::Room, ROBOT_IN_FIRST, ROBOT_IN_FIRST],
+    &[Thing::Room, Thing::Robot { room: 2 }],
+    &[Thing::Room, ROBOT_IN_FIRST, Thing::Box { room: 2 }],
+    &[Thing::Room, ROBOT_IN_FIRST, DOOR_TO_ITSELF],
+    &[Thing::Room, ROBOT_IN_FIRST, DOOR_TO_DOOR],
+];
 
 #[test]
-fn drawn_buildings(rt: HostRuntime) -> Result<(), NoMemory> {
-    let mut dice = Dice::new(1);
-    let mut is_refused = false;
-    let mut is_pushed = false;
-    for building in 0..12 {
-        match try_building(rt.alloc(), &mut dice)? {
-            Trial::Differs => assert!(&rt; false, "building {building}"),
-            Trial::IsRefused => is_refused = true,
-            Trial::Agrees(pushed) => is_pushed |= pushed > 0,
-        }
+fn things_that_are_no_building(rt: HostRuntime) -> Result<(), NoMemory> {
+    for things in NO_BUILDINGS {
+        assert!(&rt; are_refused(rt.alloc(), things)?);
     }
-    assert!(&rt; is_refused && is_pushed);
     Ok(())
 }
 

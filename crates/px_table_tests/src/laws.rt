@@ -1,5 +1,9 @@
 //! The laws are calls; and an executor of a small table senses and is disturbed.
 use crate::samples::{table_of_facts, valid};
+use px_duo::{
+    duo_traces_are_one, duo_traces_exist, duos_stay_ready, each_is_alone, slips_have_causes,
+    spared_are_unhindered, spared_reach_goal,
+};
 use px_general::{general_is_one, worked_general};
 use px_match::{danger_kernels, danger_sensed, sensed_is_one};
 use px_planex::{
@@ -42,6 +46,13 @@ fn laws_are_calls(_rt: HostRuntime) {
     runs_are_traces::<AtomWorld<'_>>();
     turns_are_few::<AtomWorld<'_>>();
     danger_runs();
+    duo_traces_are_one::<AtomWorld<'_>>();
+    duo_traces_exist::<AtomWorld<'_>>();
+    duos_stay_ready::<AtomWorld<'_>>();
+    each_is_alone::<AtomWorld<'_>>();
+    slips_have_causes::<AtomWorld<'_>>();
+    spared_are_unhindered::<AtomWorld<'_>>();
+    spared_reach_goal::<AtomWorld<'_>>();
 }
 
 #[test]

@@ -1,4 +1,4 @@
-//! Tests of `px_table`, `px_match`, `px_general` and `px_planex`: they stand apart from the crates that they test, since a crate with
+//! Tests of `px_table`, `px_match`, `px_general`, `px_planex` and `px_duo`: they stand apart from the crates that they test, since a crate with
 //! tests is proved twice.
 #![tactic(auto)]
 
@@ -24,3 +24,5 @@ mod small_tables;
 mod sorted;
 #[cfg(test)]
 mod tables;
+#[cfg(test)]
+mod two_executors;

@@ -18,7 +18,7 @@ fn prove(rt: &impl Abort, marks: &mut Vec<Mark>, row: &mut Vec<Proof>, mark: Mar
 }
 
 /// Returns the table of these steps, each of whose proofs is by one fact.
-fn table_of(
+pub fn table_of(
     alloc: Global,
     rt: &impl Abort,
     params: u32,

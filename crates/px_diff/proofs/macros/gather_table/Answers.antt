@@ -13,8 +13,8 @@ loop-count-init c =
     (slice_get-read tables c.args.number d c.requires.number)
     (learned-at c.args.request.now.problem.now tables c.args.number d c.requires.tables c.requires.number)
 
-pub choices_of_table-requires-clause-table : goal.choices_of_table-requires-clause-table
-choices_of_table-requires-clause-table c =
+pub rows_of_table-requires-clause-table : goal.rows_of_table-requires-clause-table
+rows_of_table-requires-clause-table c =
     learned-at c.args.request.now.problem.now c.args.request.now.tables.now c.args.number c.index-request-number.result c.requires.tables
     c.requires.number
 

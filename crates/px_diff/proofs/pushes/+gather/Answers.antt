@@ -36,8 +36,8 @@ rest_answer-requires-clause-formula t c =
     subst (All (IsAtomOf c.args.request.now.problem.now c.args.partial.now.vars)) (sym (c.deref.ensures.value ∙ c.in_ok-formula.ensures))
     (needs-are c.args.request.now.problem.now c.args.partial.now c.requires.problem c.requires.partial)
 
-pub ask_gaps-requires-clause-formula : goal.ask_gaps-requires-clause-formula
-ask_gaps-requires-clause-formula t c =
+pub whole_answer-requires-clause-formula : goal.whole_answer-requires-clause-formula
+whole_answer-requires-clause-formula t c =
     subst (All (IsAtomOf c.args.request.now.problem.now c.args.partial.now.vars)) (sym (c.deref-2.ensures.value ∙ c.in_ok-formula.ensures))
     (needs-are c.args.request.now.problem.now c.args.partial.now c.requires.problem c.requires.partial)
 
@@ -75,31 +75,36 @@ returns-in-Some-clause-gathers t c =
     c.args.request.now.tables.now c.args.request.now.wanted.now c.args.request.now.stack.now c.atoms-facts.ensures.model.ascending rest.few
     rest.answer.unlimited c.args.found.now.items c.keep_open.new.found.items c.in_ok-keep_open-in-Some.ensures
 
-pub keep_open-requires-in-Ok-clause-answer : goal.keep_open-requires-in-Ok-clause-answer
-keep_open-requires-in-Ok-clause-answer t c = (
-  c.deref-2.result.now,
-  subst (All (IsAtomOf c.args.request.now.problem.now c.args.partial.now.vars))
-      (sym (c.deref-2.ensures.value ∙ c.in_ok-formula.ensures))
-      (needs-are c.args.request.now.problem.now c.args.partial.now c.requires.problem c.requires.partial),
-  c.in-Ok.ensures.answer,
-)
+pub keep_open-requires-in-Some-2-clause-answer : goal.keep_open-requires-in-Some-2-clause-answer
+keep_open-requires-in-Some-2-clause-answer t c =
+    let problem = c.args.request.now.problem.now in
+    let partial = c.args.partial.now in (
+      c.deref-2.result.now,
+      subst (All (IsAtomOf problem partial.vars)) (sym (c.deref-2.ensures.value ∙ c.in_ok-formula.ensures))
+          (needs-are problem partial c.requires.problem c.requires.partial),
+      some_found (λ answer. IsGapAnswer (setting_of problem c.args.request.now.model.now.atoms) c.deref-2.result.now partial.vars
+          answer.patterns.items answer.provable.atoms) c.in_ok-answer-2.field-0 c.in-Some-2.answer c.in-Some-2.is
+          c.in_ok-answer-2.ensures,
+    )
 
-pub returns-in-Ok-clause-gathers : goal.returns-in-Ok-clause-gathers
-returns-in-Ok-clause-gathers t c =
+pub returns-in-Some-2-clause-gathers : goal.returns-in-Some-2-clause-gathers
+returns-in-Some-2-clause-gathers t c =
     let problem = c.args.request.now.problem.now in
     let partial = c.args.partial.now in
-    let patterns = c.in-Ok.answer.patterns.items in
-    let provable = c.in-Ok.answer.provable.atoms in
+    let patterns = c.in-Some-2.answer.patterns.items in
+    let provable = c.in-Some-2.answer.provable.atoms in
     let s = setting_of problem c.args.request.now.model.now.atoms in
     let answer =
     subst (λ (l : List Atom). IsGapAnswer s l partial.vars patterns provable)
-    (c.deref-2.ensures.value ∙ c.in_ok-formula.ensures) c.in-Ok.ensures.answer in
+    (c.deref-2.ensures.value ∙ c.in_ok-formula.ensures)
+    (some_found (λ answer. IsGapAnswer s c.deref-2.result.now partial.vars answer.patterns.items answer.provable.atoms)
+    c.in_ok-answer-2.field-0 c.in-Some-2.answer c.in-Some-2.is c.in_ok-answer-2.ensures) in
     all-gathered problem c.requires.problem c.args.request.now.model.now.atoms partial c.requires.partial
     (lists_of problem.objects patterns) (answer-listed s (precondition problem partial.inst) partial.vars patterns provable answer)
     provable
     (none-provable s (precondition problem partial.inst) partial.vars patterns provable answer)
     c.args.request.now.tables.now c.args.request.now.wanted.now c.args.request.now.stack.now answer.unlimited c.args.found.now.items
-    c.keep_open-in-Ok.new.found.items c.in_ok-keep_open-in-Ok.ensures
+    c.keep_open-in-Some-2.new.found.items c.in_ok-keep_open-in-Some-2.ensures
 
 pub returns-then-partial-eq0-clause-gathers : goal.returns-then-partial-eq0-clause-gathers
 returns-then-partial-eq0-clause-gathers t c =
@@ -125,7 +130,7 @@ loop-object-preserved t c =
       | inl before ↦ inl (w.0, w.1, before)
       | inr level ↦ inr (c.bound_instance-next.ensures.fills problem inst w.0 w.1 level)
     ])
-    c.loop-object.invariant c.in_ok-gather-in-Err.ensures.gathers
+    c.loop-object.invariant c.in_ok-gather.ensures.gathers
 
 pub returns-clause-gathers : goal.returns-clause-gathers
 returns-clause-gathers t c =
