@@ -180,6 +180,8 @@ def read_line(number, text, words, script):
         script.commands.append(read_command(number, text, words, script))
     elif word == 'object':
         script.objects += rest
+    elif word == 'sort':
+        script.objects += rest[1:]
     elif word == 'predicate':
         script.predicates.append(rest[0])
     elif word == 'operator':
@@ -196,7 +198,7 @@ def read_line(number, text, words, script):
             read_line(number, line, tokens(line), script)
     elif word in ('room', 'door', 'box', 'robot'):
         read_thing(words, script)
-    elif word not in ('script', 'axiom', 'pre', 'end', 'height', 'nodes', 'shapes'):
+    elif word not in ('script', 'axiom', 'param', 'pre', 'end', 'height', 'nodes', 'shapes'):
         raise ValueError(word)
 
 

@@ -85,6 +85,7 @@ class Declared:
 
     def __init__(self):
         self.objects, self.predicates, self.operators, self.results, self.plans, self.things = {}, {}, {}, {}, {}, {}
+        self.sorts, self.sorted = {}, {}
         self.arities, self.once = {}, {}
         self.block, self.operator, self.parameters, self.command = None, None, [], None
 
@@ -101,12 +102,17 @@ class Declared:
     def declare(self, number, word, names, tokens):
         if word == 'object':
             self.objects.update({name: number for name in names})
+        elif word == 'sort':
+            self.sorts[names[0]] = number
+            self.objects.update({name: number for name in names[1:]})
+        elif word == 'param':
+            self.sorted.update({name: number for name in names[1:]})
         elif word == 'predicate':
             self.predicates[names[0]], self.arities[names[0]] = number, int(tokens[2][1])
         elif word in BLOCKS:
             self.block = word, number
         elif word == 'end':
-            self.block, self.operator, self.parameters = None, None, []
+            self.block, self.operator, self.parameters, self.sorted = None, None, [], {}
         elif word in ('room', 'door', 'box'):
             self.objects[names[0]] = number
             self.things[names[0]] = word

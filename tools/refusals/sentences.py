@@ -1,7 +1,7 @@
 """The sentence on a refusal: the most exact one that is found, with a hint where there is one."""
 from refusals.hints import JOINING, PDDL, as_atom, meant, meant_word, no_form, no_token
 from refusals.scripts import code_point, visible
-from refusals.words import (ATOMS, BLOCKS, BUILDING_EDITS, COMMAND, DECLARATION, LIMITS, OPERATOR, OUT_OF_RANGE, SENTENCES, WORDS)
+from refusals.words import (ATOMS, BLOCKS, BUILDING_EDITS, COMMAND, DECLARATION, LIMITS, OPERATOR, OUT_OF_RANGE, SENTENCES, WORDS, WORDS_OF_TWO)
 
 OPERATOR_LISTS = {word for word, row in WORDS.items() if row.places == (OPERATOR,)}
 ONCE = {'nodes', 'height', 'shapes', 'building', 'robot'}
@@ -28,6 +28,8 @@ def unknown_word(line, known, limit):
     if line.word in known.predicates:
         place = 'pre, delete or add' if known.block else 'fact, or plan and a name'
         return f'{line.word} is a predicate, and no word of the language: does {place} belong before {as_atom(line)}?'
+    if line.word in WORDS_OF_TWO:
+        return f'{line.word} is a word of version 2: begin the script by script 2'
     if line.word in ('-', '='):
         return f'{line.word} begins no line: a comment begins with #'
     near = meant_word(line.word)
@@ -74,10 +76,11 @@ def things_wanted(line):
 
 
 def unknown_result(line, known):
-    """The sentence on a result that isn't declared, in a line learn, show or run."""
-    name = line.tokens[3 if line.word == 'learn' else 1][1]
+    """The sentence on the first result that isn't declared, in a line learn, show, run or duo."""
+    places = {'learn': (3,), 'duo': (1, 2)}.get(line.word, (1,))
     names, what = (known.plans, 'plan') if line.word == 'learn' else (known.results, 'result')
-    if name in names:
+    name = next((name for name in (line.tokens[place][1] for place in places) if name not in names), None)
+    if name is None:
         return None
     listed = f': take {" or ".join(list(names)[:8])}' if names else ': a plan line before gives one'
     return f'{name} is no {what} of an earlier line' + (meant(name, names) or listed)
@@ -91,10 +94,16 @@ def unknown_name(line, known, limit):
             for kind, text in arguments:
                 if kind == 'name' and text not in known.objects and text not in known.parameters:
                     return unknown_in_atom(line, known, text, 'argument')
-    if line.word in ('learn', 'show', 'run'):
+    if line.word in ('learn', 'show', 'run', 'duo'):
         said = unknown_result(line, known)
         if said:
             return said
+    if line.word == 'param':
+        if line.names[0] not in known.sorts:
+            return f'{line.names[0]} is no sort of an earlier line' + meant(line.names[0], known.sorts)
+        for name in line.names[1:]:
+            if name not in known.parameters:
+                return f'{name} is no parameter of the operator {known.operator}' + meant(name, known.parameters)
     for name, kind in things_wanted(line):
         if known.things.get(name) != kind:
             return f'{name} is no {kind} of an earlier line' + meant(name, [thing for thing in known.things if known.things[thing] == kind])
@@ -107,6 +116,15 @@ def unknown_name(line, known, limit):
 def twice(names):
     """The first of some names that stands there before."""
     return next((name for place, name in enumerate(names) if name in names[:place]), None)
+
+
+def duplicate_objects(names, known):
+    for place, name in enumerate(names):
+        if name in known.objects:
+            return f'{name} is declared already by line {known.objects[name]}: choose another name, or leave it out'
+        if name in names[:place]:
+            return f'{name} is declared already by this line: choose another name, or leave it out'
+    return None
 
 
 def duplicate(line, known, limit):
@@ -122,6 +140,15 @@ def duplicate(line, known, limit):
         return f'the parameter {twice(names[1:])} stands twice: give one of them another name'
     if word == 'run':
         return f'the parameter {twice(names[1::2])} is bound twice'
+    if word == 'param':
+        given = next((name for name in names[1:] if name in known.sorted), None)
+        if given:
+            return f'the parameter {given} has a sort already, by line {known.sorted[given]}: leave it out'
+        return f'the parameter {twice(names[1:])} stands twice: leave it out once'
+    if word == 'sort':
+        if names[0] in known.sorts:
+            return f'the sort {names[0]} is declared already by line {known.sorts[names[0]]}: give one of them another name'
+        return duplicate_objects(names[1:], known)
     if word in ONCE and word in known.once:
         return f'a second {word}, after that of line {known.once[word]}: leave one of them out'
     for place, name in enumerate(names if word == 'object' else names[:1]):

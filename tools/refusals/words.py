@@ -12,7 +12,7 @@ class Word(NamedTuple):
 
 
 WORDS = {
-    'script': Word('script 1', (HEAD,), 'the version may only be 1'),
+    'script': Word('script 1', (HEAD,), 'the version may be 1 or 2'),
     'object': Word('object NAME ..', (DECLARATION,)),
     'predicate': Word('predicate NAME NUMBER', (DECLARATION,)),
     'axiom': Word('axiom LITERAL .., each an ATOM or ~ATOM', (DECLARATION,)),
@@ -36,7 +36,12 @@ WORDS = {
     'disturb': Word('disturb NUMBER before EDIT .., or between, each edit +ATOM or -ATOM', (COMMAND,), 'the turn may be from 1 to 9,999'),
     'run': Word('run NAME pK=OBJECT ..', (COMMAND,)),
     'facts': Word('facts', (COMMAND,)),
+    'sort': Word('sort NAME OBJECT ..', (DECLARATION,)),
+    'param': Word('param SORT PARAMETER ..', (OPERATOR,)),
+    'duo': Word('duo NAME NAME NUMBER .., each number 1 or 2', (COMMAND,), 'a number of a duo line may be 1 or 2'),
 }
+# The words that version 1 hasn't got.
+WORDS_OF_TWO = ('sort', 'param', 'duo')
 BUILDING_EDITS = 'disturb NUMBER before EDIT .., or between, each edit robot ROOM, box BOX ROOM, or door DOOR open, or closed'
 # The words that open a block, with the place of the lines inside.
 BLOCKS = {'operator': OPERATOR, 'building': BUILDING}
@@ -62,12 +67,13 @@ SENTENCES = {
 # By limit: what passes it. A number that is out of its range (16) has the sentence of its word.
 OUT_OF_RANGE = 16
 LIMITS = {
-    1: 'a name has more than 64 bytes', 2: 'more than 256 objects', 3: 'more than 64 predicates',
+    1: 'a name has more than 64 bytes', 2: 'more than 256 objects, or in version 2 more than 1,024', 3: 'more than 64 predicates',
     4: 'a predicate of more than 6 arguments', 5: 'more than 64 axioms', 6: 'an axiom of more than 6 literals',
     7: 'more than 12 variables in a goal or an axiom', 8: 'more than 32 operators', 9: 'an operator of more than 8 parameters',
-    10: 'a list of an operator has more than 16 atoms', 11: 'more than 512 different facts', 12: 'a goal of more than 16 atoms',
-    13: 'more than 512 commands', 14: 'more than 64 disturb lines since the last run', 15: 'a disturbance of more than 16 edits',
-    OUT_OF_RANGE: 'a number is out of its range',
+    10: 'a list of an operator has more than 16 atoms', 11: 'more than 512 different facts, or in version 2 more than 1,024', 12: 'a goal of more than 16 atoms',
+    13: 'more than 512 commands, or in version 2 more than 1,024', 14: 'more than 64 disturb lines since the last run', 15: 'a disturbance of more than 16 edits',
+    OUT_OF_RANGE: 'a number is out of its range', 17: 'more than 32 sorts',
+    22: 'more than 256 numbers in a duo line',
 }
 # Words of other languages at the head of a line, with what this one has for them.
 OTHER_WORDS = {

@@ -1,8 +1,8 @@
 -- The files of lemmas.
-mod Whose
-mod Outcomes
-mod Deciding
-mod Readying
+pub mod Whose
+pub mod Outcomes
+pub mod Deciding
+pub mod Readying
 mod Existing
 mod Feeling
 mod Slipping

@@ -1,12 +1,16 @@
 -- What single tokens say has no atoms and no parameters, and is filled; tests of all that a line's items have.
-use Rattle.px_lines.proofs.Common.{ℕ, Some, ◌≡◌, Bool, true, false, List, [], ◌∷◌, ◌++◌, map, refl, ap, sym, ◌∙◌, append-nil, list_all, list_all-append}
+use Rattle.px_lines.proofs.Common.{ℕ, Some, None, subst, get_or, Token, lexeme_of, lexemes_of, ◌≡◌, Bool, true, false, List, [], ◌∷◌, ◌++◌, map, refl, ap, sym, ◌∙◌, append-nil, list_all, list_all-append}
 use Rattle.std.specs.List.{flat_map, list_any}
-use Rattle.std.specs.Prelude.{◌&&◌, ◌||◌, is_some}
+use Rattle.std.specs.Prelude.{◌&&◌, ◌||◌}
 use Rattle.std.proofs.lemmas.List.Folds.{list_all-map, list_any-append}
 use Rattle.px_script.specs.Items.{Item, arguments_in, atoms_in, has_parameter, is_filled}
 use Rattle.px_script.proofs.Forms.{there}
-use Rattle.px_script.proofs.ReadRows.{has-row, row-is_word}
-use Rattle.px_script.proofs.Rows.{row_of}
+use Rattle.px_script.specs.Declarations.{Declared}
+use Rattle.px_script.specs.Forms.{begins_with_word}
+use Rattle.px_lines.specs.declared.token.Token.TheVariants as token
+use denote.Ref.{Bor}
+use Rattle.px_script.proofs.ReadRows.{has-row, has_word, row-is_word, row-word}
+use Rattle.px_script.proofs.Rows.{is_of, row_of}
 use Rattle.px_script.specs.Limits.{is_word}
 use Rattle.px_lines.specs.ItemViews.{rest_view, said_items, said_view}
 use Rattle.px_lines.specs.LineViews.{row_view}
@@ -21,15 +25,30 @@ pub ruleset all_maps = (list_all-map)
 -- a list of one list
 pub ruleset whole = (append-nil)
 
--- the words of version 1 are those of the table
-pub ruleset words = (row-is_word)
+-- the words of a version are those of the table that it has
+pub word-there : (version : ℕ) (w : List ℕ) (r : Row) → Some (row_view r) ≡ row_of false w
+    → is_of version (row_view r) ≡ is_word version w
+word-there version w r is = ap (has_word version) is ∙ row-is_word version false w
+
+pub no-word : (version : ℕ) (w : List ℕ) → None ≡ row_of false w → false ≡ is_word version w
+no-word version w is = ap (has_word version) is ∙ row-is_word version false w
+
+pub ruleset words = (word-there, no-word)
 
 -- the row of a word that was found is that of its own word
 pub known-row : (b : Bool) (w : List ℕ) (r : Row) → Some (row_view r) ≡ row_of b w → row_of b r.word.now ≡ Some (row_view r)
 known-row b w r is = there (λ t. row_of b t.word ≡ Some t) (row_of b w) (row_view r) (has-row b w) (sym is)
 
-pub known-word : (b : Bool) (w : List ℕ) (r : Row) → Some (row_view r) ≡ row_of b w → is_word 1 r.word.now ≡ true
-known-word b w r is = sym (row-is_word b r.word.now) ∙ ap is_some (known-row b w r is)
+pub known-word : (version : ℕ) (b : Bool) (w : List ℕ) (r : Row) → Some (row_view r) ≡ row_of b w → is_word version w ≡ true
+    → is_word version r.word.now ≡ true
+known-word version b w r is known = subst (λ v. is_word version v ≡ true)
+    (there (λ t. w ≡ t.word) (row_of b w) (row_view r) (row-word b w) (sym is)) known
+
+-- the word of a line that begins with a word is one
+pub head-word : (d : Declared) (tokens : List Token) (t : Token) (w : Bor (List ℕ)) → get_or tokens 0 t ≡ token.Name w
+    → begins_with_word d (lexemes_of tokens) ≡ true → is_word d.version w.now ≡ true
+head-word d [] t w is begins = cc
+head-word d (x ∷ xs) t w is begins = subst (λ (y : Token). begins_with_word d (lexeme_of y ∷ lexemes_of xs) ≡ true) is begins
 
 pub ruleset known_rows = (known-row, known-word)
 

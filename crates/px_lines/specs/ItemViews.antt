@@ -54,6 +54,8 @@ abbrev pub rest_view : Rest → List items.Item
 rest_view rest.Nothing = []
 rest_view (rest.Declared kind ns) = items.declared kind (map text_of ns.items) ∷ []
 rest_view (rest.Listed kind ns) = items.listed kind (map text_of ns.items) ∷ []
+rest_view (rest.Wanted kind ns) = items.wanted kind (map text_of ns.items) ∷ []
+rest_view (rest.Numbers ns) = items.amounts ns.items ∷ []
 rest_view (rest.Atoms xs) = items.atoms (map signed_view xs.items) ∷ []
 rest_view (rest.Bindings bs) = items.bindings (map binding_view bs.items) ∷ []
 rest_view (rest.RoomEdits es) = items.room_edits (map room_edit_view es.items) ∷ []

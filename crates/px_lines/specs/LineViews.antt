@@ -7,7 +7,7 @@ use Rattle.px_lines.specs.declared.rows.Row.{Row}
 use Rattle.px_lines.specs.declared.reading.Line.{Line}
 
 abbrev pub row_view : Row → rows.Row
-row_view r = rows.row r.word.now r.place r.manner r.ones.now r.last
+row_view r = record (rows.row r.word.now r.place r.manner r.ones.now r.last) { since = r.since }
 
 abbrev pub line_view : Line → lines.Line
 line_view l = rows.filled (row_view l.row) (said_items l.ones.items l.last)

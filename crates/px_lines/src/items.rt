@@ -57,6 +57,10 @@ pub enum Rest<'a> {
     Declared(Named, Vec<&'a str>),
     /// Names that the line declares, in parentheses with commas, or no names.
     Listed(Named, Vec<&'a str>),
+    /// Names that an earlier line declared.
+    Wanted(Named, Vec<&'a str>),
+    /// One or more numbers.
+    Numbers(Vec<u32>),
     Atoms(Vec<SignedAtom<'a>>),
     Bindings(Vec<WrittenBinding<'a>>),
     RoomEdits(Vec<WrittenRoomEdit<'a>>),
@@ -95,6 +99,8 @@ impl<'a> Rest<'a> {
     {
         match self {
             Rest::Declared(_, names) => !names.is_empty(),
+            Rest::Wanted(_, names) => !names.is_empty(),
+            Rest::Numbers(numbers) => !numbers.is_empty(),
             Rest::Atoms(atoms) => !atoms.is_empty(),
             Rest::RoomEdits(edits) => !edits.is_empty(),
             Rest::Bindings(bindings) => are_numbered(bindings),
@@ -109,7 +115,12 @@ impl<'a> Rest<'a> {
         match self {
             Rest::Listed(_, names) => !names.is_empty(),
             Rest::Bindings(bindings) => !bindings.is_empty(),
-            Rest::Nothing | Rest::Declared(_, _) | Rest::Atoms(_) | Rest::RoomEdits(_) => false,
+            Rest::Nothing
+            | Rest::Declared(_, _)
+            | Rest::Wanted(_, _)
+            | Rest::Numbers(_)
+            | Rest::Atoms(_)
+            | Rest::RoomEdits(_) => false,
         }
     }
 

@@ -1,6 +1,6 @@
-//! Lists of tokens: names to the end of a line, and items between parentheses.
+//! Lists of tokens: names or numbers to the end of a line, and items between parentheses.
 ghost use Rattle.std.specs.Prelude.{◌≡◌, ◌≤◌, ◌<◌, ◌+◌, drop, length, IfOk, IfSome, IsTrue, map};
-ghost use Rattle.px_script.proofs.Parsing.{names_of};
+ghost use Rattle.px_script.proofs.Parsing.{names_of, numbers_of};
 ghost use Rattle.px_lines.specs.Common.{at_end, option_and_then, option_map, argument_of, names_among, names_at, item_at, items_after, items_at, opens, lexeme_of, lexemes_of, argument_view, text_of, list_view, front_view, items_view};
 
 use crate::items::Argument;
@@ -33,6 +33,21 @@ pub fn names<'a>(alloc: Global, tokens: &[Token<'a>]) -> Result<Option<Vec<&'a s
         names.push(name)?;
     }
     Ok(Some(names))
+}
+
+// Alike: `names`, which takes names in place of numbers.
+/// Returns the numbers that the tokens are, to the last.
+pub fn numbers(alloc: Global, tokens: &[Token<'_>]) -> Result<Option<Vec<u32>>, NoMemory>
+    ensures { IfOk result (λ found. option_map (λ v. v.items) found ≡ numbers_of (lexemes_of tokens.now)) }
+{
+    let mut numbers = Vec::new(alloc);
+    for token in tokens {
+        let Token::Number(number) = *token else {
+            return Ok(None);
+        };
+        numbers.push(number)?;
+    }
+    Ok(Some(numbers))
 }
 
 /// Returns an argument in front, and the sign after it.

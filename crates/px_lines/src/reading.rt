@@ -3,14 +3,14 @@ ghost use Rattle.std.specs.Prelude.{◌≡◌, ◌≤◌, ◌++◌, true, length
 ghost use Rattle.std.specs.List.{flat_map, list_all, list_any};
 ghost use Rattle.px_script.proofs.Rows.{chosen, formed_line, last_at, line_at, one_of, ones_at, row_items};
 ghost use Rattle.px_script.specs.Declarations.{Declared, has_building};
-ghost use Rattle.px_script.specs.Forms.{arguments_of, is_formed, is_signed, line_atoms};
+ghost use Rattle.px_script.specs.Forms.{arguments_of, begins_with_word, is_formed, is_signed, line_atoms};
 ghost use Rattle.px_script.specs.Items.{has_parameter, is_filled};
 ghost use Rattle.px_script.specs.Limits.{is_word};
 ghost use Rattle.px_lines.specs.Common.{said_items, lexeme_of, lexemes_of, list_view, option_map, parts_view, rest_view, said_view, signed_view};
 ghost use Rattle.px_lines.specs.LineViews.{IsShaped, line_view, row_view};
 
 use crate::items::{Rest, Said, SignedAtom};
-use crate::lists::{listed_names, names};
+use crate::lists::{listed_names, names, numbers};
 use crate::rows::{Row, row_for};
 use crate::series::{atoms, bindings, room_edits};
 use crate::token::Token;
@@ -96,6 +96,8 @@ fn last_item<'a>(
         Last::Listed(kind) => {
             Ok(listed_names(alloc, tokens)?.map(|names| Rest::Listed(kind, names)))
         }
+        Last::Known(kind) => Ok(names(alloc, tokens)?.map(|names| Rest::Wanted(kind, names))),
+        Last::Numbers => Ok(numbers(alloc, tokens)?.map(|numbers| Rest::Numbers(numbers))),
         Last::Atoms => Ok(atoms(alloc, tokens)?.map(|atoms| Rest::Atoms(atoms))),
         Last::Bindings => Ok(bindings(alloc, tokens)?.map(|bindings| Rest::Bindings(bindings))),
         Last::RoomEdits => Ok(room_edits(alloc, tokens)?.map(|edits| Rest::RoomEdits(edits))),
@@ -139,7 +141,8 @@ fn whole_line<'a>(
 ) -> Result<Option<Line<'a>>, NoMemory>
     ensures found { IfOk result (λ found. option_map line_view found ≡ line_at with_building (lexemes_of tokens.now)) }
     ensures shaped { IfOk result (λ found. IfSome found (λ line. IsShaped with_building line)) }
-    ensures word { IfOk result (λ found. IfSome found (λ line. is_word 1 line.row.word.now ≡ true)) }
+    ensures word { (d : Declared) → begins_with_word d (lexemes_of tokens.now) ≡ true
+        → IfOk result (λ found. IfSome found (λ line. is_word d.version line.row.word.now ≡ true)) }
 {
     let [Token::Name(word), rest @ ..] = tokens else {
         return Ok(None);
@@ -153,7 +156,8 @@ fn whole_line<'a>(
     }
 }
 
-/// Returns the line in its form that the tokens are, in a script of version 1 with or without a building so far.
+/// Returns the line in its form that the tokens are, which begin with a word of the script's version, in a script with or without a
+/// building so far.
 ///
 /// # Errors
 /// `NoMemory` where there is no memory for it.
@@ -162,7 +166,7 @@ pub fn formed_line<'a>(
     with_building: bool,
     tokens: &[Token<'a>],
 ) -> Result<Option<Line<'a>>, NoMemory>
-    ensures found { (d : Declared) → d.version ≡ 1 → has_building d ≡ with_building
+    ensures found { (d : Declared) → has_building d ≡ with_building → begins_with_word d (lexemes_of tokens.now) ≡ true
         → IfOk result (λ found. option_map line_view found ≡ formed_line d (lexemes_of tokens.now)) }
     ensures shaped { IfOk result (λ found. IfSome found (λ line. IsShaped with_building line)) }
 {
@@ -177,10 +181,10 @@ pub fn formed_line<'a>(
 }
 
 impl<'a> Line<'a> {
-    /// Returns whether a line of one of the words has its form, in a script of version 1 with or without a building so far.
+    /// Returns whether a line of one of the version's words has its form, in a script with or without a building so far.
     #[tactic(auto, using(crate::proofs::Views::of_line))]
     fn is_formed(&self, with_building: bool) -> bool
-        ensures { (d : Declared) → d.version ≡ 1 → is_word 1 self.now.row.word.now ≡ true → has_building d ≡ with_building
+        ensures { (d : Declared) → is_word d.version self.now.row.word.now ≡ true → has_building d ≡ with_building
             → result ≡ is_formed d (line_view self.now) }
     {
         let manner = self.row.manner;

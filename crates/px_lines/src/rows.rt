@@ -1,7 +1,7 @@
 //! The table of the words.
 ghost use Rattle.std.specs.Prelude.{◌≡◌, IfSome};
 ghost use Rattle.std.specs.Option.{option_map};
-ghost use Rattle.px_script.proofs.Rows.{disturb_row, row as spec_row, row_of};
+ghost use Rattle.px_script.proofs.Rows.{disturb_row, is_of, newer, row as spec_row, row_of};
 ghost use Rattle.px_script.specs.Limits.{is_word};
 ghost use Rattle.px_lines.specs.LineViews.{row_view};
 
@@ -12,6 +12,8 @@ use px_script::{Block, Choice, Last, Manner, Named, One, Place};
 pub struct Row {
     /// The word that begins the line.
     pub word: &'static str,
+    /// The first version that has it.
+    pub since: u32,
     /// Where the line may stand.
     pub place: Place,
     /// What its atoms may be.
@@ -53,6 +55,12 @@ const LEARN: [One; 3] = [
 
 const TABLE: [One; 1] = [One::Known(Named::Table)];
 
+const SORT: [One; 1] = [One::New(Named::Sort)];
+
+const DUO: [One; 2] = [One::Known(Named::Table), One::Known(Named::Table)];
+
+const PARAM: [One; 1] = [One::Known(Named::Sort)];
+
 const DISTURB: [One; 2] = [One::Number, One::Word(Choice::Time)];
 
 fn described(
@@ -66,6 +74,7 @@ fn described(
 {
     Row {
         word,
+        since: 1,
         place,
         manner,
         ones,
@@ -77,6 +86,20 @@ fn plain(word: &'static str, place: Place, ones: &'static [One], last: Last) -> 
     ensures { row_view result ≡ spec_row word.now place Manner.Plain ones.now last }
 {
     described(word, place, Manner::Plain, ones, last)
+}
+
+/// Returns the row as one that version 2 is the first to have.
+fn newer(row: Row) -> Row
+    ensures { row_view result ≡ newer (row_view row) }
+{
+    Row {
+        word: row.word,
+        since: 2,
+        place: row.place,
+        manner: row.manner,
+        ones: row.ones,
+        last: row.last,
+    }
 }
 
 fn disturbance(with_building: bool) -> Row
@@ -151,14 +174,34 @@ pub fn row_for(with_building: bool, word: &str) -> Option<Row>
         "disturb" => Some(disturbance(with_building)),
         "run" => Some(plain("run", Place::Command, &TABLE, Last::Bindings)),
         "facts" => Some(plain("facts", Place::Command, &NONE, Last::Nothing)),
+        "sort" => Some(newer(plain("sort", Place::Domain, &SORT, Last::New(Named::Object)))),
+        "duo" => Some(newer(plain("duo", Place::Command, &DUO, Last::Numbers))),
+        "param" => Some(newer(plain(
+            "param",
+            Place::Inside(Block::Operator),
+            &PARAM,
+            Last::Known(Named::Parameter),
+        ))),
         _ => None,
     }
 }
 
-/// Returns whether the name is a word that may begin a line of version 1. Does not allocate.
+/// Returns whether the name is a word that may begin a line of the version. Does not allocate.
 #[tactic(auto, using(crate::proofs::Views::words))]
-pub fn is_word(name: &str) -> bool
-    ensures { result ≡ is_word 1 name.now }
+pub fn is_word(version: u32, name: &str) -> bool
+    ensures { result ≡ is_word version name.now }
 {
-    row_for(false, name).is_some()
+    match row_for(false, name) {
+        Some(row) => row.is_of(version),
+        None => false,
+    }
+}
+
+impl Row {
+    /// Returns whether the version has the word.
+    fn is_of(&self, version: u32) -> bool
+        ensures { result ≡ is_of version (row_view self.now) }
+    {
+        self.since == 1 || version == 2
+    }
 }

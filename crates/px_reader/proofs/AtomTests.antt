@@ -1,5 +1,6 @@
 -- Tests of the code's atoms, as tests of a line's.
-use Rattle.px_reader.proofs.Common.{◌≡◌, ℕ, Bool, List, [], ◌∷◌, ◌++◌, map, length, refl, sym, ap, ◌∙◌, ◌||◌, ◌==◌, not, slice_index, list_any, flat_map, append-nil, length-map, list_any-append, has_name, has_wrong_arity, is_known_argument, Declared, number_in, line_atoms, arguments_of, wanted_by_edit, Line, list_any-map, list_any_flat, position-map, some-position, argument_view, signed_view, room_edit_view, binding_view, lacks, lacks_argument, WrittenBinding, list_all-map, WrittenAtom}
+use Rattle.px_reader.proofs.Common.{◌≡◌, ℕ, Bool, List, [], ◌∷◌, ◌++◌, map, length, refl, sym, ap, ◌∙◌, ◌||◌, ◌==◌, not, slice_index, list_any, flat_map, append-nil, length-map, list_any-append, has_name, has_wrong_arity, is_known_argument, Declared, number_in, line_atoms, arguments_of, wanted_by_edit, Line, list_any-map, list_any_flat, position-map, some-position, argument_view, signed_view, room_edit_view, binding_view, lacks, lacks_argument, WrittenBinding, list_all-map, WrittenAtom, text_of, Bor}
+use Rattle.px_script.specs.declared.kinds.Named.{Named}
 use Rattle.px_script.specs.Items as items
 use Rattle.px_script.specs.declared.kinds.Named.TheVariants.{Object as an_object}
 use Rattle.px_lines.specs.declared.items.WrittenRoomEdit.{WrittenRoomEdit}
@@ -69,4 +70,10 @@ objects-lack d bindings = sym (list_any-map (λ (b : items.Binding). lacks d (an
     ∙ sym (list_any-map (lacks d) (λ (b : items.Binding). (an_object, b.object)) (map binding_view bindings))
     ∙ ap (list_any (lacks d)) (sym (append-nil (map (λ (b : items.Binding). (an_object, b.object)) (map binding_view bindings))))
 
-pub ruleset names_lack = (places-lack, objects-lack)
+pub wanted-lack : (d : Declared) (kind : Named) (names : List (Bor (List ℕ))) → list_any (λ n. lacks d (kind, n.now)) names
+    ≡ list_any (lacks d) (map (λ n. (kind, n)) (map text_of names) ++ [])
+wanted-lack d kind names = sym (list_any-map (λ n. lacks d (kind, n)) text_of names)
+    ∙ sym (list_any-map (lacks d) (λ n. (kind, n)) (map text_of names))
+    ∙ ap (list_any (lacks d)) (sym (append-nil (map (λ n. (kind, n)) (map text_of names))))
+
+pub ruleset names_lack = (places-lack, objects-lack, wanted-lack)

@@ -1,6 +1,10 @@
 -- What a script is about, made of what its lines have declared.
 use Rattle.px_base.specs.Bounds.{u32_max}
-use Rattle.px_reader.proofs.Common.{◌≡◌, ◌<◌, ◌≤◌, ◌+◌, ℕ, List, length, sym, ap, ◌∙◌, subst, arith, IfSome, Option, None, Some, option_map, Atom, Problem, content_of, facts_of, own_problem, problem_of, Declared, greatest, script_of, Thing, most_objects, IsBuilding, first_state, rendering, standings, IsInRange, IsBuildingOf}
+use Rattle.px_reader.proofs.Common.{◌≡◌, ◌<◌, ◌≤◌, ◌+◌, ℕ, List, length, sym, ap, ◌∙◌, subst, arith, IfSome, Option, None, Some, option_map, Atom, Problem, content_of, facts_of, own_problem, problem_of, Declared, script_of, Thing, IsBuilding, first_state, rendering, standings, IsInRange, IsBuildingOf}
+use Rattle.px_script.specs.Content.{problem_with}
+use Rattle.px_script.specs.declared.limits.TheConstants.{DEFAULT_HEIGHT as default_height, DEFAULT_NODES as default_nodes, DEFAULT_SHAPES as default_shapes}
+use Rattle.px_script.specs.RangeLaws.{version-most}
+use Rattle.std.specs.Prelude.{unwrap_or}
 use Rattle.px_ops.specs.ModelValue.{ModelValue}
 use Rattle.px_rooms.specs.declared.building.Building.{Building}
 use Rattle.px_rooms.specs.Domain.{building_problem}
@@ -18,8 +22,8 @@ lifted P Q None things is f h = tt
 lifted P Q (Some building) things is f h = f building.things (subst (λ o. IfSome o P) (sym is) h)
 
 module _ (d : Declared) (r : IsInRange (content_of d)) (b : Option Building) (is : things_of b ≡ d.things) where
-  few : length d.names.objects ≤ greatest 1 most_objects
-  few = let P : ℕ → Type 0 = λ v. length d.names.objects ≤ greatest v most_objects in subst P r.version r.names.few_objects
+  few : length d.names.objects ≤ 1024
+  few = version-most d.version _ 256 1024 (omega arith) r.names.few_objects
 
   each : (Q : List Thing → Type 0)
       → ((t : List Thing) → IsBuildingOf d.names (problem_of (own_problem d) d.things) (facts_of d.facts d.things) t → Q t)
@@ -39,6 +43,13 @@ module _ (d : Declared) (r : IsInRange (content_of d)) (b : Option Building) (is
   pub is-valid : (own : Problem) → own ≡ own_problem d → IsValid (problem_of own (things_of b))
   is-valid own own_is = subst IsValid (sym (ap (λ p. problem_of p (things_of b)) own_is
       ∙ ap (problem_of (own_problem d)) is)) r.problem.valid
+
+-- the problem of the lines, with the number of their sorts
+pub own_made : (d : Declared) (own : Problem) (sorts : ℕ) → own ≡ problem_with (length d.names.objects) d.arities d.axioms d.schemas
+    (unwrap_or d.height default_height) (unwrap_or d.nodes default_nodes) (unwrap_or d.shapes default_shapes) sorts d.object_sorts
+    → sorts ≡ length d.sorts → own ≡ own_problem d
+own_made d own sorts is count = is ∙ ap (λ n. problem_with (length d.names.objects) d.arities d.axioms d.schemas
+    (unwrap_or d.height default_height) (unwrap_or d.nodes default_nodes) (unwrap_or d.shapes default_shapes) n d.object_sorts) count
 
 module _ (d : Declared) (r : IsInRange (content_of d)) (own problem : Problem) (facts : ModelValue) (b : Option Building)
     (commands : List Command) (own_is : own ≡ own_problem d) (is : things_of b ≡ d.things)

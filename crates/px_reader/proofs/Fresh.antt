@@ -1,5 +1,6 @@
 -- The names that a line without a fault declares are fresh: they are names, no two of a kind are equal, and there is room for them.
-use Rattle.px_reader.proofs.Common.{◌≡◌, ◌≤◌, ℕ, true, List, [], ◌∷◌, ◌++◌, map, length, refl, sym, ap, ◌∙◌, subst, arith, chars, all_scalars, and_parts, get_or-append_seam, length-append, NameLists, Lexeme, name, Lexes, Statement, line_of, is_formed, Declared, greatest, well-formed, line-kept, IsFaultless, AreInRange, AreOfKinds, IsFresh, IsNameLexeme, leaves, text_of, Bor, AllByRecursion, IsName, is_name, get_or_append_left, chars-encodes, IsWelcome, names_in, Kind, IsLexeme, most_objects, most_commands, Limit}
+use Rattle.px_script.specs.RangeLaws.{version-most}
+use Rattle.px_reader.proofs.Common.{◌≡◌, ◌≤◌, ℕ, true, List, [], ◌∷◌, ◌++◌, map, length, refl, sym, ap, ◌∙◌, subst, arith, chars, all_scalars, and_parts, get_or-append_seam, length-append, NameLists, Lexeme, name, Lexes, Statement, line_of, is_formed, Declared, well-formed, line-kept, IsFaultless, AreInRange, AreOfKinds, IsFresh, IsNameLexeme, leaves, text_of, Bor, AllByRecursion, IsName, is_name, get_or_append_left, chars-encodes, IsWelcome, names_in, Kind, IsLexeme}
 
 -- ---- the names in the lexemes of a line are names
 
@@ -30,14 +31,12 @@ objects-named (n ∷ names) named = (named.0, objects-named names named.1)
 
 lists : (d : Declared) → AreInRange d → AreOfKinds d.names
 lists d r =
-    let within : (l : Limit) (n : ℕ) → n ≤ greatest d.version l → n ≤ greatest 1 l = λ l n below.
-    subst (λ v. n ≤ greatest v l) r.version below in
     record {
-      objects = (let few = within most_objects _ r.names.few_objects in
+      objects = (let few = version-most d.version _ 256 1024 (omega arith) r.names.few_objects in
           record { distinct = r.names.objects.distinct; few = omega (arith, few) });
       predicates = record { distinct = r.names.predicates.distinct; few = r.names.few_predicates };
       operators = record { distinct = r.names.operators.distinct; few = r.names.few_operators };
-      results = (let few = within most_commands _ r.commands.few in let results = r.results.few in
+      results = (let few = version-most d.version _ 512 1024 (omega arith) r.commands.few in let results = r.results.few in
           record { distinct = r.names.results.distinct; few = omega (arith, few, results) });
     }
 

@@ -22,23 +22,22 @@ early-some stage d _ fault is = is
 pub early-right : (stage : Stage) (d : Declared) (s : Statement) → early_fault stage d s ≡ None → IsRight d s
 early-right stage d s none = (no-cause stage d s (early_limits d s) none).1
 
-module _ (stage : Stage) (n : ℕ) (d after : Declared) (version : d.version ≡ 1) where
+module _ (stage : Stage) (n : ℕ) (d after : Declared) where
   -- the limit of facts is the one that is left
   counted : (xs : List SignedAtom) (many : Bool) → after ≡ leaves n d (fact xs) → early_fault stage d (fact xs) ≡ None
-      → nat_lt (greatest 1 most_facts) (length after.facts) ≡ many → fault_at stage d (fact xs) ≡ first_of (passed (many, 11) ∷ [])
+      → nat_lt (greatest after.version most_facts) (length after.facts) ≡ many → fault_at stage d (fact xs) ≡ first_of (passed (many, 11) ∷ [])
   counted xs many is none count = let set : List Atom = atom_set (map (atom_of d []) xs ++ d.facts) in
-      let here : nat_lt (greatest 1 most_facts) (length set) ≡ many = sym (ap (λ (e : Declared). nat_lt (greatest 1 most_facts) (length e.facts)) is) ∙ count in
       let one : nat_lt (greatest d.version most_facts) (length set) ≡ many
-      = ap (λ v. nat_lt (greatest v most_facts) (length set)) version ∙ here in
+      = sym (ap (λ (e : Declared). nat_lt (greatest e.version most_facts) (length e.facts)) is) ∙ count in
       let left = no-cause stage d (fact xs) (early_limits d (fact xs)) none in
       only-limits stage d (fact xs) (limits d (fact xs)) left.0 left.1 ∙ ap (λ b. first_of (passed (b, 11) ∷ [])) one
 
   pub few-facts : (s : Statement) → after ≡ leaves n d s → early_fault stage d s ≡ None
-      → (is_fact s && nat_lt (greatest 1 most_facts) (length after.facts)) ≡ false → fault_at stage d s ≡ None
+      → (is_fact s && nat_lt (greatest after.version most_facts) (length after.facts)) ≡ false → fault_at stage d s ≡ None
   few-facts (fact xs) is none few = counted xs false is none few
   few-facts _ is none few = none
 
   pub many-facts : (s : Statement) → after ≡ leaves n d s → early_fault stage d s ≡ None
-      → (is_fact s && nat_lt (greatest 1 most_facts) (length after.facts)) ≡ true → fault_at stage d s ≡ Some (record { code = 8; limit = 11 })
+      → (is_fact s && nat_lt (greatest after.version most_facts) (length after.facts)) ≡ true → fault_at stage d s ≡ Some (record { code = 8; limit = 11 })
   many-facts (fact xs) is none many = counted xs true is none many
   many-facts _ is none many = cc

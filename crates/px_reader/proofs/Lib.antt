@@ -11,6 +11,7 @@ pub mod Facts
 -- what a line adds
 pub mod Right
 pub mod MoreNames
+pub mod Sorting
 pub mod Fresh
 -- lines, and the whole input
 pub mod Late

@@ -66,6 +66,14 @@ pub names-repeat : (others : List (List ℕ)) (names : List (Bor (List ℕ))) (d
 names-repeat others names different are new = ap (λ n. nat_lt n (length names)) (btree_set_len-from_list texts_total names different are)
     ∙ sym (text-fewer others names ∙ rw new refl)
 
+-- names that stand twice, whatever others there are
+pub only-repeat : (names : List (Bor (List ℕ))) (different : BTreeSet (Bor (List ℕ))) → IsFromIterResult text_cmp names different
+    → nat_lt (btree_set_len different) (length names) ≡ repeats [] (map text_of names)
+only-repeat names different are =
+    names-repeat [] names different are (list_any_none (λ n. has_name n.now []) names (λ k d below. refl))
+
+pub ruleset fewer_alone = (only-repeat)
+
 -- one name repeats where it is one of the others
 pub one-name : (others : List (List ℕ)) (n : List ℕ) → (repeats others (n ∷ []) || false) ≡ has_name n others
 one-name others n = or_false (repeats others (n ∷ [])) ∙ repeats-cons others n [] ∙ or_false (has_name n others)

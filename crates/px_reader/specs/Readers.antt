@@ -1,6 +1,5 @@
 -- What the definitions see of the lines so far.
 use Rattle.px_names.specs.Lists.{NameLists}
-use Rattle.px_terms.specs.Problems.{schema_without_sorts}
 use Rattle.px_script.specs.Statements.{Statement, line_of}
 use Rattle.std.specs.Option.{option_map}
 use Rattle.std.specs.Prelude.{ℕ, List, [], ◌++◌, map, length}
@@ -17,7 +16,14 @@ use Rattle.px_reader.specs.declared.blocks.BlockKind as block
 abbrev pub operator_view : ℕ → operator.OpenOperator → OpenOperator
 operator_view number o = record {
   parameters = map string_bytes o.parameters.items;
-  schema = schema_without_sorts number (length (map string_bytes o.parameters.items)) o.pre.items o.delete.items o.add.items;
+  schema = record {
+    op = number;
+    params = length (map string_bytes o.parameters.items);
+    pre = o.pre.items;
+    del = o.delete.items;
+    add = o.add.items;
+    param_sorts = o.sorts.items;
+  };
 }
 
 abbrev pub kind_view : ℕ → block.BlockKind → BlockKind
@@ -27,7 +33,7 @@ kind_view number block.TheVariants.Building = of_building
 abbrev pub open_block_view : ℕ → code.OpenBlock → OpenBlock
 open_block_view number block = record { line = block.line; kind = kind_view number block.kind }
 
--- In version 1 each result is a table, and there are no sorts.
+-- Each result is a table, as long as no built word gives one that isn't.
 abbrev pub declared_of : Reader → Declared
 declared_of reader = record {
   version = reader.version;
@@ -39,7 +45,8 @@ declared_of reader = record {
     plans = map string_bytes reader.plans.items;
     tables = reader.names.results;
   };
-  sorts = [];
+  sorts = map string_bytes reader.sorts.items;
+  object_sorts = reader.object_sorts.items;
   arities = reader.arities.items;
   axioms = reader.axioms;
   schemas = reader.schemas.items;

@@ -40,7 +40,10 @@ statement_view (statement.Show n) = spec.show n.now
 statement_view (statement.DisturbAtoms turn between edits) = spec.disturb_atoms turn between (map signed_view edits.now)
 statement_view (statement.DisturbRooms turn between edits) = spec.disturb_rooms turn between (map room_edit_view edits.now)
 statement_view (statement.Run n bindings) = spec.run n.now (map binding_view bindings.now)
+statement_view (statement.Duo one other ns) = spec.duo one.now other.now ns.now
 statement_view statement.Facts = spec.facts
+statement_view (statement.Sort n ns) = spec.sort n.now (map text_of ns.now)
+statement_view (statement.Param n ps) = spec.param n.now (map text_of ps.now)
 
 abbrev pub in_role : Role → List items.SignedAtom → spec.Statement
 in_role role.Pre atoms = spec.pre atoms

@@ -5,6 +5,7 @@ ghost use Rattle.px_script.specs.Statements as spec;
 ghost use Rattle.px_reader.specs.Common.{AreOfKinds, IsFresh, string_bytes, kind_of_block, with_thing, AreInRange, AreReadable, declared_of, kind_view, leaves, operator_view, in_role, signed_view, text_of};
 
 use crate::reader::Reader;
+use crate::sorts::without_sorts;
 use px_base::{NoMemory, Sequence};
 use px_lines::SignedAtom;
 use px_names::Kind;
@@ -17,6 +18,8 @@ use std::alloc::Global;
 #[derive(Drop)]
 pub struct OpenOperator {
     pub parameters: Vec<String>,
+    /// The sort of each parameter; 0 is no sort.
+    pub sorts: Vec<u32>,
     pub pre: Vec<Atom>,
     pub delete: Vec<Atom>,
     pub add: Vec<Atom>,
@@ -91,12 +94,14 @@ impl Reader {
             ≡ leaves line (declared_of self.old) (spec.operator name.now (map text_of parameters.now))) }
     {
         let alloc = self.alloc;
+        let sorts = without_sorts(alloc, parameters)?;
         let parameters = owned(alloc, parameters)?;
         self.add_name(Kind::Operator, name)?;
         self.block = Some(OpenBlock {
             line,
             kind: BlockKind::Operator(OpenOperator {
                 parameters,
+                sorts,
                 pre: Vec::new(alloc),
                 delete: Vec::new(alloc),
                 add: Vec::new(alloc),
@@ -144,15 +149,15 @@ impl Reader {
         ensures schemas { OnOk result (self.new.schemas.items
             ≡ self.old.schemas.items ++ (operator_view (length self.old.schemas.items) operator).schema ∷ []) }
     {
-        let schema = Schema::without_sorts(
-            self.alloc,
-            self.schemas.len() as u32,
-            operator.parameters.len() as u32,
-            &operator.pre,
-            &operator.delete,
-            &operator.add,
-        )?;
-        self.schemas.push(schema)?;
+        let op = self.schemas.len() as u32;
+        self.schemas.push(Schema {
+            op,
+            params: operator.parameters.len() as u32,
+            pre: Sequence::from_vec(operator.pre),
+            del: Sequence::from_vec(operator.delete),
+            add: Sequence::from_vec(operator.add),
+            param_sorts: Sequence::from_vec(operator.sorts),
+        })?;
         Ok(())
     }
 

@@ -117,4 +117,17 @@ impl Reader {
             bindings: Sequence::from_vec(bindings),
         })
     }
+
+    pub fn add_duo(&mut self, one: &str, other: &str, numbers: &[u32]) -> Result<(), NoMemory>
+        ensures { OnOk result (declared_of self.new ≡ leaves 0 (declared_of self.old) (spec.duo one.now other.now numbers.now)) }
+    {
+        let first = self.number(Kind::Result, one);
+        let second = self.number(Kind::Result, other);
+        let events = Sequence::from_slice(self.alloc, numbers)?;
+        self.add_command(Command::Duo {
+            first,
+            second,
+            events,
+        })
+    }
 }

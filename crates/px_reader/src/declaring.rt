@@ -68,7 +68,10 @@ impl Reader {
             Statement::DisturbAtoms(turn, late, edits) => self.disturb_atoms(turn, late, edits),
             Statement::DisturbRooms(turn, late, edits) => self.disturb_rooms(turn, late, edits),
             Statement::Run(name, bindings) => self.add_run(name, bindings),
+            Statement::Duo(one, other, numbers) => self.add_duo(one, other, numbers),
             Statement::Facts => self.add_command(Command::Facts),
+            Statement::Sort(name, objects) => self.add_sort(name, objects),
+            Statement::Param(sort, names) => self.give_sort(sort, names),
         }
     }
 

@@ -1,7 +1,7 @@
 //! Names that are declared already or twice, and what stands a second time where it may stand once.
-ghost use Rattle.std.specs.Prelude.{◌≡◌, map, IfOk};
+ghost use Rattle.std.specs.Prelude.{◌≡◌, [], map, IfOk};
 ghost use Rattle.px_script.specs.Causes.{repeats_name, taken_here};
-ghost use Rattle.px_script.specs.Faults.{repeats_itself};
+ghost use Rattle.px_script.specs.Faults.{repeats_itself, sorts_twice};
 ghost use Rattle.px_script.specs.Items.{declared_in};
 ghost use Rattle.px_lines.specs.ItemViews.{rest_view, said_view};
 ghost use Rattle.px_lines.specs.LineViews.{line_view};
@@ -9,6 +9,7 @@ ghost use Rattle.px_reader.specs.Common.{flat_map, group_repeats, list_any, has_
 ghost use Rattle.std.specs.BTreeSet.{IsFromIterResult};
 ghost use Rattle.std.specs.Ordering.{nat_cmp};
 
+use crate::naming::is_among;
 use crate::reader::Reader;
 use crate::statement::Statement;
 use px_base::NoMemory;
@@ -40,6 +41,15 @@ fn binds_twice(alloc: Global, bindings: &[WrittenBinding<'_>]) -> Result<bool, N
 {
     let different = different_parameters(alloc, bindings)?;
     Ok(different.len() < bindings.len())
+}
+
+/// Returns whether one of the names stands twice.
+#[tactic(auto, using(crate::proofs::Twice::fewer_alone))]
+fn stand_twice(alloc: Global, names: &[&str]) -> Result<bool, NoMemory>
+    ensures { IfOk result (λ found. found ≡ repeats [] (map text_of names.now)) }
+{
+    let different = different(alloc, names)?;
+    Ok(different.len() < names.len())
 }
 
 impl Reader {
@@ -119,8 +129,16 @@ impl Reader {
             Named::Predicate => self.has(Kind::Predicate, name),
             Named::Operator => self.has(Kind::Operator, name),
             Named::Result | Named::Plan | Named::Table => self.has(Kind::Result, name),
-            Named::Sort => false,
+            Named::Sort => is_among(name, &self.sorts),
         }
+    }
+
+    /// Returns whether one of the parameters has a sort, or stands twice.
+    #[tactic(auto, using(crate::proofs::LineTests::seen))]
+    fn sorts_twice(&self, names: &[&str]) -> Result<bool, NoMemory>
+        ensures { IfOk result (λ found. found ≡ sorts_twice (declared_of self.now) (map text_of names.now)) }
+    {
+        Ok(self.have_sort(names) || stand_twice(self.alloc, names)?)
     }
 
     /// Returns whether what stands in the line may stand once, and stands a second time.
@@ -135,6 +153,7 @@ impl Reader {
             Statement::Nodes(_) => Ok(self.nodes.is_some()),
             Statement::Shapes(_) => Ok(self.shapes.is_some()),
             Statement::Run(_, bindings) => binds_twice(self.alloc, bindings),
+            Statement::Param(_, names) => self.sorts_twice(names),
             _ => Ok(false),
         }
     }

@@ -3,11 +3,12 @@ ghost use Rattle.std.specs.Prelude.{◌≡◌, ◌<◌, ◌+◌, ◌^◌, ◌&&�
 ghost use Rattle.px_script.specs.Causes.{is_long, is_numbered};
 ghost use Rattle.px_script.specs.Items.{declared_in};
 ghost use Rattle.px_script.specs.declared.limits.Limit.TheVariants as limit;
-ghost use Rattle.px_script.specs.Limits.{greatest};
+ghost use Rattle.px_script.specs.Faults.{any_outside};
+ghost use Rattle.px_script.specs.Limits.{greatest, of_executor};
 ghost use Rattle.px_script.specs.Statements as spec;
 ghost use Rattle.px_lines.specs.ItemViews.{rest_view, said_view};
 ghost use Rattle.px_lines.specs.LineViews.{line_view};
-ghost use Rattle.px_reader.specs.Common.{IsFirstLimit, early_own, flat_map, group_is_long, list_any, has_long_name, Declared, operator_here, variable_names_of, passed, own_limits, over, outside, disturbance_limits, line_of, AreInRange, early_limits, grown_by, declared_of, signed_view, statement_view, text_of};
+ghost use Rattle.px_reader.specs.Common.{IsFirstLimit, early_own, flat_map, group_is_long, list_any, has_long_name, Declared, operator_here, variable_names_of, passed, own_limits, over, outside, disturbance_limits, line_of, AreInRange, early_limits, grown_by, declared_of, signed_view, statement_view, string_bytes, text_of};
 
 use crate::fault::PassedLimit;
 use crate::reader::Reader;
@@ -16,7 +17,9 @@ use crate::terms::has_many_variables;
 use px_base::NoMemory;
 use px_lines::{Line, Rest, Said, SignedAtom};
 use px_names::Kind;
-use px_script::{LAST_TURN, Limit, MOST_SCRIPT_NODES, NAME_BYTES, Named, greatest};
+use px_script::{
+    EXECUTORS, LAST_TURN, LAST_VERSION, Limit, MOST_SCRIPT_NODES, NAME_BYTES, Named, greatest,
+};
 use px_terms::{MOST_HEIGHT, MOST_SHAPES};
 
 /// Returns whether names of the kind have numbers: all but those of parameters.
@@ -94,6 +97,21 @@ fn outside(number: u32, least: u32, most: u32) -> Option<PassedLimit>
     passed(number < least || most < number, PassedLimit::Bounds)
 }
 
+/// Returns the limit of numbers, if one of these is the number of no executor.
+fn any_outside(numbers: &[u32]) -> Option<PassedLimit>
+    ensures { result ≡ (if (any_outside of_executor numbers.now).0 then Some PassedLimit.Bounds else None) }
+{
+    passed(names_no_executor(numbers), PassedLimit::Bounds)
+}
+
+fn names_no_executor(numbers: &[u32]) -> bool
+    ensures { result ≡ (any_outside of_executor numbers.now).0 }
+{
+    numbers
+        .iter()
+        .any(|number| *number < 1 || EXECUTORS < *number)
+}
+
 impl Reader {
     /// Returns the least number of the limits that the line passes, but for that of facts.
     pub fn passed_limit(
@@ -117,7 +135,7 @@ impl Reader {
         ensures { IfOk result (λ found. IsFirstLimit found (early_own (declared_of self.now) (statement_view statement.entry))) }
     {
         let limit = match statement {
-            Statement::Script(version) => outside(version, 1, 1),
+            Statement::Script(version) => outside(version, 1, LAST_VERSION),
             Statement::Object(names) => self.objects_limit(names.len()),
             Statement::Room(_) | Statement::Door(_, _, _, _) | Statement::Box(_, _) => {
                 self.objects_limit(1)
@@ -136,7 +154,13 @@ impl Reader {
             Statement::DisturbRooms(turn, _, edits) => self.disturbance_limit(turn, edits.len()),
             Statement::Learn(_, _) | Statement::Show(_) | Statement::Run(_, _) | Statement::Facts =>
                 { self.commands_limit() }
-            Statement::Building | Statement::Robot(_) | Statement::End | Statement::Fact(_) => None,
+            Statement::Duo(_, _, numbers) => self.duo_limit(numbers),
+            Statement::Sort(_, objects) => self.sort_limit(objects.len()),
+            Statement::Building
+            | Statement::Robot(_)
+            | Statement::End
+            | Statement::Fact(_)
+            | Statement::Param(_, _) => None,
         };
         Ok(limit)
     }
@@ -155,6 +179,17 @@ impl Reader {
     {
         let count = self.names.count(Kind::Object) as usize;
         self.over(count + new, Limit::Objects)
+    }
+
+    #[tactic(auto, using(crate::proofs::Sorting::lengths))]
+    fn sort_limit(&self, new: usize) -> Option<PassedLimit>
+        requires { new < 2 ^ 63 }
+        ensures { IsFirstLimit result (over (declared_of self.now) limit.Objects (length self.now.names.objects + new)
+            ∷ over (declared_of self.now) limit.Sorts (length (map string_bytes self.now.sorts.items) + 1) ∷ []) }
+    {
+        let count = self.names.count(Kind::Object) as usize;
+        self.over(count + new, Limit::Objects)
+            .or(self.over(self.sorts.len() + 1, Limit::Sorts))
     }
 
     fn predicate_limit(&self, arity: u32) -> Option<PassedLimit>
@@ -223,6 +258,15 @@ impl Reader {
             .or(outside(turn, 1, LAST_TURN))
     }
 
+    fn duo_limit(&self, numbers: &[u32]) -> Option<PassedLimit>
+        ensures { IsFirstLimit result (over (declared_of self.now) limit.Commands (length self.now.commands.items + 1)
+            ∷ any_outside of_executor numbers.now ∷ over (declared_of self.now) limit.Events (length numbers.now) ∷ []) }
+    {
+        self.commands_over()
+            .or(any_outside(numbers))
+            .or(self.over(numbers.len(), Limit::Events))
+    }
+
     /// Returns how many atoms a list of the open operator has with the line's.
     fn grown(&self, statement: Statement<'_, '_>) -> usize
         ensures { result ≡ grown_by (operator_here (declared_of self.now).block) (statement_view statement.entry) }
@@ -240,8 +284,8 @@ impl Reader {
 
     /// Returns whether the line is one of facts, and with it there are more different facts than there may be.
     pub fn has_too_many_facts(&self, is_fact: bool) -> bool
-        ensures { result ≡ (is_fact && nat_lt (greatest 1 limit.Facts) (length self.now.facts.atoms)) }
+        ensures { result ≡ (is_fact && nat_lt (greatest self.now.version limit.Facts) (length self.now.facts.atoms)) }
     {
-        is_fact && self.facts.atoms().len() > greatest(1, Limit::Facts) as usize
+        is_fact && self.facts.atoms().len() > greatest(self.version, Limit::Facts) as usize
     }
 }

@@ -24,7 +24,7 @@ pub fn place_of(name: &str, names: &[String]) -> Option<usize>
 }
 
 #[tactic(auto, using(crate::proofs::AtomTests::positions))]
-fn is_among(name: &str, names: &[String]) -> bool
+pub fn is_among(name: &str, names: &[String]) -> bool
     ensures { result ≡ has_name name.now (map string_bytes names.now) }
 {
     place_of(name, names).is_some()
@@ -166,6 +166,7 @@ impl Reader {
         match last {
             Rest::Bindings(bindings) => self.lack_objects(bindings),
             Rest::RoomEdits(edits) => self.lack_places(edits),
+            Rest::Wanted(kind, names) => self.lack_wanted(*kind, names),
             _ => false,
         }
     }
@@ -180,12 +181,18 @@ impl Reader {
             Named::Operator => !self.has(Kind::Operator, name),
             Named::Result | Named::Table => !self.has(Kind::Result, name),
             Named::Parameter => self.parameter(name).is_none(),
-            Named::Sort => true,
+            Named::Sort => !is_among(name, &self.sorts),
             Named::Room => !is_among(name, &self.rooms),
             Named::Door => !is_among(name, &self.doors),
             Named::Box => !is_among(name, &self.boxes),
             Named::Plan => !is_among(name, &self.plans),
         }
+    }
+
+    fn lack_wanted(&self, kind: Named, names: &[&str]) -> bool
+        ensures { result ≡ list_any (λ name. lacks (declared_of self.now) (kind, name.now)) names.now }
+    {
+        names.iter().any(|name| self.lacks(kind, name))
     }
 
     fn lack_places(&self, edits: &[WrittenRoomEdit<'_>]) -> bool

@@ -2,9 +2,9 @@
 ghost use Rattle.std.specs.Prelude.{◌≡◌, ◌<◌, ◌≤◌, ◌+◌, true, None, Some, length, IfOk, IfSome, MatchOption, unwrap_or};
 ghost use Rattle.px_base.specs.Bounds.{u32_max};
 ghost use Rattle.px_rooms.specs.States.{IsBuilding, first_state, rendering, standings};
-ghost use Rattle.px_terms.specs.Problems.{problem_without_sorts};
 ghost use Rattle.px_terms.specs.Validity.{IsValid};
 ghost use Rattle.px_script.specs.declared.limits.TheConstants.{DEFAULT_HEIGHT as default_height, DEFAULT_NODES as default_nodes, DEFAULT_SHAPES as default_shapes};
+ghost use Rattle.px_script.specs.Content.{problem_with};
 ghost use Rattle.px_script.specs.Ranges.{IsInRange};
 ghost use Rattle.px_lines.specs.LineViews.{line_view};
 ghost use Rattle.px_reader.specs.Common.{AllByRecursion, IsNameLexeme, spelling, after_line, option_map, chars, content_of, facts_of, problem_of, nothing_declared, begins_with_word, is_formed, line_of, AreInRange, early_fault, refusal_of, HasFault, LineEnds, content, stage_view, declared_of, lexemes_of, statement_view};
@@ -12,6 +12,7 @@ ghost use Rattle.px_reader.specs.Common.{AllByRecursion, IsNameLexeme, spelling,
 use crate::blocks::OpenBlock;
 use crate::fault::{LineFault, PassedLimit};
 use crate::order::is_unbuilt;
+use crate::sorts::fill_up;
 use crate::statement::Statement;
 use crate::statements::statement;
 use px_base::{NoMemory, Sequence};
@@ -20,7 +21,7 @@ use px_names::{Kind, Names};
 use px_ops::Model;
 use px_rooms::{Building, RoomErr, RoomWorld, rooms_problem};
 use px_script::{Command, DEFAULT_HEIGHT, DEFAULT_NODES, DEFAULT_SHAPES, Limit, Script};
-use px_terms::{ClauseArena, Limits, Problem, Schema};
+use px_terms::{ClauseArena, Problem, Schema};
 use px_world::Thing;
 use std::alloc::Global;
 
@@ -36,6 +37,9 @@ pub struct Reader {
     pub boxes: Vec<String>,
     /// The results that are plans. Each result is a table.
     pub plans: Vec<String>,
+    pub sorts: Vec<String>,
+    /// The sort of each object up to the last that has one; 0 is no sort.
+    pub object_sorts: Vec<u32>,
     pub arities: Vec<u8>,
     pub axioms: ClauseArena,
     pub schemas: Vec<Schema>,
@@ -68,6 +72,8 @@ impl Reader {
             doors: Vec::new(alloc),
             boxes: Vec::new(alloc),
             plans: Vec::new(alloc),
+            sorts: Vec::new(alloc),
+            object_sorts: Vec::new(alloc),
             arities: Vec::new(alloc),
             axioms: ClauseArena::new(alloc),
             schemas: Vec::new(alloc),
@@ -86,10 +92,9 @@ impl Reader {
 
     /// Returns whether the first token is a word that may begin a line.
     fn begins_with_word(&self, tokens: &[Token<'_>]) -> bool
-        requires { self.now.version ≡ 1 }
         ensures { result ≡ begins_with_word (declared_of self.now) (lexemes_of tokens.now) }
     {
-        matches!(tokens, [Token::Name(name), ..] if is_word(name))
+        matches!(tokens, [Token::Name(name), ..] if is_word(self.version, name))
     }
 
     /// Reads the next line, and returns its fault, if it has one.
@@ -183,11 +188,13 @@ impl Reader {
     }
 
     /// Returns the script, where no block is open.
-    #[tactic(auto, using(crate::proofs::Finishing::content_is, crate::proofs::Finishing::content_in_range))]
+    #[tactic(auto, using(crate::proofs::Finishing::content_is, crate::proofs::Finishing::content_in_range, crate::proofs::Finishing::own_made))]
     pub fn finish(self) -> Result<Script, NoMemory>
-        requires { IsInRange (content_of (declared_of self)) }
+        requires range { IsInRange (content_of (declared_of self)) }
+        requires few_sorts { length self.sorts.items ≤ 32 }
         ensures { IfOk result (λ script. content script ≡ content_of (declared_of self)) }
     {
+        let sorts = self.sort_count();
         let names = self.names;
         let limits = (self.height, self.nodes, self.shapes);
         let own = own_problem(
@@ -197,6 +204,7 @@ impl Reader {
             self.axioms,
             self.schemas,
             limits,
+            (sorts, self.object_sorts),
         )?;
         let building = building(self.things);
         let (problem, facts) = subject(self.alloc, &building, own, self.facts)?;
@@ -219,7 +227,8 @@ fn building(things: Option<Vec<Thing>>) -> Option<Building>
     })
 }
 
-/// Returns the problem of a script's own lines, with the limits that they give, or those that hold where they give none.
+/// Returns the problem of a script's own lines, with the limits that they give, or those that hold where they give none. `sorts` are
+/// the number of sorts, and the sorts of its objects.
 fn own_problem(
     alloc: Global,
     names: &Names,
@@ -227,24 +236,26 @@ fn own_problem(
     axioms: ClauseArena,
     schemas: Vec<Schema>,
     limits: (Option<u32>, Option<u32>, Option<u32>),
+    sorts: (u32, Vec<u32>),
 ) -> Result<Problem, NoMemory>
-    ensures { IfOk result (λ problem. problem ≡ problem_without_sorts (length names.now.objects) arities.items axioms schemas.items
-        (unwrap_or limits.0 default_height) (unwrap_or limits.1 default_nodes) (unwrap_or limits.2 default_shapes)) }
+    ensures { IfOk result (λ problem. problem ≡ problem_with (length names.now.objects) arities.items axioms schemas.items
+        (unwrap_or limits.0 default_height) (unwrap_or limits.1 default_nodes) (unwrap_or limits.2 default_shapes) sorts.0 sorts.1.items) }
 {
-    let limits = Limits {
+    let objects = names.count(Kind::Object);
+    let mut object_sorts = sorts.1;
+    fill_up(alloc, &mut object_sorts, objects)?;
+    Ok(Problem {
+        objects,
+        arities: Sequence::from_vec(arities),
+        axioms,
+        schemas: Sequence::from_vec(schemas),
         height: limits.0.unwrap_or(DEFAULT_HEIGHT),
         nodes: limits.1.unwrap_or(DEFAULT_NODES),
         shapes: limits.2.unwrap_or(DEFAULT_SHAPES),
-    };
-    let objects = names.count(Kind::Object);
-    Problem::without_sorts(
-        alloc,
-        objects,
-        &arities,
-        axioms,
-        Sequence::from_vec(schemas),
-        limits,
-    )
+        sorts: sorts.0,
+        object_sorts: Sequence::from_vec(object_sorts),
+        weight: 0,
+    })
 }
 
 /// Returns the problem and the first facts of a script: its own, or those of its building with the limits of its own problem.

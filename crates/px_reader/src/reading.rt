@@ -13,8 +13,8 @@ use px_script::Script;
 use std::alloc::{AllocError, Global};
 use std::str;
 
-/// The words that are built: all of version 1.
-const STAGE: [&str; 24] = [
+/// The words that are built: all of version 1, sorts, and two executors in one world.
+const STAGE: [&str; 27] = [
     "script",
     "object",
     "predicate",
@@ -39,6 +39,9 @@ const STAGE: [&str; 24] = [
     "disturb",
     "run",
     "facts",
+    "sort",
+    "param",
+    "duo",
 ];
 
 /// Returns the parts of a text between line feeds.
@@ -121,7 +124,7 @@ fn line_after(front: &[u8]) -> u32
     front.iter().filter(|byte| **byte == b'\n').count() as u32 + 1
 }
 
-/// Reads a script of version 1 where these words are built, or finds its first fault.
+/// Reads a script where these words are built, or finds its first fault.
 fn read_at(alloc: Global, stage: &[&str], bytes: &[u8]) -> Result<Script, ScriptErr>
     requires { length bytes.now < u32_max }
     ensures script { IfOk result (λ script. IsScript (stage_view stage.now) bytes.now (content script)) }
@@ -136,7 +139,7 @@ fn read_at(alloc: Global, stage: &[&str], bytes: &[u8]) -> Result<Script, Script
     }
 }
 
-/// Reads a script of version 1, or finds its first fault.
+/// Reads a script, or finds its first fault.
 ///
 /// # Errors
 /// `Refused` where the bytes are no script, with the first fault. `NoMemory` where memory runs out: no clause says when that is.

@@ -33,7 +33,13 @@ pub enum Statement<'line, 'text> {
     DisturbAtoms(u32, bool, &'line [SignedAtom<'text>]),
     DisturbRooms(u32, bool, &'line [WrittenRoomEdit<'text>]),
     Run(&'text str, &'line [WrittenBinding<'text>]),
+    /// Two tables, and the numbers of whoever is next.
+    Duo(&'text str, &'text str, &'line [u32]),
     Facts,
+    /// A sort, and its objects.
+    Sort(&'text str, &'line [&'text str]),
+    /// A sort, and the parameters of the open operator that have it.
+    Param(&'text str, &'line [&'text str]),
 }
 
 impl Statement<'_, '_> {

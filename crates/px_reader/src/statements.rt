@@ -3,7 +3,7 @@ ghost use Rattle.std.specs.Prelude.{◌≡◌, ℕ, List, ◌∷◌, Some, None,
 ghost use Rattle.px_script.specs.Items as items;
 ghost use Rattle.px_script.specs.Statements as spec;
 ghost use Rattle.px_script.specs.Statements.{time_word};
-ghost use Rattle.px_script.proofs.Rows.{entry_of, make_atoms, make_box, make_disturb, make_door, make_learn, make_nothing, make_number, make_object, make_operator, make_plan, make_predicate, make_robot, make_room, make_run, make_show, row_of, statement_of};
+ghost use Rattle.px_script.proofs.Rows.{entry_of, make_atoms, make_box, make_disturb, make_door, make_duo, make_learn, make_nothing, make_number, make_object, make_operator, make_param, make_plan, make_predicate, make_robot, make_room, make_run, make_show, make_sort, row_of, statement_of};
 ghost use Rattle.px_lines.specs.ItemViews.{rest_view, said_items};
 ghost use Rattle.px_lines.specs.LineViews.{line_view, IsShaped};
 ghost use Rattle.px_reader.specs.Common.{bytes_eq, option_and_then, option_map, time_of, signed_view, statement_view};
@@ -429,6 +429,25 @@ fn run<'line, 'text>(
     }
 }
 
+fn duo<'line, 'text>(
+    ones: &[Said<'text>],
+    last: &'line Rest<'text>,
+) -> Option<Statement<'line, 'text>>
+    requires { length ones.now ≡ 2 }
+    ensures { option_map statement_view result ≡ make_duo (said_items ones.now last.now) }
+{
+    match ones {
+        [
+            Said::Known(Named::Table, one),
+            Said::Known(Named::Table, other),
+        ] => match last {
+            Rest::Numbers(numbers) => Some(Statement::Duo(one, other, numbers.as_slice())),
+            _ => None,
+        },
+        _ => None,
+    }
+}
+
 fn facts<'line, 'text>(
     ones: &[Said<'text>],
     last: &'line Rest<'text>,
@@ -440,6 +459,40 @@ fn facts<'line, 'text>(
         Some(Statement::Facts)
     } else {
         None
+    }
+}
+
+fn sort<'line, 'text>(
+    ones: &[Said<'text>],
+    last: &'line Rest<'text>,
+) -> Option<Statement<'line, 'text>>
+    requires { length ones.now ≡ 1 }
+    ensures { option_map statement_view result ≡ make_sort (said_items ones.now last.now) }
+{
+    match ones {
+        [Said::New(Named::Sort, name)] => match last {
+            Rest::Declared(Named::Object, names) => Some(Statement::Sort(name, names.as_slice())),
+            _ => None,
+        },
+        _ => None,
+    }
+}
+
+fn param<'line, 'text>(
+    ones: &[Said<'text>],
+    last: &'line Rest<'text>,
+) -> Option<Statement<'line, 'text>>
+    requires { length ones.now ≡ 1 }
+    ensures { option_map statement_view result ≡ make_param (said_items ones.now last.now) }
+{
+    match ones {
+        [Said::Known(Named::Sort, name)] => match last {
+            Rest::Wanted(Named::Parameter, names) => {
+                Some(Statement::Param(name, names.as_slice()))
+            }
+            _ => None,
+        },
+        _ => None,
     }
 }
 
@@ -479,6 +532,9 @@ fn made<'line, 'text>(
         "disturb" => disturb(with_building, ones, last),
         "run" => run(ones, last),
         "facts" => facts(ones, last),
+        "duo" => duo(ones, last),
+        "sort" => sort(ones, last),
+        "param" => param(ones, last),
         _ => None,
     }
 }

@@ -27,6 +27,52 @@ fact P(a) Q(b)
     1,
 );
 
+// The example of 1972 with a sort of boxes.
+const SORTED_BEGINNING: &str = "script 2
+object ROBOT R1 R2 R3 D1 D2
+sort BOXES B1
+predicate INROOM 2
+predicate CONNECTS 3
+predicate BOX 1
+axiom ~CONNECTS(?d,?x,?y) CONNECTS(?d,?y,?x)
+operator GOTHRU(d,r1,r2)
+pre INROOM(ROBOT,r1) CONNECTS(d,r1,r2)
+delete INROOM(ROBOT,$)
+add INROOM(ROBOT,r2)
+end
+";
+
+const SORTED_REST: &str = "operator PUSHTHRU(b,d,r1,r2)
+param BOXES b
+pre INROOM(b,r1) INROOM(ROBOT,r1) CONNECTS(d,r1,r2)
+delete INROOM(ROBOT,$) INROOM(b,$)
+add INROOM(ROBOT,r2) INROOM(b,r2)
+end
+fact INROOM(ROBOT,R1) CONNECTS(D1,R1,R2) CONNECTS(D2,R2,R3)
+fact BOX(B1) INROOM(B1,R2)
+";
+
+// Two hands, and one thing that each can take.
+const TAKING: &str = "script 2
+object A B X
+predicate FREE 1
+predicate HAS 2
+operator TAKE(hand,thing)
+pre FREE(thing)
+delete FREE(thing)
+add HAS(hand,thing)
+end
+fact FREE(X)
+plan P HAS(A,X)
+plan Q HAS(B,X)
+";
+
+const TAKEN: &str = "plan P 1 steps 2 moves
+  1 TAKE(A,X)
+plan Q 1 steps 2 moves
+  1 TAKE(B,X)
+";
+
 // Scripts, and the replies to their commands.
 const ANSWERED: &[(Pieces, Pieces)] = &[
     (&[], &[]),
@@ -68,6 +114,59 @@ const ANSWERED: &[(Pieces, Pieces)] = &[
             ("plan N 0 steps 0 moves\n", 1),
             ("learned M@ 0 parameters 0 steps\n", 32),
             ("notlearned M32 full\n", 1),
+        ],
+    ),
+    // Only a box can be pushed: with a sort there are twelve nodes, and eleven are too few.
+    (
+        &[
+            (SORTED_BEGINNING, 1),
+            (SORTED_REST, 1),
+            ("nodes 11\nplan P1 BOX(?x) INROOM(?x,R1)\n", 1),
+        ],
+        &[("nodelimit P1 11 nodes 4 moves\n", 1)],
+    ),
+    // What isn't of the parameter's sort fits it in no run.
+    (
+        &[
+            (SORTED_BEGINNING, 1),
+            (SORTED_REST, 1),
+            ("nodes 12\nplan P1 BOX(?x) INROOM(?x,R1)\n", 1),
+            (
+                "learn M1 from P1\ndisturb 1 before +BOX(ROBOT)\nrun M1 p4=ROBOT\n",
+                1,
+            ),
+        ],
+        &[
+            (
+                "plan P1 2 steps 4 moves\n  1 GOTHRU(D1,R1,R2)\n  2 PUSHTHRU(B1,D1,R2,R1)\n",
+                1,
+            ),
+            (
+                "learned M1 6 parameters 2 steps\nnoted 1\nrun M1\n  turn 1 nokernel\n",
+                1,
+            ),
+        ],
+    ),
+    // Both want the thing, and the first is quicker. What was to happen in a run happens in the next one.
+    (
+        &[
+            (TAKING, 1),
+            (
+                "disturb 1 before +FREE(X)\nduo P Q 1 2 1 2 2 1\nfacts\nrun Q\n",
+                1,
+            ),
+        ],
+        &[
+            (TAKEN, 1),
+            (
+                "noted 1\nduo P Q\n  1 kernel 1 TAKE(A,X)\n  2 kernel 1 TAKE(B,X)\n  1 acted\n  2 slipped\n",
+                1,
+            ),
+            ("  2 nokernel\n  1 goal\nfacts 1\n  HAS(A,X)\nrun Q\n", 1),
+            (
+                "  turn 1 kernel 1 TAKE(B,X) acted\n  turn 2 kernel 2 goal\n",
+                1,
+            ),
         ],
     ),
     // Someone closes the door that the robot has opened.

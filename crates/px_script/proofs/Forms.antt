@@ -4,7 +4,7 @@ use Rattle.std.proofs.lemmas.Fmt.{decimal_is_IsNumeral}
 use Rattle.std.proofs.lemmas.Option.{IfSome_then}
 use Rattle.px_script.specs.Forms as spec
 use Rattle.px_script.proofs.Lists.{by_test}
-use Rattle.px_script.proofs.Parsing.{argument_of, items_after, items_at, all_within, all_of, atom_after, atom_at, sign_of, which, open_of, room_edit_at, parameter_of, binding_at, names_of, names_among, names_at}
+use Rattle.px_script.proofs.Parsing.{argument_of, items_after, items_at, all_within, all_of, atom_after, atom_at, sign_of, which, open_of, room_edit_at, parameter_of, binding_at, names_of, names_among, names_at, numbers_of}
 
 -- ---- what is said of an answer, if there is one
 
@@ -159,6 +159,15 @@ pub names-sound : (lexemes : List Lexeme) → IfSome (names_of lexemes) (λ ns. 
 names-sound [] = refl
 names-sound (name n ∷ rest) = map-there _ _ (names_of rest) (names-sound rest) (λ ns is. ap (λ t. name n ∷ t) is)
 names-sound _ = tt
+
+pub numbers-again : (ns : List ℕ) → numbers_of (map number ns ++ []) ≡ Some ns
+numbers-again [] = refl
+numbers-again (n ∷ ns) = rw (numbers-again ns) refl
+
+pub numbers-sound : (lexemes : List Lexeme) → IfSome (numbers_of lexemes) (λ ns. lexemes ≡ map number ns)
+numbers-sound [] = refl
+numbers-sound (number n ∷ rest) = map-there _ _ (numbers_of rest) (numbers-sound rest) (λ ns is. ap (λ t. number n ∷ t) is)
+numbers-sound _ = tt
 
 -- ---- atoms, edits and bindings are read back
 

@@ -1,11 +1,11 @@
 -- Each line without a fault keeps what was declared in range, and so a script is in range, and of the language as far as it is built.
-use Rattle.std.specs.Prelude.{replicate}
+use Rattle.std.proofs.lemmas.List.{get_or_past}
+use Rattle.std.proofs.lemmas.List.FromFn.{length-range_with_len}
 use Rattle.std.specs.List.Sorted.{IsStrictlySortedBy}
-use Rattle.px_terms.specs.SortLaws.{no_object_sorts-are}
 use Rattle.px_base.specs.Bounds.{u32_max}
 use Rattle.px_rooms.proofs.Valid.{buildings_are_valid}
 use Rattle.px_rooms.proofs.Belonging.{facts-are-atoms}
-use Rattle.px_script.proofs.Common.{both_ways, building_problem, robot_name, room_schemas, building_rules, thing_at, no_schema, ◌≡◌, ◌≢◌, ℕ, ◌+◌, ◌<◌, ◌≤◌, Bool, true, false, not, ◌||◌, List, [], ◌∷◌, ◌++◌, map, length, refl, sym, ap, ◌∙◌, subst, arith, leb-true, append-nil, length-append, nat_lt, Option, None, Some, is_some, IfSome, All, slice_index_or, list_any, option_map, not-false, not-true, length-map, All-append, All-from_recursion, All-nil, both_answers, has_name, bytes_eq, bytes_eq-itself, Standing, a_room, a_door, a_box, IsBoxAt, IsDoorAt, IsRoomAt, first_state, rendering, robot_rooms, standings, standings-more, Atom, Problem, IsAtomOf, IsPatternOf, Thing, codes, All-push, NameLists, IsSchemaOf, Lexeme, lines_of, SignedAtom, is_empty, Statement, Block, plain, inside, operator_block, building_block, line_of, script, object, predicate, «axiom», operator, pre, delete, add, building, room, door, box, robot, end, fact, height, nodes, shapes, plan, learn, show, disturb_atoms, disturb_rooms, run, greatest, of_height, of_nodes, of_shapes, of_version, Command, Declared, OpenBlock, BlockKind, OpenOperator, of_operator, of_building, kind_of_block, number_in, atom_of, nothing_declared, after_line, predicate_names, predicate_arities, operator_names, ScriptValue, own_problem, content_of, is_robot, may_stand, is_long, repeats, same_block, has_two_domains, fault_at, is_formed, AreNamesOf, AreNumbered, HasShortLists, IsInRange, IsThingAfter, PassesLexemes, PassAll, IsScript, IsBuiltCommand, IsOfStage, Stage, whole_language, is_built, facts, get_or-append}
+use Rattle.px_script.proofs.Common.{both_ways, building_problem, robot_name, room_schemas, building_rules, thing_at, no_schema, ◌≡◌, ◌≢◌, ℕ, suc, ◌+◌, ◌<◌, ◌≤◌, ◌==◌, Bool, true, false, not, ◌||◌, List, [], ◌∷◌, ◌++◌, map, length, refl, sym, ap, ◌∙◌, subst, arith, leb-true, append-nil, length-append, nat_lt, Option, None, Some, is_some, IfSome, All, slice_index_or, list_any, option_map, not-false, not-true, length-map, All-append, All-map, All-from_recursion, All-nil, cases_lt, inl, inr, range_with_len, slice_index, if◌then◌else◌, both_answers, has_name, bytes_eq, bytes_eq-itself, Standing, a_room, a_door, a_box, IsBoxAt, IsDoorAt, IsRoomAt, first_state, rendering, robot_rooms, standings, standings-more, Atom, Problem, IsAtomOf, IsPatternOf, Thing, codes, All-push, NameLists, IsSchemaOf, Lexeme, lines_of, SignedAtom, is_empty, Statement, Block, plain, inside, operator_block, building_block, line_of, script, object, predicate, «axiom», operator, pre, delete, add, building, room, door, box, robot, end, fact, height, nodes, shapes, plan, learn, show, disturb_atoms, disturb_rooms, run, sort, param, filled_up, with_sort, greatest, of_height, of_nodes, of_shapes, of_version, Command, Declared, OpenBlock, BlockKind, OpenOperator, of_operator, of_building, kind_of_block, number_in, atom_of, nothing_declared, after_line, predicate_names, predicate_arities, operator_names, ScriptValue, own_problem, content_of, is_robot, may_stand, is_long, repeats, same_block, has_two_domains, fault_at, is_formed, AreNamesOf, AreNumbered, HasShortLists, IsInRange, IsThingAfter, PassesLexemes, PassAll, IsScript, IsBuiltCommand, IsOfStage, Stage, whole_language, is_built, facts, get_or-append, duo}
 use Rattle.px_world.specs.declared.thing.Thing.TheVariants as thing
 use Rattle.px_script.specs.Limits as limit
 use Rattle.px_script.proofs.Atoms.{atoms-right, atoms-with, patterns-with, AreRight}
@@ -13,12 +13,32 @@ use Rattle.px_script.proofs.Buildings.{rooms-kind, doors-kind, boxes-kind, IsKin
 use Rattle.px_script.proofs.Commands.{commands-moved}
 use Rattle.px_script.proofs.Faultless.{IsFaultless, no-fault, only-takes-away, stage-takes-away}
 use Rattle.px_script.proofs.Forms.{IsWellFormed, well-formed}
-use Rattle.px_script.proofs.KeptLines.{few-objects, no-own, settings-kept, in-bounds, still-none, carried, Keeps, object-kept, predicate-kept, axiom-kept, fact-kept, operator-kept, show-kept, facts-kept, disturb-atoms-kept, disturb-rooms-kept, run-kept, learn-kept, plan-kept}
-use Rattle.px_script.proofs.Lists.{at-most, each-fails, same-number, at-name, is-new, each-pushed}
+use Rattle.px_script.proofs.KeptLines.{in-version, sorts-filled, still-sorted, script-kept, sort-kept, few-objects, no-own, settings-kept, in-bounds, still-none, carried, Keeps, object-kept, predicate-kept, axiom-kept, fact-kept, operator-kept, show-kept, facts-kept, disturb-atoms-kept, disturb-rooms-kept, run-kept, learn-kept, plan-kept, duo-kept}
+use Rattle.px_script.proofs.Lists.{by_test, number-below, at-most, each-fails, same-number, at-name, is-new, each-pushed}
 use Rattle.px_script.proofs.Problems.{Grows, alike, atoms-kept, names-more, schema-kept}
 use Rattle.px_script.proofs.States.{AreInRange, AreRolesOf, IsBegun, OperatorsInRange, AreStanding}
 
 -- ---- the lines of an operator's block, and its end
+
+-- parameters of which some get a sort
+with-sort-length : (s : ℕ) (ps names : List (List ℕ)) (sorts : List ℕ) → length (with_sort s ps names sorts) ≡ length names
+with-sort-length s ps names sorts = rw (length-map, length-range_with_len) refl
+
+sort-at : (most : ℕ) (sorts : List ℕ) → All (λ sort. sort ≤ most) sorts → (k : ℕ) → slice_index sorts k ≤ most
+sort-at most sorts all k = elim (cases_lt k (length sorts)) [
+  | inl below ↦ all k 0 below
+  | inr above ↦ (let none = get_or_past sorts k 0 above in omega (arith, none))
+]
+
+with-sort-all : (s most : ℕ) → s ≤ most → (ps names : List (List ℕ)) (sorts : List ℕ) → All (λ sort. sort ≤ most) sorts
+    → All (λ sort. sort ≤ most) (with_sort s ps names sorts)
+with-sort-all s most small ps names sorts all = All-map (λ sort. sort ≤ most) _ (range_with_len 0 (length names))
+    (λ k d below. chosen (has_name (slice_index_or names (slice_index_or (range_with_len 0 (length names)) k d) []) ps)
+    (slice_index sorts (slice_index_or (range_with_len 0 (length names)) k d)) (sort-at most sorts all _))
+  where
+    chosen : (b : Bool) (old : ℕ) → old ≤ most → (if b then s else old) ≤ most
+    chosen true old few = small
+    chosen false old few = few
 
 operators-named : (version : ℕ) (names : NameLists) (problem : Problem) (things : Option (List Thing))
     → length names.operators ≡ length problem.schemas → OperatorsInRange version names problem things None
@@ -44,30 +64,38 @@ module _ (n : ℕ) (d : Declared) (line : ℕ) (o : OpenOperator) where
     pre-kept : Keeps n c (pre xs)
     pre-kept f = let right = atoms-right c (pre xs) xs (record { atoms = refl; arguments = refl }) f.right in
         let all = grown (IsAtomOf (own_problem c) o.schema.params) o.schema.pre xs (at-most _ _ f.limits.0) r.operators.schema.pre
-        (plain-atoms right) in assumption (still-none c r, all)
+        (plain-atoms right) in assumption (still-none c r, in-version c r, all)
 
     delete-kept : Keeps n c (delete xs)
     delete-kept f = let right = atoms-right c (delete xs) xs (record { atoms = refl; arguments = refl }) f.right in
         let all = grown (IsPatternOf (own_problem c) o.schema.params) o.schema.del xs (at-most _ _ f.limits.0) r.operators.schema.del
-        (patterns-with c r xs o.schema.params (omega (arith, r.operators.params)) right) in assumption (still-none c r, all)
+        (patterns-with c r xs o.schema.params (omega (arith, r.operators.params)) right) in assumption (still-none c r, in-version c r, all)
 
     add-kept : Keeps n c (add xs)
     add-kept f = let right = atoms-right c (add xs) xs (record { atoms = refl; arguments = refl }) f.right in
         let all = grown (IsAtomOf (own_problem c) o.schema.params) o.schema.add xs (at-most _ _ f.limits.0) r.operators.schema.add
-        (plain-atoms right) in assumption (still-none c r, all)
+        (plain-atoms right) in assumption (still-none c r, in-version c r, all)
+
+  param-kept : (name : List ℕ) (ps : List (List ℕ)) → AreInRange c → Keeps n c (param name ps)
+  param-kept name ps r f = let sort = number_in name d.sorts + 1 in let below = number-below name d.sorts f.known.0 in
+      let old = r.operators.schema.sorts in let count = with-sort-length sort ps o.parameters o.schema.param_sorts in
+      let params = r.operators.params in let all : length (with_sort sort ps o.parameters o.schema.param_sorts) ≡ o.schema.params =
+      count ∙ sym params in
+      let sorts = with-sort-all sort (length d.sorts) (omega (arith, below)) ps o.parameters o.schema.param_sorts old.1 in
+      assumption (still-none c r, in-version c r, all, sorts)
 
   end-operator : AreInRange c → Keeps n c end
   end-operator r f = let is = r.operators in let all = d.schemas ++ o.schema ∷ [] in
-      let q : Problem = record (own_problem d) { schemas = all } in let more = alike (own_problem d) q refl refl refl in
-      let old = carried c q d.things r more f.order.after in
+      let q : Problem = record (own_problem d) { schemas = all } in let more = alike (own_problem d) q refl refl in
+      let old = carried c q d.things r more (omega arith) f.order.after in
       let counts : length d.names.operators ≡ length all = omega (arith, length-append d.schemas (o.schema ∷ []), is.named) in
       let few = r.names.few_operators in let short : length all < u32_max = omega (arith, counts, few) in
       let none : length d.names.objects ≡ 0 → All (λ schema. schema.params ≡ 0) all × All (λ clause. clause.vars ≡ 0) d.axioms = λ empty.
       let no = old.no_objects empty in (All-push (λ schema. schema.params ≡ 0) d.schemas o.schema no.0 (is.no_objects empty), no.1) in
-      let of = schema-kept (own_problem d) q more _ o.schema is.schema in
+      let of = schema-kept (own_problem d) q more (omega arith) _ o.schema is.schema in
       let each = each-pushed (IsSchemaOf q) d.schemas o.schema no_schema old.schemas of in
       let shorts = All-push (HasShortLists d.version) d.schemas o.schema r.problem.short_lists is.short_lists in
-      assumption (still-none c r, old, each, shorts, operators-named d.version d.names q d.things counts)
+      assumption (still-none c r, in-version c r, old, each, shorts, operators-named d.version d.names q d.things counts)
 
 -- another block than an operator's is closed
 end-other : (d : Declared) (line : ℕ) (kind : BlockKind) → AreInRange (record d { block = Some (record { line = line; kind = kind }) })
@@ -76,7 +104,10 @@ end-other : (d : Declared) (line : ℕ) (kind : BlockKind) → AreInRange (recor
 end-other d line kind r operators has_robot =
     let closed = record d { block = None; own_domain = d.own_domain || false; begun = true } in
     subst (λ schemas. AreInRange (record closed { schemas = schemas })) (sym (append-nil d.schemas))
-    (assumption (still-none (record d { block = Some (record { line = line; kind = kind }) }) r))
+    (assumption (
+      still-none (record d { block = Some (record { line = line; kind = kind }) }) r,
+      in-version (record d { block = Some (record { line = line; kind = kind }) }) r,
+    ))
 
 -- ---- buildings
 
@@ -94,11 +125,12 @@ module _ (n : ℕ) (d : Declared) where
   building-begun : not (is_empty d.commands) ≡ false → IsBegunBy [] [] [] []
   building-begun early r = let no_names = record d.names { objects = []; predicates = []; operators = [] } in
       let e = record d { names = no_names; arities = []; things = None; block = None } in
-      let q : Problem = record (own_problem e) { objects = 1; object_sorts = replicate 1 0; arities = predicate_arities } in
+      let q : Problem = record (own_problem e) { objects = 1; object_sorts = filled_up 1 d.object_sorts; arities = predicate_arities } in
       let more : Grows (own_problem e) q =
-      record { objects = omega arith; arities = λ k below. absurd (omega (arith, below)); sorts = omega arith } in
-      let sorts = no_object_sorts-are q 1 (omega arith) in
-      let one : 1 ≤ greatest d.version limit.objects = subst (λ v. 1 ≤ greatest v limit.objects) (sym r.version) (omega arith) in
+      record { objects = omega arith; arities = λ k below. absurd (omega (arith, below)) } in
+      let still = still-sorted d.version 0 1 d.sorts d.object_sorts (omega arith) r.sorts in
+      let sorts = sorts-filled q 1 d.object_sorts still.count r.sorts.numbers (omega arith) in
+      let one : 1 ≤ greatest d.version limit.objects = by_test (d.version == 2) (λ two. rw two (omega arith)) (λ old. rw old (omega arith)) in
       let few_predicates : length predicate_names ≤ 64 = omega arith in let few_operators : length operator_names ≤ 32 = omega arith in
       let short : length predicate_arities < u32_max = omega arith in let standing : AreStanding [] = search (All-nil, leb-true) in
       let objects_are = names-more d.version [] (robot_name ∷ []) r.names.objects refl refl in
@@ -107,7 +139,18 @@ module _ (n : ℕ) (d : Declared) where
       let roles = roles-kept [] (robot_name ∷ []) (robot_name ∷ []) [] [] [] d.roles refl refl r.roles in
       let names = record d.names { objects = robot_name ∷ []; predicates = predicate_names; operators = operator_names } in
       let none = no-own [] (d.own_domain || false) names predicate_arities d.version d.facts in let small = small-arities d.version in
-      assumption (objects_are, predicates_are, operators_are, small, sorts, carried e q (Some []) r more early, roles, none)
+      assumption (
+        objects_are,
+        predicates_are,
+        operators_are,
+        small,
+        sorts,
+        carried e q (Some []) r more (omega arith) early,
+        roles,
+        none,
+        still,
+        in-version e r,
+      )
 
   building-kept : AreInRange (record d { block = None; things = None }) → IsFaultless (record d { block = None; things = None }) building
       → AreInRange (after_line n (record d { block = None; things = None }) building)
@@ -148,18 +191,19 @@ module _ (n : ℕ) (d : Declared) (line : ℕ) (things : List Thing) where
       })
   named-kept r name t one rooms doors boxes early stands no_robot single short full right of_things =
       let objects = d.names.objects ++ name ∷ [] in
-      let q : Problem = record (own_problem d) { objects = length objects; object_sorts = replicate (length objects) 0 } in
+      let q : Problem = record (own_problem d) { objects = length objects; object_sorts = filled_up (length objects) d.object_sorts } in
       let count = length-append d.names.objects (name ∷ []) in
       let more : Grows (own_problem d) q =
-      record { objects = omega (arith, count); arities = λ k below. (below, refl); sorts = omega arith } in
+      record { objects = omega (arith, count); arities = λ k below. (below, refl) } in
       let few : length objects ≤ greatest d.version limit.objects = rw length-append (at-most _ _ full) in let is = r.building in
-      let sorts = no_object_sorts-are q (length objects) (few-objects d.version (length objects) r.version few) in
+      let still = still-sorted d.version _ (length objects) d.sorts d.object_sorts more.objects r.sorts in
+      let sorts = sorts-filled q (length objects) d.object_sorts still.count r.sorts.numbers (few-objects d.version (length objects) few) in
       let begun = begun-kept r objects t right (omega (arith, ap length no_robot, is.standing.one_robot))
       (omega (arith, count, ap length stands))
       (get_or-append d.names.objects (name ∷ []) [] 0 (omega (arith, is.objects_are)) ∙ is.robot_first) in
       let none = no-own (things ++ t ∷ []) (d.own_domain || false) (record d.names { objects = objects }) d.arities d.version d.facts in
       let names = names-more d.version d.names.objects (name ∷ []) r.names.objects single short in
-      assumption (names, carried b q (Some (things ++ t ∷ [])) r more early, begun, sorts, none)
+      assumption (names, carried b q (Some (things ++ t ∷ [])) r more (omega arith) early, begun, sorts, none, still, in-version b r)
 
   -- a name of a room
   room-at : AreInRange b → (name : List ℕ) → has_name name d.roles.rooms ≡ true
@@ -211,7 +255,13 @@ module _ (n : ℕ) (d : Declared) (line : ℕ) (things : List Thing) where
       let roles = roles-kept d.names.objects [] d.names.objects things (things ++ t ∷ []) (standings (t ∷ [])) d.roles
       (sym (append-nil d.names.objects)) (standings-more things t) r.roles in
       let none = no-own (things ++ t ∷ []) (d.own_domain || false) d.names d.arities d.version d.facts in
-      assumption (begun, roles, carried b p (Some (things ++ t ∷ [])) r (alike p p refl refl refl) f.order.after, none)
+      assumption (
+        begun,
+        roles,
+        carried b p (Some (things ++ t ∷ [])) r (alike p p refl refl) (omega arith) f.order.after,
+        none,
+        in-version b r,
+      )
 
 -- ---- where lines stand
 
@@ -276,10 +326,9 @@ module _ (n : ℕ) (d : Declared) where
         (two things))
 
   pub line-kept : (r : AreInRange d) (s : Statement) → IsWellFormed d (line_of s) → Keeps n d s
-  line-kept r (script version) w = λ f. let in_version = in-bounds of_version version f.limits.0 in
-      let same : d.version ≡ version = omega (arith, r.version, in_version.0, in_version.1) in
-      subst (λ v. AreInRange (record d { version = v; own_domain = d.own_domain || false; begun = true })) same
-      (assumption (still-none d r))
+  line-kept r (script version) w = outside _ (λ b. refl) d.block d.things (λ r. script-kept n d r version) r
+  line-kept r (sort name ns) w = alone _ (λ b. refl) (λ t. refl) (λ r. sort-kept n d r name ns) d.things r
+  line-kept r (param name ps) w = λ f. inside-operator n d _ (λ line o. param-kept n d line o name ps) d.block f.order.stands r f
   line-kept r (object ns) w = alone _ (λ b. refl) (λ t. refl) (λ r. object-kept n d r ns) d.things r
   line-kept r (predicate name arity) w = alone _ (λ b. refl) (λ t. refl) (λ r. predicate-kept n d r name arity) d.things r
   line-kept r («axiom» xs) w = alone _ (λ b. refl) (λ t. refl) (λ r. axiom-kept n d r xs w.filled) d.things r
@@ -310,6 +359,7 @@ module _ (n : ℕ) (d : Declared) where
   line-kept r (disturb_rooms turn between es) w = outside _ (λ b. refl) d.block d.things
       (λ r. disturb-rooms-kept n d r turn between es w.filled w.of_script) r
   line-kept r (run name bs) w = outside _ (λ b. refl) d.block d.things (λ r. run-kept n d r name bs w.filled) r
+  line-kept r (duo one other ns) w = outside _ (λ b. refl) d.block d.things (λ r. duo-kept n d r one other ns w.filled) r
   line-kept r facts w = outside _ (λ b. refl) d.block d.things (λ r. facts-kept n d r) r
 
 -- what a line without a fault keeps, all lines keep
@@ -353,23 +403,40 @@ module _ (d : Declared) where
   closed-in-range : (block : Option OpenBlock) (things : Option (List Thing)) → block ≡ None
       → AreInRange (record d { block = block; things = things }) → IsInRange (content_of (record d { block = block; things = things }))
   closed-in-range (Some block) things closed r = cc
-  closed-in-range None None closed r = assumption
+  closed-in-range None None closed r = let within = in-version (record d { block = None; things = None }) r in assumption within
   closed-in-range None (Some things) closed r = let is = r.building in
       let of_things = is-building things is.standing (robots-some things r.block) in let p : Problem = own_problem d in
       let q : Problem = building_problem p.objects p.height p.nodes p.shapes in let rules = building_rules (first_state things) in
       let facts_are = facts-are-atoms (first_state things) of_things.1 in let l = r.problem.valid in
       let some : 1 ≤ p.objects = omega (arith, is.objects_are) in
-      let few_objects = few-objects d.version p.objects r.version r.names.few_objects in
+      let few_objects = few-objects d.version p.objects r.names.few_objects in
       let valid =
       buildings_are_valid p.objects p.height p.nodes p.shapes (some, few_objects) l.height l.nodes l.shapes in
       let laws = All-from_recursion (λ clause. AreNumbered clause.vars (map (λ lit. lit.atom) clause.lits)) (both_ways ∷ []) (refl, tt) in
       let schemas = All-from_recursion (HasShortLists d.version) room_schemas (search leb-true depth 20) in
       let count = sym (ap length is.predicates_are) in let operators = ap length is.operators_are in
       let few = (no-own things true d.names [] d.version (rendering (first_state things))).1 in
-      let atoms = atoms-kept rules q (alike rules q (sym is.objects_are) refl refl) 0 (rendering (first_state things)) facts_are.1 in
-      let moved = commands-moved d.version p q things _ refl (alike p q refl is.arities_are refl) d.commands r.commands in
+      let atoms = atoms-kept rules q (alike rules q (sym is.objects_are) refl) 0 (rendering (first_state things)) facts_are.1 in
+      let moved = commands-moved d.version p q things _ refl (alike p q refl is.arities_are) d.commands r.commands in
       let small = small-arities d.version in
-      assumption (valid, laws, schemas, count, operators, few, atoms, moved, small, facts_are.0, is.standing.earlier, of_things)
+      let no_sorts : 0 ≤ greatest d.version limit.sorts = omega arith in
+      let within = in-version (record d { block = None; things = Some things }) r in
+      assumption (
+        valid,
+        laws,
+        schemas,
+        count,
+        operators,
+        few,
+        atoms,
+        moved,
+        small,
+        facts_are.0,
+        is.standing.earlier,
+        of_things,
+        no_sorts,
+        within,
+      )
 
 -- what lines have declared that leave no block open is in range
 pub declared-in-range : (d : Declared) → AreInRange d → d.block ≡ None → IsInRange (content_of d)

@@ -1,12 +1,14 @@
 -- Each line of a domain, each setting and each command keeps what was declared in range.
 use Rattle.std.proofs.lemmas.List.Kept.{AllPairs-cons}
 use Rattle.px_base.specs.Bounds.{u32_max}
-use Rattle.px_script.proofs.Common.{fold-append, flat_map-append, IsClause, no_schema, ◌≡◌, ◌≢◌, ℕ, suc, ◌+◌, ◌<◌, ◌≤◌, Bool, true, false, not, ◌&&◌, ◌||◌, ◌==◌, List, [], ◌∷◌, ◌++◌, map, length, refl, sym, ap, ◌∙◌, subst, arith, leb-true, length-append, nat_lt, Option, None, Some, is_some, unwrap_or, All, AllPairs, AllByRecursion, slice_index_or, list_any, list_all, flat_map, filter, range_with_len, append_assoc, get_or-append, get_or-map, and_parts, or_parts, or_right, nat_tests, length-map, All-append, All-cons, All-map, All-nil, All-push, both_answers, All-at, All-each, set_of-is_sorted, set_of-members, has_name, IsBoxAt, IsDoorAt, IsRoomAt, first_state, standings, Clause, Problem, atom_set, atom_cmp, atom_cmp-total, atom_cmp-same, IsAtomOf, Thing, EachIndex, NameLists, IsAxiomOf, append-nil, IsSchemaOf, Standing, Atom, Named, SignedAtom, Sign, WrittenRoomEdit, Binding, bare, robot_to, box_to, door_to, is_empty, is_parameter_number, wanted_by_edit, an_object, plain, literals, goals, atom_changes, line_of, object, predicate, «axiom», operator, fact, plan, learn, disturb_atoms, disturb_rooms, run, Statement, show, Bounds, greatest, of_height, of_nodes, of_shapes, of_turn, facts, Command, Plan, Learn, DisturbAtoms, DisturbRooms, Run, Facts, Show, Declared, Roles, operator_here, parameters_here, parameters_of, names_here, number_in, variable_names_of, atom_of, literal_of, clause_of, atom_edit_of, edit_by, room_edit_of, binding_of, after_line, own_problem, is_long, repeats, disturbance_limits, AreNumbered, AreRoomEditsOf, CommandsInRange, HasTurn, IsAmong, IsBindingOf, IsCommandOf, IsEditOf, IsWithin, NamesEarlier, disturbs_after, plan_given, result_given, AreNamesOf, all_disturbs}
-use Rattle.std.specs.Prelude.{replicate}
+use Rattle.px_script.proofs.Common.{fold-append, flat_map-append, IsClause, no_schema, ◌≡◌, ◌≢◌, ℕ, suc, ◌+◌, ◌<◌, ◌≤◌, Bool, true, false, not, ◌&&◌, ◌||◌, ◌==◌, List, [], ◌∷◌, ◌++◌, map, length, refl, sym, ap, ◌∙◌, subst, arith, leb-true, length-append, nat_lt, Option, None, Some, is_some, unwrap_or, All, AllPairs, AllByRecursion, slice_index_or, list_any, list_all, flat_map, filter, range_with_len, append_assoc, get_or-append, get_or-map, and_parts, or_parts, or_right, nat_tests, length-map, All-append, All-cons, All-map, All-nil, All-push, both_answers, All-at, All-each, set_of-is_sorted, set_of-members, has_name, IsBoxAt, IsDoorAt, IsRoomAt, first_state, standings, Clause, Problem, atom_set, atom_cmp, atom_cmp-total, atom_cmp-same, IsAtomOf, Thing, EachIndex, NameLists, IsAxiomOf, append-nil, IsSchemaOf, Standing, Atom, Named, SignedAtom, Sign, WrittenRoomEdit, Binding, bare, robot_to, box_to, door_to, is_empty, is_parameter_number, wanted_by_edit, an_object, plain, literals, goals, atom_changes, line_of, script, object, predicate, «axiom», operator, fact, plan, learn, disturb_atoms, disturb_rooms, run, Statement, show, sort, filled_up, of_version, Bounds, greatest, of_height, of_nodes, of_shapes, of_turn, facts, Command, Plan, Learn, DisturbAtoms, DisturbRooms, Run, Facts, Show, Declared, Roles, operator_here, parameters_here, parameters_of, names_here, number_in, variable_names_of, atom_of, literal_of, clause_of, atom_edit_of, edit_by, room_edit_of, binding_of, after_line, own_problem, is_long, repeats, disturbance_limits, AreNumbered, AreRoomEditsOf, CommandsInRange, HasTurn, IsAmong, IsBindingOf, IsCommandOf, IsEditOf, IsWithin, NamesEarlier, disturbs_after, plan_given, result_given, AreNamesOf, all_disturbs, duo, Duo, of_executor, outside}
+use Rattle.std.specs.Prelude.{replicate, ◌-◌}
 use Rattle.px_script.specs.Items.{last_parameter}
 use Rattle.px_rooms.specs.Changes.{IsAdmitted}
 use Rattle.px_terms.specs.Limits.{most_nodes}
-use Rattle.px_terms.specs.SortLaws.{no_sorts-are, no_object_sorts-are}
+use Rattle.px_terms.specs.SortLaws.{no_sorts-are}
+use Rattle.px_terms.specs.Validity.{AreSortsOf, IsShort}
+use Rattle.std.proofs.lemmas.List.{get_or-replicate, length-replicate}
 use Rattle.px_script.specs.Limits.{default_height, default_nodes, default_shapes}
 use Rattle.px_script.specs.Limits as limit
 use Rattle.px_script.proofs.Atoms.{HasAtoms, numbered, atoms-right, atoms-with, atoms-open, no-variables, empty-length}
@@ -15,7 +17,9 @@ use Rattle.px_script.proofs.Commands.{one-more-result, among-given, among-still,
 use Rattle.px_script.proofs.Faultless.{IsFaultless}
 use Rattle.px_script.proofs.Lists.{by_test, at-most, not-below, each-fails, number-below, number-kept, number-new, known-still, known-last, at-name, is-new, each-more, all-parts, none-filtered}
 use Rattle.px_script.proofs.Problems.{Grows, alike, schema-kept, names-more, of-axiom-kept, atoms-kept, axiom-clause}
-use Rattle.px_script.proofs.States.{AreInRange, AreRolesOf, HasNoDomain}
+use Rattle.px_script.proofs.States.{AreInRange, AreRolesOf, HasNoDomain, IsVersionAfter, OperatorsInRange, SortsInRange}
+use Rattle.px_script.specs.Limits.{by_version}
+use Rattle.px_script.specs.RangeLaws.{version-most}
 
 -- ---- what tests say
 
@@ -28,9 +32,43 @@ some-items [] e = cc
 some-items (x ∷ xs) e = omega arith
 
 -- so many objects are few
-pub few-objects : (version n : ℕ) → version ≡ 1 → n ≤ greatest version limit.objects → n < u32_max
-few-objects version n is few =
-    let most : n ≤ greatest 1 limit.objects = subst (λ v. n ≤ greatest v limit.objects) is few in omega (arith, most)
+pub few-objects : (version n : ℕ) → n ≤ greatest version limit.objects → n < u32_max
+few-objects version n few = let most = version-most version n 256 1024 (omega arith) few in omega (arith, most)
+
+-- a version is one of those that there are, and the first where no line with tokens stood
+pub in-version : (d : Declared) → AreInRange d → IsWithin of_version d.version
+in-version d r = told d.begun d.version r.version
+  where
+    told : (begun : Bool) (version : ℕ) → IsVersionAfter begun version → IsWithin of_version version
+    told false version is = (omega (arith, is), omega (arith, is))
+    told true version is = is
+
+unbegun : (d : Declared) → AreInRange d → d.begun ≡ false → d.version ≡ 1
+unbegun d r = told d.begun d.version r.version
+  where
+    told : (begun : Bool) (version : ℕ) → IsVersionAfter begun version → begun ≡ false → version ≡ 1
+    told false version is early = is
+    told true version is early = cc
+
+-- what may be in version 1 may be in each
+version-more : (old version n a b : ℕ) → old ≡ 1 → a ≤ b → n ≤ by_version old a b → n ≤ by_version version a b
+version-more old version n a b is more few = let least : n ≤ a = subst (λ v. n ≤ by_version v a b) is few in
+    by_test (version == 2) (λ two. rw two (omega (arith, least, more))) (λ one. rw one least)
+
+-- ---- sorts
+
+-- the sorts of so many objects, of which the last may have none
+pub sorts-filled : (problem : Problem) (n : ℕ) (sorts : List ℕ) → length sorts ≤ n → AreSortsOf problem sorts → n < u32_max
+    → (length (filled_up n sorts) ≡ n) × AreSortsOf problem (filled_up n sorts) × IsShort (filled_up n sorts)
+sorts-filled problem n sorts most are few = let none = no_sorts-are problem (n - length sorts) in
+    let count = length-append sorts (replicate (n - length sorts) 0) in
+    let whole : length (filled_up n sorts) ≡ n = omega (arith, most, count, none.0) in
+    (whole, All-append (λ sort. sort ≤ problem.sorts) sorts (replicate (n - length sorts) 0) are none.1, omega (arith, whole, few))
+
+pub still-sorted : (version objects more : ℕ) (sorts : List (List ℕ)) (object_sorts : List ℕ) → objects ≤ more
+    → SortsInRange version objects sorts object_sorts → SortsInRange version more sorts object_sorts
+still-sorted version objects more sorts object_sorts grows r = let count = r.count in
+    record { sort_names = r.sort_names; count = omega (arith, grows, count); numbers = r.numbers }
 
 -- a declaration stands before all commands
 pub no-commands : {A : Type 0} (commands : List A) → not (is_empty commands) ≡ false → length commands ≡ 0
@@ -65,12 +103,12 @@ pub record IsCarried (d : Declared) (q : Problem) (things : Option (List Thing))
   pub commands : CommandsInRange d.version q things (length d.names.results) d.commands
 
 pub carried : (d : Declared) (q : Problem) (things : Option (List Thing)) → AreInRange d → Grows (own_problem d) q
-    → not (is_empty d.commands) ≡ false → IsCarried d q things
-carried d q things r more early = let p = own_problem d in
+    → length d.sorts ≤ q.sorts → not (is_empty d.commands) ≡ false → IsCarried d q things
+carried d q things r more more_sorts early = let p = own_problem d in
     let each : All (IsCommandOf d.version q things (length d.names.results)) d.commands =
     λ k c below. absurd (omega (arith, below, no-commands d.commands early)) in
     record {
-      schemas = λ k below. schema-kept p q more k _ (r.problem.valid.schemas k below);
+      schemas = λ k below. schema-kept p q more more_sorts k _ (r.problem.valid.schemas k below);
       axioms = λ k c below. of-axiom-kept p q more _ (r.problem.valid.axioms k c below);
       no_objects = λ none. r.problem.valid.no_objects (omega (arith, more.objects, none));
       facts = atoms-kept p q more 0 d.facts r.facts.atoms;
@@ -105,17 +143,64 @@ module _ (n : ℕ) (d : Declared) where
   module _ (r : AreInRange alone) where
     pub object-kept : (ns : List (List ℕ)) → Keeps n alone (object ns)
     object-kept ns f = let all = d.names.objects ++ ns in
-        let q : Problem = record p { objects = length all; object_sorts = replicate (length all) 0 } in
+        let q : Problem = record p { objects = length all; object_sorts = filled_up (length all) d.object_sorts } in
         let more : Grows p q = record {
           objects = omega (arith, length-append d.names.objects ns);
           arities = λ k below. (below, refl);
-          sorts = omega arith;
         } in
         let few : length all ≤ greatest d.version limit.objects = rw length-append (at-most _ _ f.limits.0) in
         let names = names-more d.version d.names.objects ns r.names.objects f.single.0 f.short.0 in
         let roles = roles-kept d.names.objects ns all [] [] [] d.roles refl refl r.roles in
-        let sorts = no_object_sorts-are q (length all) (few-objects d.version (length all) r.version few) in
-        assumption (names, carried alone q None r more f.order.after, roles, sorts, owned (record d.names { objects = all }) d.arities)
+        let still = still-sorted d.version _ (length all) d.sorts d.object_sorts more.objects r.sorts in
+        let sorts = sorts-filled q (length all) d.object_sorts still.count r.sorts.numbers (few-objects d.version (length all) few) in
+        assumption (
+          names,
+          carried alone q None r more (omega arith) f.order.after,
+          roles,
+          sorts,
+          still,
+          in-version alone r,
+          owned (record d.names { objects = all }) d.arities,
+        )
+
+    pub sort-kept : (name : List ℕ) (ns : List (List ℕ)) → Keeps n alone (sort name ns)
+    sort-kept name ns f = let all = d.names.objects ++ ns in let sorts = d.sorts ++ name ∷ [] in
+        let new : List ℕ = replicate (length ns) (length d.sorts + 1) in
+        let object_sorts : List ℕ = filled_up (length d.names.objects) d.object_sorts ++ new in
+        let q : Problem = record p {
+          objects = length all;
+          sorts = length sorts;
+          object_sorts = filled_up (length all) object_sorts;
+        } in
+        let count = length-append d.names.objects ns in let sort_count = length-append d.sorts (name ∷ []) in
+        let more : Grows p q = record { objects = omega (arith, count); arities = λ k below. (below, refl) } in
+        let few : length all ≤ greatest d.version limit.objects = rw length-append (at-most _ _ f.limits.0) in
+        let few_sorts : length sorts ≤ greatest d.version limit.sorts = rw length-append (at-most _ _ f.limits.1.0) in
+        let few_now = few-objects d.version (length d.names.objects) r.names.few_objects in
+        let old = sorts-filled p (length d.names.objects) d.object_sorts r.sorts.count r.sorts.numbers few_now in
+        let old_count = old.0 in let new_count = length-replicate (length ns) (length d.sorts + 1) in
+        let whole = length-append (filled_up (length d.names.objects) d.object_sorts) new in
+        let are : SortsInRange d.version (length all) sorts object_sorts = record {
+          sort_names = names-more d.version d.sorts (name ∷ []) r.sorts.sort_names f.single.0 f.short.0;
+          count = omega (arith, count, old_count, new_count, whole);
+          numbers = All-append (λ sort. sort ≤ length sorts) (filled_up (length d.names.objects) d.object_sorts) new
+              (λ k s below. let one = old.1 k s below in omega (arith, one, sort_count))
+              (λ k s below. let one = get_or-replicate (length ns) k (length d.sorts + 1) s (omega (arith, below, new_count)) in
+              omega (arith, one, sort_count));
+        } in
+        let names = names-more d.version d.names.objects ns r.names.objects f.single.1.0 f.short.1.0 in
+        let roles = roles-kept d.names.objects ns all [] [] [] d.roles refl refl r.roles in
+        let filled = sorts-filled q (length all) object_sorts are.count are.numbers (few-objects d.version (length all) few) in
+        assumption (
+          names,
+          carried alone q None r more (omega (arith, sort_count)) f.order.after,
+          roles,
+          filled,
+          are,
+          few_sorts,
+          in-version alone r,
+          owned (record d.names { objects = all }) d.arities,
+        )
 
     pub predicate-kept : (name : List ℕ) (arity : ℕ) → Keeps n alone (predicate name arity)
     predicate-kept name arity f = let all = d.names.predicates ++ name ∷ [] in let arities = d.arities ++ arity ∷ [] in
@@ -123,14 +208,13 @@ module _ (n : ℕ) (d : Declared) where
         let more : Grows p q = record {
           objects = omega arith;
           arities = λ k below. (omega (arith, below, count), get_or-append d.arities (arity ∷ []) 0 k below);
-          sorts = omega arith;
         } in
         let few : length all ≤ 64 = rw length-append (at-most _ _ f.limits.0) in
         let same : length arities ≡ length all = omega (arith, count, length-append d.names.predicates (name ∷ []), r.problem.predicates) in
         let short : length arities < u32_max = omega (arith, same, few) in
         let names = names-more d.version d.names.predicates (name ∷ []) r.names.predicates f.single.0 f.short.0 in
         let small = All-push (λ k. k ≤ greatest d.version limit.arity) d.arities arity r.problem.arities (at-most _ _ f.limits.1.0) in
-        assumption (names, carried alone q None r more f.order.after, small, owned (record d.names { predicates = all }) arities)
+        assumption (names, carried alone q None r more (omega arith) f.order.after, small, in-version alone r, owned (record d.names { predicates = all }) arities)
 
     pub axiom-kept : (xs : List SignedAtom) → (not (is_empty xs) && true) ≡ true → Keeps n alone («axiom» xs)
     axiom-kept xs filled f = let has : HasAtoms (line_of («axiom» xs)) xs = record { atoms = refl; arguments = refl } in
@@ -138,13 +222,13 @@ module _ (n : ℕ) (d : Declared) where
         let count : length c.lits ≡ length xs = length-map xs (literal_of alone vars) in let least = some-items xs filled in
         let most : length xs ≤ 6 = at-most _ _ f.limits.1.0 in
         let atoms = atoms-open alone r xs refl literals refl (atoms-right alone («axiom» xs) xs has f.right) in
-        let all = d.axioms ++ c ∷ [] in let q : Problem = record p { axioms = all } in let more = alike p q refl refl refl in
+        let all = d.axioms ++ c ∷ [] in let q : Problem = record p { axioms = all } in let more = alike p q refl refl in
         let few : length all ≤ 64 = rw length-append (at-most _ _ f.limits.0) in
         let lits = All-map (λ lit. IsAtomOf p (length vars) lit.atom) (literal_of alone vars) xs
         (unmap (atom_of alone vars) (IsAtomOf p (length vars)) xs atoms) in
         let is : IsAxiomOf p c = record { vars = at-most _ _ f.limits.1.1.0; lits = lits } in
         let N : Clause → Type 0 = λ clause. AreNumbered clause.vars (map (λ lit. lit.atom) clause.lits) in
-        let old = carried alone q None r more f.order.after in
+        let old = carried alone q None r more (omega arith) f.order.after in
         let none : q.objects ≡ 0 → All (λ schema. schema.params ≡ 0) d.schemas × All (λ clause. clause.vars ≡ 0) all = λ empty.
         let no = old.no_objects empty in let new = no-variables alone (line_of («axiom» xs)) xs has f.order.early empty in
         (no.0, All-push (λ clause. clause.vars ≡ 0) d.axioms c no.1 new) in
@@ -153,7 +237,7 @@ module _ (n : ℕ) (d : Declared) where
         (axiom-clause p c (omega (arith, count, least), omega (arith, count, most)) is) in
         let in_order = All-push N d.axioms c r.problem.axiom_variables
         (subst (AreNumbered (length vars)) (sym (literal-atoms vars xs)) (numbered alone xs refl)) in
-        assumption (old, axioms, clauses, in_order, owned d.names d.arities)
+        assumption (old, axioms, clauses, in_order, in-version alone r, owned d.names d.arities)
       where
         -- the literals of an axiom are atoms with signs
         literal-atoms : (variables : List (List ℕ)) (xs : List SignedAtom)
@@ -170,7 +254,7 @@ module _ (n : ℕ) (d : Declared) where
         λ none. at-most _ _ f.limits.0 in
         let each = All-each (IsAtomOf p 0) (atom_set new) (λ q there. All-at (IsAtomOf p 0) _ q all
         ((set_of-members atom_cmp atom_cmp-total atom_cmp-same new q).0 there)) in
-        assumption (set_of-is_sorted atom_cmp atom_cmp-total atom_cmp-same new, each, owned d.names d.arities)
+        assumption (in-version alone r, set_of-is_sorted atom_cmp atom_cmp-total atom_cmp-same new, each, owned d.names d.arities)
 
     pub operator-kept : (name : List ℕ) (ps : List (List ℕ)) → Keeps n alone (operator name ps)
     operator-kept name ps f = let all = d.names.operators ++ name ∷ [] in let new = record d.names { operators = all } in
@@ -180,7 +264,7 @@ module _ (n : ℕ) (d : Declared) where
         let none : length d.names.objects ≡ 0 → length ps ≡ 0 =
         λ empty. no-varying ps (is_empty d.names.objects) f.order.early (empty-length d.names.objects empty) in
         let names = names-more d.version d.names.operators (name ∷ []) r.names.operators f.single.0 f.short.0 in
-        search (names, owned new d.arities, no_sorts-are p (length ps), All-nil, leb-true)
+        search (names, in-version alone r, owned new d.arities, no_sorts-are p (length ps), All-nil, leb-true)
       where
         no-varying : (ps : List (List ℕ)) (empty : Bool) → ((false || (not (is_empty ps) || false)) && empty) ≡ false → empty ≡ true
             → length ps ≡ 0
@@ -201,7 +285,31 @@ module _ (n : ℕ) (d : Declared) where
           shapes = unwrap_or wide default_shapes;
         } in
         let most : q.nodes ≤ most_nodes = omega (arith, in_nodes.1) in
-        assumption (still-none top r, in_height, in_nodes, most, in_shapes, carried top q d.things r (alike p q refl refl refl) early)
+        assumption (
+          still-none top r,
+          in_height,
+          in_nodes,
+          most,
+          in_shapes,
+          carried top q d.things r (alike p q refl refl) (omega arith) early,
+          in-version top r,
+        )
+
+    operators-there : (version : ℕ) (things : Option (List Thing)) → OperatorsInRange d.version d.names p things None
+        → OperatorsInRange version d.names p things None
+    operators-there version None is = is
+    operators-there version (Some things) is = is
+
+    -- The version, which stands before all else.
+    pub script-kept : (version : ℕ) → Keeps n top (script version)
+    script-kept version f = let first = unbegun top r f.order.late in let is = in-bounds of_version version f.limits.0 in
+        let few_objects = version-more d.version version _ 256 1024 first (omega arith) r.names.few_objects in
+        let few_facts : d.things ≡ None → length d.facts ≤ greatest version limit.facts =
+        λ none. version-more d.version version _ 512 1024 first (omega arith) (r.facts.few none) in
+        let few_commands = version-more d.version version _ 512 1024 first (omega arith) r.commands.few in
+        let each : All (IsCommandOf version p d.things results) d.commands =
+        λ k c below. absurd (omega (arith, below, no-commands d.commands f.order.after)) in
+        assumption (is, few_objects, few_facts, few_commands, each, still-none top r, operators-there version d.things r.operators)
 
     -- what is declared after a command, with the results and the roles after it
     abbrev given : Command → List (List ℕ) → Roles → Declared
@@ -238,7 +346,7 @@ module _ (n : ℕ) (d : Declared) where
         ∙ given in
         let none : (d.own_domain || false) ≡ false → d.things ≡ None → HasNoDomain (record d.names { results = names }) d.arities =
         λ own none. let old = still-none top r own none in assumption in
-        assumption (each-more NamesEarlier d.commands c Facts r.commands.earlier earlier)
+        assumption (in-version top r, each-more NamesEarlier d.commands c Facts r.commands.earlier earlier)
 
     -- a command that gives no result
     plain-kept : (c : Command) → result_given c ≡ [] → nat_lt (greatest d.version limit.commands) (length d.commands + 1) ≡ false
@@ -262,6 +370,21 @@ module _ (n : ℕ) (d : Declared) where
 
     pub facts-kept : Keeps n top facts
     facts-kept f = plain-kept Facts refl f.limits.0 r.few_disturbs tt tt
+
+    -- two executors in one world
+
+    executors-in : (ns : List ℕ) → list_any (λ n. (outside of_executor n).0) ns ≡ false → All (IsWithin of_executor) ns
+    executors-in ns within = each-fails (λ n. (outside of_executor n).0) (IsWithin of_executor) (λ n e. in-bounds of_executor n e) ns within
+
+    pub duo-kept : (one other : List ℕ) (ns : List ℕ) → (not (is_empty ns) && true) ≡ true → Keeps n top (duo one other ns)
+    duo-kept one other ns filled f =
+        let executors = executors-in ns f.limits.1.0 in let some = some-items ns filled in
+        plain-kept (Duo (number_in one d.names.results) (number_in other d.names.results) ns) refl f.limits.0 r.few_disturbs (
+          known-result one f.known.0,
+          known-result other f.known.1.0,
+          record { some = some; few = at-most _ _ f.limits.1.1.0; executors = executors },
+        )
+        (named-earlier one f.known.0, named-earlier other f.known.1.0)
 
     -- disturbances
 

@@ -111,6 +111,11 @@ names_of [] = Some []
 names_of (name n ∷ rest) = option_map (λ more. n ∷ more) (names_of rest)
 names_of _ = None
 
+abbrev pub numbers_of : List Lexeme → Option (List ℕ)
+numbers_of [] = Some []
+numbers_of (number n ∷ rest) = option_map (λ more. n ∷ more) (numbers_of rest)
+numbers_of _ = None
+
 abbrev pub at_end : {A : Type 0} → A × List Lexeme → Option A
 at_end (a, []) = Some a
 at_end (a, x ∷ xs) = None

@@ -21,14 +21,12 @@ names-more version old ns r new short = record {
 pub record Grows (p q : Problem) : Type 0 where
   pub objects : p.objects ≤ q.objects
   pub arities : (k : ℕ) → k < length p.arities → (k < length q.arities) × (slice_index q.arities k ≡ slice_index p.arities k)
-  pub sorts : p.sorts ≤ q.sorts
 
--- another problem with the same objects, predicates and sorts
-pub alike : (p q : Problem) → p.objects ≡ q.objects → p.arities ≡ q.arities → p.sorts ≡ q.sorts → Grows p q
-alike p q objects arities sorts = record {
+-- another problem with the same objects and predicates
+pub alike : (p q : Problem) → p.objects ≡ q.objects → p.arities ≡ q.arities → Grows p q
+alike p q objects arities = record {
   objects = omega (arith, objects);
   arities = λ k below. rw (sym arities) (below, refl);
-  sorts = omega (arith, sorts);
 }
 
 module _ (p q : Problem) (more : Grows p q) where
@@ -50,9 +48,9 @@ module _ (p q : Problem) (more : Grows p q) where
   patterns-kept vars atoms h =
       λ k d below. (arity-kept _ (h k d below).0, λ j t inner. pattern_term-kept vars _ ((h k d below).1 j t inner))
 
-  pub schema-kept : (place : ℕ) (schema : Schema) → IsSchemaOf p place schema → IsSchemaOf q place schema
-  schema-kept place schema h = let deletes = patterns-kept schema.params schema.del h.del in
-      let sorts : AreSortsOf q schema.param_sorts = λ k d below. let one = h.sorts.1 k d below in omega (arith, one, more.sorts) in
+  pub schema-kept : p.sorts ≤ q.sorts → (place : ℕ) (schema : Schema) → IsSchemaOf p place schema → IsSchemaOf q place schema
+  schema-kept more_sorts place schema h = let deletes = patterns-kept schema.params schema.del h.del in
+      let sorts : AreSortsOf q schema.param_sorts = λ k d below. let one = h.sorts.1 k d below in omega (arith, one, more_sorts) in
       assumption (atoms-kept schema.params schema.pre h.pre, deletes, atoms-kept schema.params schema.add h.add, sorts)
 
   pub of-axiom-kept : (clause : Clause) → IsAxiomOf p clause → IsAxiomOf q clause

@@ -1,14 +1,15 @@
 -- The reader by the table reads exactly the forms of lines: each spelling back, and nothing else.
-use Rattle.px_script.proofs.Common.{◌≡◌, ℕ, Bool, true, false, List, [], ◌∷◌, ◌++◌, map, length, drop, refl, sym, ap, ◌∙◌, subst, append_assoc, append-nil, flat_map-append, Option, None, Some, is_some, codes, AllByRecursion, list_any, flat_map, option_map, option_and_then, IfSome, bytes_eq, if◌then◌else◌, ◌||◌, not-true, and_parts, Lexeme, name, number, SignedAtom, spell, spell_atom, spell_binding, spell_room_edit, open_word, time_word, is_word, Line, line_of, spelling, Declared, has_building, Forms, is_formed, Statement, inside, plain, goals, atom_changes, operator_block, building_block, script, «axiom», pre, delete, add, building, door, end, fact, height, nodes, shapes, disturb_atoms, disturb_rooms, run, facts}
-use Rattle.px_script.specs.Items.{Item, the, amount, amounts, new, declared, listed, known, wanted, atoms, bindings, room_edits, an_object, a_predicate, an_operator, a_parameter, a_room as room_name, a_door as door_name, a_box as box_name, a_plan, a_table}
+use Rattle.px_script.proofs.Common.{◌≡◌, ℕ, Bool, true, false, List, [], ◌∷◌, ◌++◌, map, length, drop, refl, sym, ap, ◌∙◌, subst, append_assoc, append-nil, flat_map-append, Option, None, Some, is_some, codes, AllByRecursion, list_any, flat_map, option_map, option_and_then, IfSome, bytes_eq, if◌then◌else◌, ◌||◌, ◌==◌, not-true, and_parts, Lexeme, name, number, SignedAtom, spell, spell_atom, spell_binding, spell_room_edit, open_word, time_word, is_word, Line, line_of, spelling, Declared, has_building, Forms, is_formed, Statement, inside, plain, goals, atom_changes, operator_block, building_block, script, «axiom», pre, delete, add, building, door, end, fact, height, nodes, shapes, disturb_atoms, disturb_rooms, run, facts, duo}
+use Rattle.px_script.specs.Items.{Item, the, amount, amounts, new, declared, listed, known, wanted, atoms, bindings, room_edits, an_object, a_predicate, an_operator, a_parameter, a_sort, a_room as room_name, a_door as door_name, a_box as box_name, a_plan, a_table}
 use Rattle.px_script.specs.Statements.{room_changes, line, spelling_of, domain, opens, command}
 use Rattle.px_script.specs.declared.kinds.One.{One}
 use Rattle.px_script.specs.declared.kinds.One.TheVariants as one
 use Rattle.px_script.specs.declared.kinds.Last.{Last}
 use Rattle.px_script.specs.declared.kinds.Last.TheVariants as last
-use Rattle.px_script.proofs.Parsing.{names_of, names_at, at_end, all_of, atom_at, binding_at, room_edit_at, which}
-use Rattle.px_script.proofs.Rows.{Row, Entry, chosen, one_of, ones_at, last_at, row_items, entries, entry_among, entry_of, row_of, filled, make_number, make_object, make_predicate, make_operator, make_atoms, make_nothing, make_room, make_door, make_box, make_robot, make_plan, make_learn, make_show, make_disturb, make_run, line_by, line_at, formed_only, formed_line, statement_of, parse, disturb_row}
-use Rattle.px_script.proofs.Forms.{IsWellFormed, well-formed, then-there, map-there, if-there, same_word, there, all-sound, names-again, names-sound, names-at-sound, parameters-again, which-sound, atoms-again, edits-again, bindings-again, atom-sound, binding-sound, room-edit-sound}
+use Rattle.px_script.proofs.Lists.{by_test}
+use Rattle.px_script.proofs.Parsing.{names_of, names_at, at_end, all_of, atom_at, binding_at, room_edit_at, which, numbers_of}
+use Rattle.px_script.proofs.Rows.{Row, Entry, chosen, one_of, ones_at, last_at, row_items, entries, entries_of_all, entries_of_two, is_of, entry_among, entry_of, row_of, filled, make_number, make_object, make_predicate, make_operator, make_atoms, make_nothing, make_room, make_door, make_box, make_robot, make_plan, make_learn, make_show, make_disturb, make_run, make_sort, make_param, line_by, line_at, formed_only, formed_line, statement_of, parse, disturb_row, make_duo}
+use Rattle.px_script.proofs.Forms.{IsWellFormed, well-formed, then-there, map-there, if-there, same_word, there, all-sound, names-again, names-sound, names-at-sound, parameters-again, which-sound, atoms-again, edits-again, bindings-again, atom-sound, binding-sound, room-edit-sound, numbers-again, numbers-sound}
 
 -- ---- what is read by a row is spelled so: once for all words
 
@@ -40,6 +41,8 @@ last-sound (last.Listed kind) xs =
         → IfSome (at_end (ns, after)) (λ ns. xs ≡ spell (listed kind ns) ++ [])
     ends ns [] is = is
     ends ns (y ∷ ys) is = tt
+last-sound (last.Known kind) xs = map-there _ _ (names_of xs) (names-sound xs) (λ ns is. is ∙ sym (append-nil (map name ns)))
+last-sound last.Numbers xs = map-there _ _ (numbers_of xs) (numbers-sound xs) (λ ns is. is ∙ sym (append-nil (map number ns)))
 last-sound last.Atoms xs = map-there _ _ (all_of atom_at xs) (all-sound atom_at spell_atom atom-sound (length xs) xs)
     (λ items is. is ∙ sym (append-nil (flat_map spell_atom items)))
 last-sound last.Bindings xs = map-there _ _ (all_of binding_at xs) (all-sound binding_at spell_binding binding-sound (length xs) xs)
@@ -75,9 +78,44 @@ some-among : (w : List ℕ) (es : List Entry)
 some-among w [] = refl
 some-among w (e ∷ more) = or-some (bytes_eq w e.row.word) e w more (some-among w more)
 
--- the words of version 1 are those of the table
-pub row-is_word : (b : Bool) (w : List ℕ) → is_some (row_of b w) ≡ is_word 1 w
-row-is_word b w = some-among w (entries b)
+-- the word of the row is one of the version's, where there is a row
+abbrev pub has_word : ℕ → Option Row → Bool
+has_word version None = false
+has_word version (Some r) = is_of version r
+
+abbrev among : ℕ → List ℕ → List Entry → Bool
+among version w es = has_word version (option_map (λ e. e.row) (entry_among w es))
+
+or-true : (b : Bool) → (b || true) ≡ true
+or-true true = refl
+or-true false = refl
+
+all-new : (version : ℕ) (w : List ℕ) (es : List Entry) → (version == 2) ≡ true → among version w es
+    ≡ is_some (option_map (λ e. e.row) (entry_among w es))
+all-new version w es two = told (entry_among w es)
+  where
+    told : (o : Option Entry) → has_word version (option_map (λ (e : Entry). e.row) o) ≡ is_some (option_map (λ (e : Entry). e.row) o)
+    told None = refl
+    told (Some e) = ap (λ b. (e.row.since == 1) || b) two ∙ or-true (e.row.since == 1)
+
+none-old : (version : ℕ) (w : List ℕ) (es : List Entry) → (version == 2) ≡ false
+    → AllByRecursion (λ (e : Entry). (e.row.since == 1) ≡ false) es → among version w es ≡ false
+none-old version w [] old new = refl
+none-old version w (e ∷ more) old new = by_test (bytes_eq w e.row.word) (λ same. rw (same, new.0, old) refl)
+    (λ other. rw other (none-old version w more old new.1))
+
+all-old : (version : ℕ) (w : List ℕ) (es more : List Entry) → (version == 2) ≡ false
+    → AllByRecursion (λ (e : Entry). (e.row.since == 1) ≡ true) es → AllByRecursion (λ (e : Entry). (e.row.since == 1) ≡ false) more
+    → among version w (es ++ more) ≡ list_any (bytes_eq w) (map (λ (e : Entry). e.row.word) es)
+all-old version w [] more old first new = none-old version w more old new
+all-old version w (e ∷ es) more old first new = by_test (bytes_eq w e.row.word) (λ same. rw (same, first.0) refl)
+    (λ other. rw other (all-old version w es more old first.1 new))
+
+-- the words of a version are those of the table that it has
+pub row-is_word : (version : ℕ) (b : Bool) (w : List ℕ) → has_word version (row_of b w) ≡ is_word version w
+row-is_word version b w = by_test (version == 2)
+    (λ two. all-new version w (entries b) two ∙ some-among w (entries b) ∙ rw two refl)
+    (λ old. all-old version w (entries_of_all b) entries_of_two old (search depth 60) (search depth 6) ∙ rw old refl)
 
 -- the line of a row is told by its items
 abbrev pub IsMade : Entry → Type 0
@@ -163,6 +201,18 @@ made-run : Makes make_run (line (codes "run") command plain)
 made-run (wanted a_table (n ∷ []) ∷ bindings bs ∷ []) = refl
 made-run _ = tt
 
+made-sort : Makes make_sort (line (codes "sort") domain plain)
+made-sort (declared a_sort (n ∷ []) ∷ declared an_object ns ∷ []) = refl
+made-sort _ = tt
+
+made-param : Makes make_param (line (codes "param") (inside operator_block) plain)
+made-param (wanted a_sort (n ∷ []) ∷ wanted a_parameter ps ∷ []) = refl
+made-param _ = tt
+
+made-duo : Makes make_duo (line (codes "duo") command plain)
+made-duo (wanted a_table (one ∷ []) ∷ wanted a_table (other ∷ []) ∷ amounts ns ∷ []) = refl
+made-duo _ = tt
+
 also : {A B : Type 0} → A → B → A × B
 also a b = (a, b)
 
@@ -172,7 +222,7 @@ all-made b = also (made-number script _ (λ n. refl)) (also made-object (also ma
     (also (made-nothing building _ refl) (also made-room (also made-door (also made-box (also made-robot (also (made-nothing end _ refl)
     (also (made-atoms fact _ (λ xs. refl)) (also (made-number height _ (λ n. refl)) (also (made-number nodes _ (λ n. refl)) (also
     (made-number shapes _ (λ n. refl)) (also made-plan (also made-learn (also made-show (also (made-disturb b) (also made-run (also
-    (made-nothing facts _ refl) tt)))))))))))))))))))))))
+    (made-nothing facts _ refl) (also made-sort (also made-param (also made-duo tt))))))))))))))))))))))))))
 
 -- the row of a word is the row of its own word
 pub has-row : (b : Bool) (w : List ℕ) → IfSome (row_of b w) (λ r. row_of b r.word ≡ Some r)
@@ -182,6 +232,11 @@ has-row b w = told (entry_of b w) refl (among-there IsMade w (entries b) (all-ma
         → IfSome (option_map (λ (e : Entry). e.row) o) (λ r. row_of b r.word ≡ Some r)
     told None found is = tt
     told (Some e) found is = ap (option_map (λ (e : Entry). e.row)) (subst (λ v. entry_of b v ≡ Some e) is.0 found)
+
+-- and that word is the one that was looked for
+pub row-word : (b : Bool) (w : List ℕ) → IfSome (row_of b w) (λ r. w ≡ r.word)
+row-word b w = map-there (λ (r : Row). w ≡ r.word) (λ (e : Entry). e.row) (entry_of b w) (among-there IsMade w (entries b) (all-made b))
+    (λ e is. is.0)
 
 -- ---- each line is read back: its row takes its items, and they make it
 
@@ -193,6 +248,7 @@ line-again d (disturb_atoms turn true xs) formed = rw (not-true (has_building d)
 line-again d (disturb_atoms turn false xs) formed = rw (not-true (has_building d) formed.of_script, atoms-again xs) refl
 line-again d (disturb_rooms turn true es) formed = rw (formed.of_script, edits-again es) refl
 line-again d (disturb_rooms turn false es) formed = rw (formed.of_script, edits-again es) refl
+line-again d (duo one other ns) formed = rw (numbers-again ns) refl
 line-again d (run n bs) formed = rw (bindings-again bs (and_parts _ true formed.filled).0) refl
 line-again d _ formed = search (names-again, atoms-again, parameters-again)
 

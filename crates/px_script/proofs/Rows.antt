@@ -1,6 +1,6 @@
 -- The table of the words: what each line has in which order; a plain reader by the table, and the statement that items are.
-use Rattle.px_script.proofs.Common.{SignedAtom, ℕ, Bool, true, false, List, [], ◌∷◌, ◌++◌, length, drop, Option, None, Some, codes, if◌then◌else◌, ◌||◌, bytes_eq, option_map, option_and_then, Lexeme, name, number, Manner, Place, Line, Declared, has_building, is_formed, Statement, inside, plain, patterns, literals, goals, atom_changes, operator_block, building_block, script, object, predicate, «axiom», operator, pre, delete, add, building, room, door, box, robot, end, fact, height, nodes, shapes, plan, learn, show, disturb_atoms, disturb_rooms, run, facts}
-use Rattle.px_script.specs.Items.{Item, the, amount, amounts, new, declared, listed, known, wanted, atoms, bindings, room_edits, an_object, a_predicate, an_operator, a_parameter, a_room as room_name, a_door as door_name, a_box as box_name, a_plan, a_table}
+use Rattle.px_script.proofs.Common.{SignedAtom, ℕ, Bool, true, false, List, [], ◌∷◌, ◌++◌, length, drop, Option, None, Some, codes, if◌then◌else◌, ◌||◌, ◌==◌, bytes_eq, option_map, option_and_then, Lexeme, name, number, Manner, Place, Line, Declared, has_building, is_formed, Statement, inside, plain, patterns, literals, goals, atom_changes, operator_block, building_block, script, object, predicate, «axiom», operator, pre, delete, add, building, room, door, box, robot, end, fact, height, nodes, shapes, plan, learn, show, disturb_atoms, disturb_rooms, run, facts, sort, param, duo}
+use Rattle.px_script.specs.Items.{Item, the, amount, amounts, new, declared, listed, known, wanted, atoms, bindings, room_edits, an_object, a_predicate, an_operator, a_parameter, a_sort, a_room as room_name, a_door as door_name, a_box as box_name, a_plan, a_table}
 use Rattle.px_script.specs.Statements.{room_changes, line, first, domain, setting, opens, closes, command}
 use Rattle.px_script.specs.declared.kinds.Choice.{Choice}
 use Rattle.px_script.specs.declared.kinds.Choice.TheVariants as choice
@@ -8,17 +8,27 @@ use Rattle.px_script.specs.declared.kinds.One.{One}
 use Rattle.px_script.specs.declared.kinds.One.TheVariants as one
 use Rattle.px_script.specs.declared.kinds.Last.{Last}
 use Rattle.px_script.specs.declared.kinds.Last.TheVariants as last
-use Rattle.px_script.proofs.Parsing.{names_of, names_at, at_end, all_of, atom_at, binding_at, room_edit_at, open_of, time_of, nothing_form}
+use Rattle.px_script.proofs.Parsing.{names_of, names_at, at_end, all_of, atom_at, binding_at, room_edit_at, open_of, time_of, nothing_form, numbers_of}
 
 pub record Row : Type 0 where
   pub word : List ℕ
+  -- the first version that has it
+  pub since : ℕ
   pub place : Place
   pub manner : Manner
   pub ones : List One
   pub last : Last
 
 abbrev pub row : List ℕ → Place → Manner → List One → Last → Row
-row word place manner ones last = record { word = word; place = place; manner = manner; ones = ones; last = last }
+row word place manner ones last = record { word = word; since = 1; place = place; manner = manner; ones = ones; last = last }
+
+-- the row as one that version 2 is the first to have
+abbrev pub newer : Row → Row
+newer r = record r { since = 2 }
+
+-- the version has the row's word
+abbrev pub is_of : ℕ → Row → Bool
+is_of version r = (r.since == 1) || (version == 2)
 
 -- ---- reading by a row
 
@@ -46,6 +56,8 @@ abbrev pub last_at : Last → List Lexeme → Option (List Item)
 last_at last.Nothing lexemes = nothing_form [] lexemes
 last_at (last.New kind) lexemes = option_map (λ ns. declared kind ns ∷ []) (names_of lexemes)
 last_at (last.Listed kind) lexemes = option_map (λ ns. listed kind ns ∷ []) (option_and_then at_end (names_at lexemes))
+last_at (last.Known kind) lexemes = option_map (λ ns. wanted kind ns ∷ []) (names_of lexemes)
+last_at last.Numbers lexemes = option_map (λ ns. amounts ns ∷ []) (numbers_of lexemes)
 last_at last.Atoms lexemes = option_map (λ xs. atoms xs ∷ []) (all_of atom_at lexemes)
 last_at last.Bindings lexemes = option_map (λ bs. bindings bs ∷ []) (all_of binding_at lexemes)
 last_at last.RoomEdits lexemes = option_map (λ es. room_edits es ∷ []) (all_of room_edit_at lexemes)
@@ -127,6 +139,18 @@ abbrev pub make_run : List Item → Option Statement
 make_run (wanted a_table (n ∷ []) ∷ bindings bs ∷ []) = Some (run n bs)
 make_run _ = None
 
+abbrev pub make_sort : List Item → Option Statement
+make_sort (declared a_sort (n ∷ []) ∷ declared an_object ns ∷ []) = Some (sort n ns)
+make_sort _ = None
+
+abbrev pub make_param : List Item → Option Statement
+make_param (wanted a_sort (n ∷ []) ∷ wanted a_parameter ps ∷ []) = Some (param n ps)
+make_param _ = None
+
+abbrev pub make_duo : List Item → Option Statement
+make_duo (wanted a_table (one ∷ []) ∷ wanted a_table (other ∷ []) ∷ amounts ns ∷ []) = Some (duo one other ns)
+make_duo _ = None
+
 abbrev pub disturb_manner : Bool → Manner
 disturb_manner true = room_changes
 disturb_manner false = atom_changes
@@ -139,9 +163,9 @@ disturb_last false = last.Atoms
 abbrev pub disturb_row : Bool → Row
 disturb_row b = row (codes "disturb") command (disturb_manner b) (one.Number ∷ one.Word choice.Time ∷ []) (disturb_last b)
 
--- the words, of a script with or without a building so far
-abbrev pub entries : Bool → List Entry
-entries b =
+-- the words of all versions, of a script with or without a building so far
+abbrev pub entries_of_all : Bool → List Entry
+entries_of_all b =
     entry (row (codes "script") first plain (one.Number ∷ []) last.Nothing) (make_number script)
     ∷ entry (row (codes "object") domain plain [] (last.New an_object)) make_object
     ∷ entry (row (codes "predicate") domain plain (one.New a_predicate ∷ one.Number ∷ []) last.Nothing) make_predicate
@@ -168,6 +192,16 @@ entries b =
     ∷ entry (row (codes "run") command plain (one.Known a_table ∷ []) last.Bindings) make_run
     ∷ entry (row (codes "facts") command plain [] last.Nothing) (make_nothing facts)
     ∷ []
+
+-- those that only version 2 has
+abbrev pub entries_of_two : List Entry
+entries_of_two = entry (newer (row (codes "sort") domain plain (one.New a_sort ∷ []) (last.New an_object))) make_sort
+    ∷ entry (newer (row (codes "param") (inside operator_block) plain (one.Known a_sort ∷ []) (last.Known a_parameter))) make_param
+    ∷ entry (newer (row (codes "duo") command plain (one.Known a_table ∷ one.Known a_table ∷ []) last.Numbers)) make_duo
+    ∷ []
+
+abbrev pub entries : Bool → List Entry
+entries b = entries_of_all b ++ entries_of_two
 
 abbrev pub entry_among : List ℕ → List Entry → Option Entry
 entry_among w [] = None

@@ -1,6 +1,6 @@
 -- What the lines so far keep: that what they have declared is in range. No part of what a script is, but of how that is shown.
 use Rattle.px_script.specs.Limits as limit
-use Rattle.px_script.proofs.Common.{greatest, ◌≡◌, ◌≤◌, ◌+◌, ℕ, true, false, List, [], length, take, Option, None, Some, All, IfSome, EachIndex, is_some, fold, slice_index_or, unwrap_or, flat_map, list_any, NameLists, has_name, IsBoxAt, IsDoorAt, IsRoomAt, StandsRight, robot_rooms, standings, IsSchemaOf, Problem, Thing, Command, Declared, OpenOperator, Roles, operator_here, number_in, block_here, predicate_names, predicate_arities, operator_names, Block, building_block, is_robot, own_problem, NamesInRange, ProblemInRange, FactsInRange, CommandsInRange, HasShortLists, IsAmong, IsThingAfter, plan_given, disturbs_after, robot_name}
+use Rattle.px_script.proofs.Common.{greatest, Bool, IsWithin, of_version, AreNamesOf, ◌≡◌, ◌≤◌, ◌+◌, ℕ, true, false, List, [], length, take, Option, None, Some, All, IfSome, EachIndex, is_some, fold, slice_index_or, unwrap_or, flat_map, list_any, NameLists, has_name, IsBoxAt, IsDoorAt, IsRoomAt, StandsRight, robot_rooms, standings, IsSchemaOf, Problem, Thing, Command, Declared, OpenOperator, Roles, operator_here, number_in, block_here, predicate_names, predicate_arities, operator_names, Block, building_block, is_robot, own_problem, NamesInRange, ProblemInRange, FactsInRange, CommandsInRange, HasShortLists, IsAmong, IsThingAfter, plan_given, disturbs_after, robot_name}
 use Rattle.px_world.specs.declared.thing.Thing.TheVariants.{Room}
 
 -- The operator is in range, and has the number that its schema will have.
@@ -59,8 +59,20 @@ abbrev pub SuitsBlock : Option Block → Option (List Thing) → Type 0
 SuitsBlock (Some building_block) things = is_some things ≡ true
 SuitsBlock _ things = IfSome things (λ things. list_any is_robot things ≡ true)
 
+-- Only the first line with tokens gives a version.
+abbrev pub IsVersionAfter : Bool → ℕ → Type 0
+IsVersionAfter false version = version ≡ 1
+IsVersionAfter true version = IsWithin of_version version
+
+-- The sorts have names, and the sorts of objects are among them; no more objects have one than there are.
+pub record SortsInRange (version objects : ℕ) (sorts : List (List ℕ)) (object_sorts : List ℕ) : Type 0 where
+  pub sort_names : AreNamesOf version sorts
+  pub count : length object_sorts ≤ objects
+  pub numbers : All (λ sort. sort ≤ length sorts) object_sorts
+
 pub record AreInRange (d : Declared) : Type 0 where
-  pub version : d.version ≡ 1
+  pub version : IsVersionAfter d.begun d.version
+  pub sorts : SortsInRange d.version (length d.names.objects) d.sorts d.object_sorts
   pub names : NamesInRange d.version d.names
   pub problem : ProblemInRange d.version d.names (own_problem d)
   pub operators : OperatorsInRange d.version d.names (own_problem d) d.things (operator_here d.block)

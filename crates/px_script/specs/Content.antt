@@ -1,9 +1,8 @@
 -- What a script is about: what its lines declared, with the limits that they leave at their defaults.
 use Rattle.std.specs.Prelude.{ℕ, List, length, Option, None, Some, unwrap_or}
-use Rattle.px_terms.specs.Problems.{problem_without_sorts}
-use Rattle.px_script.specs.Common.{NameLists, building_problem, first_state, rendering, Atom, Problem, Thing}
+use Rattle.px_script.specs.Common.{NameLists, building_problem, first_state, rendering, Atom, Clause, Problem, Schema, Thing}
 use Rattle.px_script.specs.Commands.{Command}
-use Rattle.px_script.specs.Declarations.{Declared}
+use Rattle.px_script.specs.Declarations.{Declared, filled_up}
 use Rattle.px_script.specs.Limits.{default_height, default_nodes, default_shapes}
 
 pub record ScriptValue : Type 0 where
@@ -14,10 +13,26 @@ pub record ScriptValue : Type 0 where
   pub building : Option (List Thing)
   pub commands : List Command
 
--- the problem by the script's own axioms and operators
+-- the problem with these parts, whose objects have these sorts up to the last that has one; its search goes by the number of moves alone
+abbrev pub problem_with : ℕ → List ℕ → List Clause → List Schema → ℕ → ℕ → ℕ → ℕ → List ℕ → Problem
+problem_with objects arities axioms schemas height nodes shapes sorts object_sorts = record {
+  objects = objects;
+  arities = arities;
+  axioms = axioms;
+  schemas = schemas;
+  height = height;
+  nodes = nodes;
+  shapes = shapes;
+  sorts = sorts;
+  object_sorts = filled_up objects object_sorts;
+  weight = 0;
+}
+
+-- the problem by the script's own sorts, axioms and operators
 abbrev pub own_problem : Declared → Problem
-own_problem d = problem_without_sorts (length d.names.objects) d.arities d.axioms d.schemas
+own_problem d = problem_with (length d.names.objects) d.arities d.axioms d.schemas
     (unwrap_or d.height default_height) (unwrap_or d.nodes default_nodes) (unwrap_or d.shapes default_shapes)
+    (length d.sorts) d.object_sorts
 
 -- A building has the axiom and the operators of every building, and the facts of its first state (`px_rooms`).
 abbrev pub problem_of : Problem → Option (List Thing) → Problem

@@ -1,6 +1,6 @@
 -- What the lines so far have declared, and what a line adds.
-use Rattle.std.specs.Prelude.{ℕ, ◌+◌, Bool, true, false, List, [], ◌∷◌, ◌++◌, map, length, Option, None, Some, is_some, position, unwrap_or, if◌then◌else◌, fold, ◌||◌}
-use Rattle.std.specs.List.{flat_map}
+use Rattle.std.specs.Prelude.{ℕ, ◌+◌, ◌-◌, Bool, true, false, List, [], ◌∷◌, ◌++◌, map, length, replicate, Option, None, Some, is_some, position, unwrap_or, if◌then◌else◌, fold, ◌||◌, slice_index, slice_index_or}
+use Rattle.std.specs.List.{flat_map, range_with_len}
 use Rattle.std.specs.Option.{option_map}
 use Rattle.std.specs.Str.{bytes_eq}
 use Rattle.px_terms.specs.Problems.{schema_without_sorts}
@@ -9,8 +9,8 @@ use Rattle.px_world.specs.declared.edits.AtomEdit.TheVariants as atom_edit
 use Rattle.px_world.specs.declared.edits.RoomEdit.TheVariants as room_edit
 use Rattle.px_world.specs.declared.thing.Thing.TheVariants as thing
 use Rattle.px_script.specs.Items.{Named, Argument, SignedAtom, Sign, WrittenRoomEdit, Binding, named, open_variable, anything, bare, added, robot_to, box_to, door_to, declared_in, an_object, a_predicate, an_operator, a_result, a_parameter, a_sort, a_room, a_door, a_box, a_plan, a_table}
-use Rattle.px_script.specs.Statements.{Statement, Line, Place, Block, line_of, domain, opens, operator_block, building_block, table_steps, table_rows, script, object, predicate, «axiom», operator, pre, delete, add, building, room, door, box, robot, end, fact, height, nodes, shapes, plan, learn, show, disturb_atoms, disturb_rooms, run, facts}
-use Rattle.px_script.specs.Commands.{Command, Plan, Learn, Show, DisturbAtoms, DisturbRooms, Run, Facts}
+use Rattle.px_script.specs.Statements.{Statement, Line, Place, Block, line_of, domain, opens, operator_block, building_block, table_steps, table_rows, script, object, predicate, «axiom», operator, pre, delete, add, building, room, door, box, robot, end, fact, height, nodes, shapes, plan, learn, show, disturb_atoms, disturb_rooms, run, facts, sort, param, duo}
+use Rattle.px_script.specs.Commands.{Command, Plan, Learn, Show, DisturbAtoms, DisturbRooms, Run, Facts, Duo}
 
 -- the operator whose block is open: its parameters' names, and its schema so far
 pub record OpenOperator : Type 0 where
@@ -44,8 +44,9 @@ pub record Declared : Type 0 where
   pub version : ℕ
   pub names : NameLists
   pub roles : Roles
-  -- the sorts, which only version 2 has
+  -- the sorts, which only version 2 has, and the sort of each object up to the last that has one; 0 is no sort
   pub sorts : List (List ℕ)
+  pub object_sorts : List ℕ
   pub arities : List ℕ
   pub axioms : List Clause
   pub schemas : List Schema
@@ -71,6 +72,7 @@ nothing_declared = record {
   names = no_names;
   roles = record { rooms = []; doors = []; boxes = []; plans = []; tables = [] };
   sorts = [];
+  object_sorts = [];
   arities = [];
   axioms = [];
   schemas = [];
@@ -243,6 +245,24 @@ close_block d = record d { schemas = d.schemas ++ schema_closed (operator_here d
 abbrev pub open_block : ℕ → BlockKind → Declared → Declared
 open_block n kind d = record d { block = Some (record { line = n; kind = kind }) }
 
+-- a list of sorts with no sort for each that is past its end, up to this many
+abbrev pub filled_up : ℕ → List ℕ → List ℕ
+filled_up n sorts = sorts ++ replicate (n - length sorts) 0
+
+-- the sort of each object
+abbrev pub object_sorts_here : Declared → List ℕ
+object_sorts_here d = filled_up (length d.names.objects) d.object_sorts
+
+-- the sorts of the parameters of these names, where some of them get this one
+abbrev pub with_sort : ℕ → List (List ℕ) → List (List ℕ) → List ℕ → List ℕ
+with_sort s ps names sorts =
+    map (λ k. if has_name (slice_index_or names k []) ps then s else slice_index sorts k) (range_with_len 0 (length names))
+
+abbrev pub give_sort : ℕ → List (List ℕ) → BlockKind → BlockKind
+give_sort s ps (of_operator o) =
+    of_operator (record o { schema = record o.schema { param_sorts = with_sort s ps o.parameters o.schema.param_sorts } })
+give_sort s ps kind = kind
+
 -- the building with one more thing
 abbrev pub with_thing : Thing → Declared → Declared
 with_thing thing d = record d { things = option_map (λ things. things ++ thing ∷ []) d.things }
@@ -297,7 +317,11 @@ declares n d (show m) = with_command (Show (number_in m d.names.results)) d
 declares n d (disturb_atoms turn between xs) = with_disturbance (DisturbAtoms turn between (map (atom_edit_of d) xs)) d
 declares n d (disturb_rooms turn between es) = with_disturbance (DisturbRooms turn between (map (room_edit_of d) es)) d
 declares n d (run m bs) = record (with_command (Run (number_in m d.names.results) (map (binding_of d) bs)) d) { disturbs = 0 }
+declares n d (duo one other ns) = with_command (Duo (number_in one d.names.results) (number_in other d.names.results) ns) d
 declares n d facts = with_command Facts d
+declares n d (sort m ns) = record d { object_sorts = object_sorts_here d ++ replicate (length ns) (length d.sorts + 1) }
+declares n d (param m ps) =
+    record d { block = option_map {T = OpenBlock} (λ block. record block { kind = give_sort (number_in m d.sorts + 1) ps block.kind }) d.block }
 
 -- what a line without a fault leaves, where it is line number n
 abbrev pub after_line : ℕ → Declared → Statement → Declared

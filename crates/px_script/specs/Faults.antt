@@ -1,15 +1,15 @@
 -- Which lines are refused, and why: the causes of all lines, in their order.
-use Rattle.std.specs.Prelude.{◌≡◌, ◌⊎◌, ℕ, ◌+◌, Bool, false, List, [], ◌∷◌, ◌++◌, map, length, Option, None, Some, is_some, if◌then◌else◌, ◌||◌, ◌==◌, nat_lt}
+use Rattle.std.specs.Prelude.{◌≡◌, ◌⊎◌, ℕ, ◌+◌, Bool, false, List, [], ◌∷◌, ◌++◌, map, length, Option, None, Some, is_some, if◌then◌else◌, ◌||◌, ◌==◌, nat_lt, not, slice_index}
 use Rattle.std.specs.List.{list_any, filter}
 use Rattle.std.specs.Str.{bytes_eq}
 use Rattle.px_script.specs.Common.{Schema, atom_set}
 use Rattle.px_script.specs.Items.{SignedAtom, Binding}
-use Rattle.px_script.specs.Statements.{Statement, line_of, script, object, predicate, «axiom», operator, pre, delete, add, building, room, door, box, robot, end, fact, height, nodes, shapes, plan, learn, show, disturb_atoms, disturb_rooms, run, facts}
+use Rattle.px_script.specs.Statements.{Statement, line_of, script, object, predicate, «axiom», operator, pre, delete, add, building, room, door, box, robot, end, fact, height, nodes, shapes, plan, learn, show, disturb_atoms, disturb_rooms, run, facts, sort, param, duo}
 use Rattle.px_script.specs.Limits as limit
-use Rattle.px_script.specs.Limits.{Limit, Bounds, greatest, number_of, number_of_numbers, of_version, of_height, of_nodes, of_shapes, of_turn}
-use Rattle.px_script.specs.Declarations.{Declared, OpenOperator, operator_here, has_building, variable_names_of, atom_of}
+use Rattle.px_script.specs.Limits.{Limit, Bounds, greatest, number_of, number_of_numbers, of_version, of_height, of_nodes, of_shapes, of_turn, of_executor}
+use Rattle.px_script.specs.Declarations.{Declared, OpenOperator, operator_here, has_building, number_in, variable_names_of, atom_of}
 use Rattle.px_script.specs.Stages.{Stage, whole_language, is_unbuilt}
-use Rattle.px_script.specs.Causes.{is_out_of_order, has_unknown_name, repeats_name, has_wrong_arity, is_unbound, has_long_name, has_robot}
+use Rattle.px_script.specs.Causes.{is_out_of_order, has_unknown_name, repeats_name, has_wrong_arity, is_unbound, has_long_name, has_robot, repeats}
 
 pub record Refusal : Type 0 where
   pub code : ℕ
@@ -18,6 +18,15 @@ pub record Refusal : Type 0 where
 -- some parameter is bound more than once
 abbrev pub binds_twice : List Binding → Bool
 binds_twice bs = list_any (λ b. nat_lt 1 (length (filter (λ other. other.parameter == b.parameter) bs))) bs
+
+-- the parameter of the open operator has a sort
+abbrev pub has_sort : Option OpenOperator → List ℕ → Bool
+has_sort None p = false
+has_sort (Some o) p = not (slice_index o.schema.param_sorts (number_in p o.parameters) == 0)
+
+-- a parameter that has a sort, or stands more than once
+abbrev pub sorts_twice : Declared → List (List ℕ) → Bool
+sorts_twice d ps = list_any (has_sort (operator_here d.block)) ps || repeats [] ps
 
 -- the duplicates of single words
 abbrev pub repeats_itself : Declared → Statement → Bool
@@ -28,6 +37,7 @@ repeats_itself d (height limit) = is_some d.height
 repeats_itself d (nodes limit) = is_some d.nodes
 repeats_itself d (shapes limit) = is_some d.shapes
 repeats_itself d (run n bs) = binds_twice bs
+repeats_itself d (param n ps) = sorts_twice d ps
 repeats_itself d _ = false
 
 abbrev pub has_duplicate : Declared → Statement → Bool
@@ -44,6 +54,10 @@ over d limit n = (nat_lt (greatest d.version limit) n, number_of limit)
 
 abbrev pub outside : Bounds → ℕ → Bool × ℕ
 outside bounds n = (nat_lt n bounds.least || nat_lt bounds.most n, number_of_numbers)
+
+-- some number is outside the bounds
+abbrev pub any_outside : Bounds → List ℕ → Bool × ℕ
+any_outside bounds ns = (list_any (λ n. (outside bounds n).0) ns, number_of_numbers)
 
 abbrev pub one_more_object : Declared → Bool × ℕ
 one_more_object d = over d limit.objects (length d.names.objects + 1)
@@ -81,7 +95,10 @@ own_limits d (show n) = one_more_command d ∷ []
 own_limits d (disturb_atoms turn between xs) = disturbance_limits d turn (length xs)
 own_limits d (disturb_rooms turn between es) = disturbance_limits d turn (length es)
 own_limits d (run n bs) = one_more_command d ∷ []
+own_limits d (duo one other ns) = one_more_command d ∷ any_outside of_executor ns ∷ over d limit.events (length ns) ∷ []
 own_limits d facts = one_more_command d ∷ []
+own_limits d (sort n ns) = over d limit.objects (length d.names.objects + length ns) ∷ over d limit.sorts (length d.sorts + 1) ∷ []
+own_limits d (param n ps) = []
 own_limits d building = []
 own_limits d (robot r) = []
 own_limits d end = []

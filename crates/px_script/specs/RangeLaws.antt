@@ -1,6 +1,6 @@
--- For what is read, being in range is a fact with one proof at most, so that a type can keep it.
-use Rattle.std.proofs.Common.{ap, subst}
-use Rattle.std.specs.Prelude.{◌≡◌, ℕ, Bool, List, Option, None, Some}
+-- For what is read, being in range is a fact with one proof at most, so that a type can keep it. What may be in a version.
+use Rattle.std.proofs.Common.{ap, subst, arith}
+use Rattle.std.specs.Prelude.{◌≡◌, ◌≤◌, ◌==◌, ℕ, Bool, true, false, List, Option, None, Some, if◌then◌else◌}
 use Rattle.std.proofs.Props.{props}
 use mathlib.Core.Sum.{⊎_set}
 use Rattle.px_rooms.specs.declared.standing.Standing.{Standing}
@@ -12,7 +12,16 @@ use Rattle.px_world.specs.declared.edits.RoomEdit.TheVariants as room_edit
 use Rattle.px_world.specs.declared.thing.Thing.TheVariants as thing
 use Rattle.px_script.specs.Commands.{Command, Plan, DisturbRooms}
 use Rattle.px_script.specs.Content.{ScriptValue}
+use Rattle.px_script.specs.Limits.{by_version}
 use Rattle.px_script.specs.Ranges.{IsEditOf, IsThingAfter, AreRoomEditsOf, IsCommandOf, NamesEarlier, IsInRange}
+
+-- what may be in some version may be in the last
+pub version-most : (version n a b : ℕ) → a ≤ b → n ≤ by_version version a b → n ≤ b
+version-most version n a b more few = told (version == 2) few
+  where
+    told : (two : Bool) → n ≤ (if two then b else a) → n ≤ b
+    told true few = few
+    told false few = omega (arith, few, more)
 
 ruleset sums = (⊎_set, props)
 

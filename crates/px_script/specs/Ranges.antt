@@ -6,8 +6,8 @@ use Rattle.px_world.specs.declared.edits.AtomEdit.TheVariants as atom_edit
 use Rattle.px_world.specs.declared.thing.Thing.TheVariants.{Room, Door, Box, Robot}
 use Rattle.px_script.specs.Items.{last_parameter}
 use Rattle.px_script.specs.Limits as limit
-use Rattle.px_script.specs.Limits.{Bounds, greatest, of_nodes, of_turn}
-use Rattle.px_script.specs.Commands.{Command, Plan, Learn, Show, DisturbAtoms, DisturbRooms, Run, Facts}
+use Rattle.px_script.specs.Limits.{Bounds, greatest, of_nodes, of_turn, of_version, of_executor}
+use Rattle.px_script.specs.Commands.{Command, Plan, Learn, Show, DisturbAtoms, DisturbRooms, Run, Facts, Duo}
 use Rattle.px_script.specs.Declarations.{operator_names, predicate_names}
 use Rattle.px_script.specs.Content.{ScriptValue}
 use Rattle.px_script.specs.Stages.{Stage, is_built}
@@ -61,6 +61,7 @@ pub record ProblemInRange (version : ℕ) (names : NameLists) (problem : Problem
   pub arities : All (λ n. n ≤ greatest version limit.arity) problem.arities
   pub axiom_variables : All (λ clause. AreNumbered clause.vars (map (λ lit. lit.atom) clause.lits)) problem.axioms
   pub short_lists : All (HasShortLists version) problem.schemas
+  pub few_sorts : problem.sorts ≤ greatest version limit.sorts
 
 -- the facts
 pub record FactsInRange (version : ℕ) (problem : Problem) (building : Option (List Thing)) (facts : List Atom) : Type 0 where
@@ -114,6 +115,12 @@ pub record IsGoalOf (version : ℕ) (problem : Problem) (goal : List Atom) (vars
 abbrev pub IsBindingOf : Problem → ℕ × ℕ → Type 0
 IsBindingOf problem binding = (1 ≤ binding.0) × (binding.0 ≤ last_parameter) × (binding.1 < problem.objects)
 
+-- There is an event, and there are not too many; each is of one of the two executors.
+pub record AreEventsOf (version : ℕ) (events : List ℕ) : Type 0 where
+  pub some : 1 ≤ length events
+  pub few : length events ≤ greatest version limit.events
+  pub executors : All (IsWithin of_executor) events
+
 -- The command's atoms and objects are the problem's, and its names are among the given number of results. With a building its
 -- edits are of rooms, and without one of atoms. No parameter is bound twice.
 abbrev pub IsCommandOf : ℕ → Problem → Option (List Thing) → ℕ → Command → Type 0
@@ -126,6 +133,7 @@ IsCommandOf version problem building results (DisturbRooms turn between edits) =
     HasTurn version turn (length edits) × AreRoomEditsOf building edits
 IsCommandOf version problem building results (Run name bindings) =
     (name < results) × All (IsBindingOf problem) bindings × AllPairs (λ one other. one.0 ≢ other.0) bindings
+IsCommandOf version problem building results (Duo first second events) = (first < results) × (second < results) × AreEventsOf version events
 IsCommandOf version problem building results Facts = Unit {0}
 
 -- the result that a command gives, by its number
@@ -147,6 +155,8 @@ abbrev pub NamesEarlier : List Command → Command → Type 0
 NamesEarlier before (Learn name source) = IsAmong (flat_map plan_given before) source
 NamesEarlier before (Show name) = IsAmong (flat_map result_given before) name
 NamesEarlier before (Run name bindings) = IsAmong (flat_map result_given before) name
+NamesEarlier before (Duo first second events) =
+    IsAmong (flat_map result_given before) first × IsAmong (flat_map result_given before) second
 NamesEarlier before _ = Unit {0}
 
 -- the disturbances since the last run
@@ -172,7 +182,7 @@ pub record CommandsInRange (version : ℕ) (problem : Problem) (building : Optio
 -- The problem is valid, each of its numbers has a name, and the facts and commands are over the problem's numbers. All is within the
 -- limits. That each name is a name by `IsName` is no part of this: `Names` of px_names keeps that.
 pub record IsInRange (script : ScriptValue) : Type 0 where
-  pub version : script.version ≡ 1
+  pub version : IsWithin of_version script.version
   pub names : NamesInRange script.version script.names
   pub problem : ProblemInRange script.version script.names script.problem
   pub operators : length script.names.operators ≡ length script.problem.schemas
@@ -186,6 +196,7 @@ word_of (Plan name goal vars) = codes "plan"
 word_of (Learn name source) = codes "learn"
 word_of (Show name) = codes "show"
 word_of (Run name bindings) = codes "run"
+word_of (Duo first second events) = codes "duo"
 word_of (DisturbAtoms turn between edits) = codes "disturb"
 word_of (DisturbRooms turn between edits) = codes "disturb"
 word_of Facts = codes "facts"

@@ -1,20 +1,20 @@
 -- How much of the language is built.
-use Rattle.std.specs.Prelude.{ℕ, Bool, List, not}
+use Rattle.std.specs.Prelude.{ℕ, Bool, List, [], ◌∷◌, ◌++◌, codes, not}
 use Rattle.px_script.specs.Common.{has_name}
-use Rattle.px_script.specs.Limits.{words_of_all}
+use Rattle.px_script.specs.Limits.{words, words_of_all}
 use Rattle.px_script.specs.Statements.{Statement, line_of}
 
 -- the words that are built
 abbrev pub Stage : Type 0
 Stage = List (List ℕ)
 
--- the whole of version 1
+-- the whole of it, as far as it is described
 abbrev pub whole_language : Stage
-whole_language = words_of_all
+whole_language = words 2
 
--- what is built now: the whole of it
+-- what is built now: the whole of version 1, sorts, and two executors in one world
 abbrev pub stage_now : Stage
-stage_now = whole_language
+stage_now = words_of_all ++ codes "sort" ∷ codes "param" ∷ codes "duo" ∷ []
 
 abbrev pub is_built : Stage → List ℕ → Bool
 is_built stage word = has_name word stage

@@ -2,7 +2,7 @@
 use Rattle.std.specs.Prelude.{ℕ, Bool, true, false, List, [], ◌∷◌, codes}
 use Rattle.std.specs.List.{flat_map}
 use Rattle.px_script.specs.Lexemes.{Lexeme, name}
-use Rattle.px_script.specs.Items.{Item, SignedAtom, WrittenRoomEdit, Binding, the, amount, new, declared, listed, known, atoms, bindings, room_edits, an_object, a_predicate, an_operator, a_parameter, a_room, a_door, a_box, a_plan, a_table, spell, open_word}
+use Rattle.px_script.specs.Items.{Item, SignedAtom, WrittenRoomEdit, Binding, the, amount, amounts, new, declared, listed, known, wanted, atoms, bindings, room_edits, an_object, a_predicate, an_operator, a_parameter, a_sort, a_room, a_door, a_box, a_plan, a_table, spell, open_word}
 -- what a block is of, where a line stands, and what its atoms may be
 pub use Rattle.px_script.specs.declared.kinds.Block.{Block}
 pub use Rattle.px_script.specs.declared.kinds.Block.TheVariants.{Operator as operator_block, Building as building_block, TableSteps as table_steps, TableRows as table_rows}
@@ -33,6 +33,10 @@ pub data Statement : Type 0 where
   disturb_rooms : ℕ → Bool → List WrittenRoomEdit → Statement
   run : List ℕ → List Binding → Statement
   facts : Statement
+  -- These stand only in version 2: a sort and its objects; a sort and the parameters that have it.
+  sort param : List ℕ → List (List ℕ) → Statement
+  -- two tables, and the numbers of whoever is next
+  duo : List ℕ → List ℕ → List ℕ → Statement
 
 pub record Line : Type 0 where
   pub word : List ℕ
@@ -76,6 +80,9 @@ line_of (disturb_rooms turn between es) =
     line (codes "disturb") command room_changes (amount turn ∷ the (time_word between) ∷ room_edits es ∷ [])
 line_of (run n bs) = line (codes "run") command plain (known a_table n ∷ bindings bs ∷ [])
 line_of facts = line (codes "facts") command plain []
+line_of (sort n ns) = line (codes "sort") domain plain (new a_sort n ∷ declared an_object ns ∷ [])
+line_of (duo one other ns) = line (codes "duo") command plain (known a_table one ∷ known a_table other ∷ amounts ns ∷ [])
+line_of (param n ps) = line (codes "param") (inside operator_block) plain (known a_sort n ∷ wanted a_parameter ps ∷ [])
 
 -- the lexemes of a line
 abbrev pub spelling_of : Line → List Lexeme

@@ -96,6 +96,20 @@ pub record WorkedScripts : Type 0 where
         building = Some (thing.Room ∷ thing.Room ∷ thing.Door 1 2 false ∷ thing.Box 2 ∷ thing.Robot 1 ∷ []);
         commands = Plan 0 (in_room (Obj 0) (Obj 2) ∷ []) 0 ∷ DisturbRooms 3 false (room_edit.Door 3 false ∷ []) ∷ Facts ∷ [];
       })
+  -- sorts of two objects and of a parameter
+  pub sorted : IsScript stage_now (codes "script 2\nobject a\nsort S b c\nobject d\npredicate P 1\noperator O(x,y)\nparam S y\n"
+      ++ codes "pre P(x)\nadd P(y)\nend\nfacts") (record nothing {
+        version = 2;
+        names = record no_names { objects = words_in (codes "a b c d"); predicates = codes "P" ∷ []; operators = codes "O" ∷ [] };
+        problem = record (of_objects 4) {
+          arities = 1 ∷ [];
+          sorts = 1;
+          object_sorts = 0 ∷ 1 ∷ 1 ∷ 0 ∷ [];
+          schemas = record (schema_without_sorts 0 2 (numbered 0 (Var 0 ∷ []) ∷ []) [] (numbered 0 (Var 1 ∷ []) ∷ []))
+              { param_sorts = 0 ∷ 1 ∷ [] } ∷ [];
+        };
+        commands = Facts ∷ [];
+      })
 
 -- Each text has its first fault in the line of this number, with this code.
 pub record AreRefused (texts : List (ℕ × ℕ × List ℕ)) : Type 0 where
@@ -121,7 +135,11 @@ pub record WorkedRefusals : Type 0 where
       ∷ (3, 7, codes "object a\npredicate P 1\nfact P(?x)")
       ∷ (3, 7, codes "object a\npredicate P 1\nplan " ++ long_name ++ codes " P($)") ∷ [])
   pub wide_predicate : IsTextRefused (codes "predicate P 7") 1 8 4
-  pub other_version : IsTextRefused (codes "script 2") 1 8 16
+  pub other_version : IsTextRefused (codes "script 3") 1 8 16
+  -- sorts: in version 1, declared twice, not declared, late, and a second sort of a parameter
+  pub of_sorts : AreRefused ((1, 3, codes "sort S a") ∷ (3, 5, codes "script 2\nsort S a\nsort S b")
+      ∷ (3, 5, codes "script 2\nsort S a\nsort T a") ∷ (4, 4, codes "script 2\nsort S a\noperator O(x)\nparam T x")
+      ∷ (5, 5, codes "script 2\nsort S a\noperator O(x)\nparam S x\nparam S x") ∷ (3, 9, codes "script 2\nfacts\nsort S a") ∷ [])
   -- late lines, and blocks that are cut off
   pub order : AreRefused ((2, 9, codes "facts\nobject a") ∷ (3, 9, codes "building\nroom R1\nend")
       ∷ (3, 10, codes "object a\n\noperator A(x)\n") ∷ (2, 10, codes "nodes 5\nbuilding\nroom R1\nrobot R1\n") ∷ [])

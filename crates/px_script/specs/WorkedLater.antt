@@ -13,12 +13,6 @@ use Rattle.px_script.specs.Causes.{is_out_of_order, has_unknown_name, repeats_na
 use Rattle.px_script.specs.Faults.{Refusal, coded, passed, first_of}
 use Rattle.px_script.specs.WorkedLines.{After, Leave, small, in_operator, closed_building, with_sign, q, long_name}
 
-abbrev sort : List ℕ → List (List ℕ) → Line
-sort n ns = line (codes "sort") domain plain (new a_sort n ∷ declared an_object ns ∷ [])
-
-abbrev param : List ℕ → List (List ℕ) → Line
-param n ps = line (codes "param") (inside operator_block) plain (known a_sort n ∷ wanted a_parameter ps ∷ [])
-
 abbrev table : List ℕ → ℕ → Line
 table n parameters = line (codes "table") (opens table_steps) plain (new a_table n ∷ amount parameters ∷ [])
 
@@ -63,9 +57,6 @@ edit n source prefix ps =
 abbrev certify : List ℕ → Line
 certify n = line (codes "certify") command plain (known a_table n ∷ [])
 
-abbrev duo : List ℕ → List ℕ → List ℕ → Line
-duo one other events = line (codes "duo") command plain (known a_table one ∷ known a_table other ∷ amounts events ∷ [])
-
 abbrev pursue : List ℕ → List SignedAtom → Line
 pursue n xs = line (codes "pursue") command goals (new a_result n ∷ atoms xs ∷ [])
 
@@ -78,17 +69,8 @@ fault d l = first_of ((is_out_of_order d l, coded 9) ∷ (has_unknown_name d l, 
 abbrev Have : List ℕ → (Declared → Declared) → Option Refusal → List Line → Type 0
 Have before change answer cases = After before (λ d. AllByRecursion (λ l. fault (change d) l ≡ answer) cases)
 
--- Each of them is a line of version 2, and none of version 1.
-abbrev AreNew : List ℕ → (Declared → Declared) → List Line → Type 0
-AreNew before change cases = After before (λ d.
-    AllByRecursion (λ l. (is_formed (record (change d) { version = 2 }) l ≡ true) × (is_formed (change d) l ≡ false)) cases)
-
 abbrev n : List ℕ
 n = codes "N"
-
--- the sort S is there
-abbrev sorted : Declared → Declared
-sorted d = record d { sorts = codes "S" ∷ [] }
 
 -- a plan N, a table M and a result L that is neither
 abbrev with_all_results : Declared → Declared
@@ -116,31 +98,24 @@ p_of ts = with_sign bare (codes "P") ts
 pub record WorkedLater : Type 0 where
   pub later_limits : greatest 2 limit.objects ≡ 1024
   pub same_limits : greatest 2 limit.disturbs ≡ greatest 1 limit.disturbs
-  pub new : AreNew small sorted (sort n (codes "c" ∷ []) ∷ table n 2 ∷ step (codes "O") (p 2 ∷ []) ∷ [])
-  pub empty_sort : is_formed (record nothing_declared { version = 2 }) (sort n []) ≡ false
   pub edit_without_pairs : is_formed (record nothing_declared { version = 2 }) (edit (codes "E") n 2 []) ≡ false
   -- what lines declare
-  pub sort_declares : Leave small (λ d. (with_all_names (declared_by (sort n (codes "c" ∷ []))) (sorted d)).sorts) (codes "S" ∷ n ∷ [])
   pub pursuit_is_no_table : Leave small
       (λ d. (with_all_names (declared_by (pursue (codes "K") (q ∷ []))) (with_all_results d)).roles.tables) (n ∷ codes "M" ∷ [])
   -- lines without a fault
-  pub domain_fits : Have small sorted None (sort n (codes "c" ∷ codes "d" ∷ []) ∷ sort n (n ∷ []) ∷ table n 2 ∷ [])
-  pub param_fits : Have in_operator sorted None (param (codes "S") (codes "x" ∷ []) ∷ [])
+  pub domain_fits : Have small (λ d. d) None (table n 2 ∷ [])
   pub table_in_a_building : Have closed_building (λ d. d) None (table n 2 ∷ [])
   pub steps_fit : Have with_operator in_steps None
       (step (codes "O") (p 2 ∷ []) ∷ goal (p_of (p 1 ∷ []) ∷ p_of (g 12 ∷ []) ∷ []) ∷ line_of end ∷ [])
   pub proof_fits : Have small in_rows None (proof (an_axiom 0 0 1 (p 1 ∷ p 2 ∷ []) ∷ a_fact 0 0 (p_of (p 1 ∷ [])) ∷ []) ∷ [])
   pub commands_fit : Have small with_all_results None (save (codes "M") ∷ certify n ∷ edit (codes "E") (codes "M") 2 ((1, 0) ∷ [])
-      ∷ duo n (codes "M") (1 ∷ 2 ∷ [])
       ∷ pursue (codes "Q") (p_of (named (codes "a") ∷ []) ∷ p_of (open_variable (codes "x") ∷ []) ∷ []) ∷ [])
   -- unknown names
-  pub param_of_unknown : Have in_operator sorted (Some (coded 4)) (param n (codes "x" ∷ []) ∷ param (codes "S") (codes "a" ∷ []) ∷ [])
   pub step_of_unknown : Have with_operator in_steps (Some (coded 4))
       (step (codes "MAKE") [] ∷ step (codes "O") (named (codes "c") ∷ []) ∷ [])
   pub no_table : Have small with_all_results (Some (coded 4))
-      (save (codes "L") ∷ certify (codes "L") ∷ edit (codes "E") (codes "L") 2 ((1, 0) ∷ []) ∷ duo n (codes "L") (1 ∷ []) ∷ [])
+      (save (codes "L") ∷ certify (codes "L") ∷ edit (codes "E") (codes "L") 2 ((1, 0) ∷ []) ∷ [])
   -- duplicates
-  pub known_sort : Have small sorted (Some (coded 5)) (sort (codes "S") (codes "c" ∷ []) ∷ sort n (codes "a" ∷ []) ∷ [])
   pub known_result : Have small with_all_results (Some (coded 5)) (table n 2 ∷ edit (codes "M") n 2 ((1, 0) ∷ []) ∷ pursue n (q ∷ []) ∷ [])
   -- wrong arities, and variables that may not stand there
   pub table_goal_arity : Have with_operator in_steps (Some (coded 6)) (goal (p_of [] ∷ []) ∷ [])
@@ -151,14 +126,12 @@ pub record WorkedLater : Type 0 where
   pub unbound_in_proofs : Have small in_rows (Some (coded 7))
       (proof (an_axiom 0 0 0 (p 3 ∷ []) ∷ []) ∷ proof (a_fact 0 0 (p_of (g 1 ∷ [])) ∷ []) ∷ [])
   -- lines out of order
-  pub sort_beside_building : Have closed_building (λ d. d) (Some (coded 9)) (sort n (codes "c" ∷ []) ∷ [])
-  pub late : Have (codes "facts") (λ d. d) (Some (coded 9)) (sort n (codes "c" ∷ []) ∷ table n 2 ∷ [])
-  pub outside : Have small sorted (Some (coded 9)) (param (codes "S") (codes "x" ∷ []) ∷ step (codes "O") [] ∷ [])
+  pub late : Have (codes "facts") (λ d. d) (Some (coded 9)) (table n 2 ∷ [])
+  pub outside : Have small (λ d. d) (Some (coded 9)) (step (codes "O") [] ∷ [])
   pub early_step : Have with_operator (λ d. record (in_steps d) { names = record d.names { objects = [] } }) (Some (coded 9))
       (step (codes "O") (p 1 ∷ []) ∷ [])
   pub after_goal : Have small in_rows (Some (coded 9)) (step (codes "O") (p 1 ∷ []) ∷ goal (q ∷ []) ∷ [])
   pub early_proof : Have with_operator in_steps (Some (coded 9)) (proof [] ∷ [])
-  pub long_sort : Have small sorted (Some (record { code = 8; limit = 1 })) (sort long_name (codes "c" ∷ []) ∷ [])
   -- `step O(?p1,a)`, `step MAKE`, `proof s 0 1 2 () f 1 0 Q a 1` and `edit E from N 2 1=0`
   pub step_spelled : spelling_of (step (codes "O") (p 1 ∷ named (codes "a") ∷ []))
       ≡ name (codes "step") ∷ name (codes "O") ∷ sign 40 ∷ variable (codes "p1") ∷ sign 44 ∷ name (codes "a") ∷ sign 41 ∷ []

@@ -1,4 +1,4 @@
--- How small lines are worked: after lines that have no fault, what the next ones leave, or their fault, where all of version 1 is built.
+-- How small lines are worked: after lines that have no fault, what the next ones leave, or their fault, where all is built.
 use Rattle.std.specs.Prelude.{◌≡◌, ℕ, ◌==◌, true, false, List, [], ◌∷◌, map, replicate, codes, Some, ◌++◌}
 use Rattle.std.specs.List.{AllByRecursion, flat_map, range_with_len, slice_split}
 use Rattle.px_terms.specs.Problems.{schema_without_sorts}
@@ -8,9 +8,9 @@ use Rattle.px_world.specs.declared.edits.AtomEdit.TheVariants as atom_edit
 use Rattle.px_world.specs.declared.edits.RoomEdit.TheVariants as room_edit
 use Rattle.px_world.specs.declared.thing.Thing.TheVariants as thing
 use Rattle.px_script.specs.Items.{Argument, SignedAtom, Sign, named, open_variable, anything, bare, negated, added, removed, robot_to, box_to, door_to}
-use Rattle.px_script.specs.Statements.{Statement, spelling, building, room, robot, door, box, «axiom», operator, delete, height, shapes, plan, learn, show, disturb_atoms, disturb_rooms, run}
+use Rattle.px_script.specs.Statements.{Statement, spelling, building, room, robot, door, box, «axiom», operator, delete, height, shapes, plan, learn, show, disturb_atoms, disturb_rooms, run, duo}
 use Rattle.px_script.specs.Lexemes.{Lexes}
-use Rattle.px_script.specs.Commands.{Facts, Plan, Learn, Show, DisturbAtoms, DisturbRooms, Run}
+use Rattle.px_script.specs.Commands.{Facts, Plan, Learn, Show, DisturbAtoms, DisturbRooms, Run, Duo}
 use Rattle.px_script.specs.Declarations.{Declared, nothing_declared}
 use Rattle.px_script.specs.Stages.{whole_language}
 use Rattle.px_script.specs.Scripts.{Passes, PassAll, Fails}
@@ -150,7 +150,7 @@ pub record WorkedDomains : Type 0 where
         in_operator ++ times 10 (codes "\npre Q\ndelete Q\nadd Q"),
         codes "pre Q Q Q Q Q Q Q\ndelete Q Q Q Q Q Q Q\nadd Q Q Q Q Q Q Q",
       )
-      ∷ (16, [], codes "script 2\nscript 0\nheight 0\nheight 9\nnodes 0\nnodes 50001\nshapes 1\nshapes 70001") ∷ [])
+      ∷ (16, [], codes "script 3\nscript 0\nheight 0\nheight 9\nnodes 0\nnodes 50001\nshapes 1\nshapes 70001") ∷ [])
 
 -- ---- lines of a building
 abbrev one_room : List ℕ
@@ -214,6 +214,47 @@ in_bare_operator = small ++ codes "\noperator O"
 -- 17 edits
 abbrev edits : List ℕ
 edits = codes "disturb 0 before" ++ times 17 (codes "+Q")
+
+-- this many sorts, in version 2
+abbrev sorts : ℕ → Declared → Declared
+sorts n d = record d { version = 2; sorts = replicate n (codes "x") }
+
+-- the same in version 2
+abbrev in_two : Declared → Declared
+in_two d = record d { version = 2 }
+
+abbrev in_sorted : List ℕ
+in_sorted = codes "script 2\nobject a\nsort S b c\npredicate P 1\noperator O(x,y)"
+
+-- ---- lines of sorts, which version 2 has
+pub record WorkedSorts : Type 0 where
+  -- what lines leave: a sort may be called as an object, and an object without a sort stands among those that have one
+  pub two_sorts : LeaveBoth (codes "script 2\nsort S S b\nobject a\nsort T c") (λ d. d.sorts) (codes "S" ∷ codes "T" ∷ [])
+      (λ d. d.object_sorts) (1 ∷ 1 ∷ 0 ∷ 2 ∷ [])
+  pub sorted_objects : LeaveBoth (codes "script 2\nobject a\nsort S b") (λ d. d.names.objects) (codes "a" ∷ codes "b" ∷ []) (λ d. d.version) 2
+  pub sorted_parameter : Leave (in_sorted ++ codes "\nparam S y\nend") (λ d. map (λ s. s.param_sorts) d.schemas) ((0 ∷ 1 ∷ []) ∷ [])
+  pub sorted_parameters : Leave (in_sorted ++ codes "\nparam S y\nparam S x\nend") (λ d. map (λ s. s.param_sorts) d.schemas) ((1 ∷ 1 ∷ []) ∷ [])
+  pub last_sort : Fit [] (sorts 31) (codes "sort a a")
+  pub more_objects : Fit [] (λ d. objects 1023 (in_two d)) (codes "object a\nsort S a")
+  pub more_facts : Fit small (λ d. facts 1023 (in_two d)) (codes "fact Q")
+  pub more_commands : Fit [] (λ d. commands 1023 (in_two d)) (codes "facts")
+  -- words of version 1 alone, and no such form
+  pub new : Refuse 3 (([], codes "sort S a\nparam S x") ∷ (codes "script 1", codes "sort S a") ∷ [])
+  pub no_form : Refuse 2 ((codes "script 2", codes "sort\nsort S\nsort S,a") ∷ (in_sorted, codes "param\nparam S\nparam S(x)") ∷ [])
+  -- unknown names
+  pub unknown : Refuse 4 ((in_sorted, codes "param T x\nparam S z\nparam S a\nparam S x z") ∷ [])
+  -- duplicates
+  pub duplicates : Refuse 5 ((codes "script 2\nsort S a", codes "sort S b\nsort T a\nsort T b b")
+      ∷ (in_sorted ++ codes "\nparam S x", codes "param S x\nparam S y x\nparam S y y") ∷ [])
+  -- lines out of order
+  pub out_of_order : Refuse 9 ((codes "script 2\nobject a", codes "param S x") ∷ (codes "script 2\nfacts", codes "sort S a")
+      ∷ (in_sorted, codes "sort T d") ∷ (codes "script 2\n" ++ closed_building, codes "sort S a") ∷ (codes "script 2\nsort S a", codes "building") ∷ [])
+  -- limits
+  pub long_sort : Exceed ((1, codes "script 2", codes "sort " ++ long_name ++ codes " a\nsort S " ++ long_name) ∷ [])
+  pub many_sorts : RefuseWhere [] (sorts 32) 8 17 (codes "sort a a")
+  pub many_objects : RefuseWhere [] (λ d. objects 1024 (sorts 32 d)) 8 2 (codes "sort a a")
+  pub many_facts : RefuseWhere small (λ d. facts 1024 (in_two d)) 8 11 (codes "fact Q")
+  pub many_commands : RefuseWhere [] (λ d. commands 1024 (in_two d)) 8 13 (codes "facts")
 
 pub record WorkedLimits : Type 0 where
   -- the greatest sizes that are allowed, and the least numbers
@@ -298,6 +339,28 @@ pub record WorkedCommands : Type 0 where
       ∷ (16, small, codes "disturb 0 before +Q\ndisturb 10000 before +Q")
       ∷ (16, closed_building, codes "disturb 10000 before robot R1") ∷ [])
 
+-- a plan N and a learned table M, in version 2
+abbrev learned_in_two : List ℕ
+learned_in_two = codes "script 2\n" ++ learned
+
+-- ---- lines of two executors, which version 2 has
+pub record WorkedDuos : Type 0 where
+  -- what lines leave
+  pub duos : Leave (learned_in_two ++ codes "\nduo M N 1 2 2\nduo N N 1") (λ d. d.commands)
+      (Plan 0 (numbered 1 [] ∷ []) 0 ∷ Learn 1 0 ∷ Duo 1 0 (1 ∷ 2 ∷ 2 ∷ []) ∷ Duo 0 0 (1 ∷ []) ∷ [])
+  pub keeps_disturbs : Leave (learned_in_two ++ codes "\ndisturb 1 before +Q\nduo N N 1") (λ d. d.disturbs) 1
+  pub most_events : Fit learned_in_two (λ d. d) (codes "duo N M" ++ times 256 (codes " 2"))
+  -- no word of version 1, and no such form
+  pub new : Refuse 3 ((learned, codes "duo N M 1") ∷ [])
+  pub no_form : Refuse 2 ((learned_in_two, codes "duo\nduo N\nduo N M\nduo N M x\nduo N M 1 N\nduo 1 N 1") ∷ [])
+  -- unknown names
+  pub unknown : Refuse 4 ((learned_in_two, codes "duo K N 1\nduo N K 1") ∷ [])
+  -- limits
+  pub numbers : Exceed ((16, learned_in_two, codes "duo N M 0\nduo N M 1 3\nduo N M 4294967297") ∷ [])
+  pub many_events : RefuseWhere learned_in_two (λ d. d) 8 22 (codes "duo N M" ++ times 257 (codes " 1"))
+  pub numbers_first : RefuseWhere learned_in_two (λ d. d) 8 16 (codes "duo N M 3" ++ times 257 (codes " 1"))
+  pub commands_first : RefuseWhere learned_in_two (commands 1024) 8 13 (codes "duo N M 3")
+
 -- ---- how lines are written, from their characters
 -- The characters spell the statement.
 pub record Spell (characters : List ℕ) (s : Statement) : Type 0 where
@@ -327,6 +390,7 @@ pub record WorkedSpellings : Type 0 where
   pub a_goal : Spell (codes "plan N P(?x) Q") (plan (codes "N") (with_sign bare (codes "P") (open_variable (codes "x") ∷ []) ∷ q ∷ []))
   pub learning : Spell (codes "learn M from N") (learn (codes "M") (codes "N"))
   pub showing : Spell (codes "show M") (show (codes "M"))
+  pub executing_two : Spell (codes "duo N M 1 2") (duo (codes "N") (codes "M") (1 ∷ 2 ∷ []))
   pub edits_before : Spell (codes "disturb 3 before +P(a)-Q")
       (disturb_atoms 3 false (with_sign added (codes "P") (named (codes "a") ∷ []) ∷ with_sign removed (codes "Q") [] ∷ []))
   pub edits_between : Spell (codes "disturb 3 between + Q") (disturb_atoms 3 true (with_sign added (codes "Q") [] ∷ []))

@@ -74,6 +74,12 @@ pub enum Command {
         name: u32,
         bindings: Sequence<Binding>,
     },
+    /// Execute two tables in one world. Each number says which of the two executors is next, 1 or 2.
+    Duo {
+        first: u32,
+        second: u32,
+        events: Sequence<u32>,
+    },
     /// Answer the facts.
     Facts,
 }

@@ -100,6 +100,10 @@ pub enum Last {
     New(Named),
     /// New names in parentheses with commas, or no names.
     Listed(Named),
+    /// Names that an earlier line declared.
+    Known(Named),
+    /// One or more numbers.
+    Numbers,
     Atoms,
     Bindings,
     RoomEdits,

@@ -27,11 +27,11 @@
 //! - [`Script`] is a script that was read, by its parts. It keeps that what it is about is in range.
 //! - [`reads_one_way`]: bytes are a script (`Spells`, and `IsScript` with what it is about), or they have a first fault
 //!   (`FirstFault`), never both, and there is at most one of each. Each of these takes the stage, which is how much is built
-//!   (`stage_now`), and the law holds for every stage, so for the whole of version 1 (`whole_language`), too.
-//! - [`only_takes_away`]: where only some of version 1 is built, a line is refused as in the whole of it, or as not built, and a
+//!   (`stage_now`), and the law holds for every stage, so for all that is described (`whole_language`), too.
+//! - [`only_takes_away`]: where only some words are built, a line is refused as where all are, or as not built, and a
 //!   script is a script of the whole of it.
 //! - [`is_in_range`]: what a script is about is in range, and of the language as far as it is built (`IsOfStage`), so a caller may
-//!   hand its numbers on. What is built is one list of words, `stage_now`, that is the whole of version 1; all laws hold of any list.
+//!   hand its numbers on. What is built is one list of words, `stage_now`: the whole of version 1, and sorts; all laws hold of any list.
 //! - [`worked_lines`] and [`worked_texts`]: what the definition says of small lines, and of small texts from their bytes, to be
 //!   compared with what a reader expects.
 //!
@@ -48,7 +48,7 @@ ghost use Rattle.px_script.specs.Stages.{Stage, whole_language};
 ghost use Rattle.px_script.specs.Statements.{Statement};
 ghost use Rattle.px_script.specs.Scripts.{ReadsOneWay, IsScript};
 ghost use Rattle.px_script.specs.Worked.{WorkedScripts, WorkedRefusals};
-ghost use Rattle.px_script.specs.WorkedLines.{WorkedBuildings, WorkedCommands, WorkedDomains, WorkedLimits, WorkedSpellings};
+ghost use Rattle.px_script.specs.WorkedLines.{WorkedBuildings, WorkedCommands, WorkedDomains, WorkedDuos, WorkedLimits, WorkedSorts, WorkedSpellings};
 ghost use Rattle.px_script.specs.WorkedLater.{WorkedLater};
 
 mod command;
@@ -59,12 +59,12 @@ mod script;
 pub use command::{Binding, Command};
 pub use kinds::{Block, Choice, Last, Manner, Named, One, Place, Sign};
 pub use limits::{
-    DEFAULT_HEIGHT, DEFAULT_NODES, DEFAULT_SHAPES, LAST_PARAMETER, LAST_TURN, Limit,
-    MOST_SCRIPT_NODES, NAME_BYTES, NUMBER_OF_NUMBERS, greatest,
+    DEFAULT_HEIGHT, DEFAULT_NODES, DEFAULT_SHAPES, EXECUTORS, LAST_PARAMETER, LAST_TURN,
+    LAST_VERSION, Limit, MOST_SCRIPT_NODES, NAME_BYTES, NUMBER_OF_NUMBERS, greatest,
 };
 pub use script::Script;
 
-/// Small lines of all of version 1, each after lines without a fault: what it leaves, or its first fault; how lines are written; the
+/// Small lines of all words, each after lines without a fault: what it leaves, or its first fault; how lines are written; the
 /// greatest numbers allowed, and the least of the limits that are passed; and what follows from the description of lines of version 2.
 pub fn worked_lines()
     ensures domains { WorkedDomains }
@@ -72,16 +72,18 @@ pub fn worked_lines()
     ensures commands { WorkedCommands }
     ensures spellings { WorkedSpellings }
     ensures limits { WorkedLimits }
+    ensures sorts { WorkedSorts }
+    ensures duos { WorkedDuos }
     ensures later { WorkedLater }
 {}
 
 /// All bytes are a script or have a first fault, and never both; each determines what it names. That holds whatever is built, so also of
-/// the whole of version 1.
+/// all words.
 pub fn reads_one_way()
     ensures { (stage : Stage) (bytes : List ℕ) → ReadsOneWay stage bytes }
 {}
 
-/// A stage only takes away: where less is built, a line either is refused or passes as in the whole of version 1, or is refused as
+/// A stage only takes away: where less is built, a line either is refused or passes as where all is built, or is refused as
 /// not built. A script stays one, and about the same.
 #[tactic(auto, using(crate::proofs::Kept::stages_take_away))]
 pub fn only_takes_away()

@@ -31,6 +31,10 @@ pub enum Limit {
     Disturbs,
     /// Edits of a disturbance.
     Edits,
+    /// Sorts, which only version 2 has. The number before is that of the limit of numbers.
+    Sorts = 17,
+    /// Events of two executors in one world.
+    Events = 22,
 }
 
 // How many there may be of each, but for what each problem has limits of. Where version 2 allows more, it has a number of its own.
@@ -61,13 +65,21 @@ pub const COMMANDS_OF_TWO: u32 = 1024;
 pub const DISTURBS: u32 = 64;
 /// Edits of a disturbance.
 pub const EDITS: u32 = 16;
+/// Sorts of the script.
+pub const SORTS: u32 = 32;
+/// Events of two executors in one world.
+pub const EVENTS: u32 = 256;
 
+/// The last version of the language.
+pub const LAST_VERSION: u32 = 2;
 /// The number of the limit of numbers, those that a script may give.
 pub const NUMBER_OF_NUMBERS: u8 = 16;
 /// The most nodes that a script may ask for, which are fewer than a problem may.
 pub const MOST_SCRIPT_NODES: u32 = 50_000;
 /// The last turn that a disturbance may name.
 pub const LAST_TURN: u32 = 9999;
+/// How many executors share a world: they have the numbers from 1 on.
+pub const EXECUTORS: u32 = 2;
 /// The greatest number of a parameter.
 pub const LAST_PARAMETER: u32 = 9999;
 /// The greatest height of a proof where no line gives it.
@@ -106,6 +118,8 @@ pub fn greatest(version: u32, limit: Limit) -> u32
         Limit::Commands => by_version(version, COMMANDS, COMMANDS_OF_TWO),
         Limit::Disturbs => DISTURBS,
         Limit::Edits => EDITS,
+        Limit::Sorts => SORTS,
+        Limit::Events => EVENTS,
     }
 }
 

@@ -20,6 +20,10 @@ use Rattle.px_planex.specs.declared.event.Outcome.TheVariants.{Acted}
 use Rattle.px_planex.specs.Execution.{Happens, Running}
 use Rattle.px_planex.specs.Turns.{Recorded, RunsTable, TurnValue}
 use Rattle.px_session.specs.Sessions.{Edit, leaves_edit, of_atoms, of_rooms}
+use Rattle.px_duo.specs.Duos.{Pair, duo_running, neither_sensed}
+use Rattle.px_printer.specs.declared.duo_line.DuoLine.{DuoLine}
+use Rattle.px_session.specs.DuoRuns.{RunsDuo}
+use Rattle.px_session.proofs.TwoRunning.{first_ready, lines_keep}
 use Rattle.px_session.proofs.Walks.{run-keeps}
 
 result-set : (schema : Schema) (atoms : List Atom) (inst : OpInst) → IsAtomSet (result_by schema atoms inst)
@@ -45,3 +49,10 @@ run-set problem table bound recorded atoms turns after runs set =
         → IsAtomSet new.atoms
     acted outcome old sensed before new senses same (kernel, remembered, holds, (inst, step, left)) set =
         subst (λ (r : Running). IsAtomSet r.atoms) (sym left) (result-set (schema_of problem inst) before.atoms inst)
+
+pub duo-set : (problem : Problem) (tables : Pair Table) (atoms : List Atom) (numbers : List ℕ) (lines : List DuoLine) (after : List Atom)
+    → RunsDuo leaves_edit problem tables atoms numbers lines after → IsAtomSet atoms → IsAtomSet after
+duo-set problem tables atoms numbers lines after (memories, is) set =
+    lines_keep leaves_edit problem tables IsAtomSet
+    (λ who old new ready step set. subst IsAtomSet (sym step.left) (result-set (schema_of problem step.inst) old.atoms step.inst)) numbers
+    (duo_running atoms neither_sensed) (duo_running after memories) lines is (first_ready leaves_edit problem tables) set

@@ -13,6 +13,7 @@ use Rattle.px_script.specs.declared.command.Command.TheVariants as command
 use Rattle.px_script.specs.Content.{ScriptValue}
 use Rattle.px_script.specs.declared.limits.Limit.TheVariants as limit
 use Rattle.px_script.specs.Limits.{greatest}
+use Rattle.px_script.specs.RangeLaws.{version-most}
 use Rattle.px_script.specs.Ranges.{IsBindingOf, IsBuildingOf, IsCommandOf, IsInRange, result_given}
 use Rattle.px_world.specs.declared.thing.Thing.{Thing}
 use Rattle.px_rooms.specs.States.{RoomState}
@@ -68,6 +69,8 @@ ready version problem building results (command.DisturbRooms turn between edits)
     ((tt, note-rooms problem building edits owns of.1), tt)
 ready version problem building results (command.Run name bindings) owns of =
     ((binding-ready problem bindings of.1 of.2, no-edits problem (at_first building)), of.0)
+ready version problem building results (command.Duo first second numbers) owns of =
+    ((tt, no-edits problem (at_first building)), (of.0, of.1))
 ready version problem building results command.Facts owns of = ((tt, no-edits problem (at_first building)), tt)
 
 pub ready-at : (script : ScriptValue) → IsInRange script → (k : ℕ) (c : Command) → k < length script.commands
@@ -77,10 +80,8 @@ ready-at script range k c below =
     (each-building (IsBuildingOf script.names script.problem script.facts) (OwnsRoomEdits script.problem) script.building
     (owns-room-edits script.names script.problem script.facts) range.building) (range.commands.each k c below)
 
-few-commands : (version count : ℕ) → version ≡ 1 → count ≤ greatest version limit.Commands → count < u32_max
-few-commands version count is_one few =
-    let most : count ≤ greatest 1 limit.Commands = subst (λ (v : ℕ). count ≤ greatest v limit.Commands) is_one few in
-    omega (arith, most)
+few-commands : (version count : ℕ) → count ≤ greatest version limit.Commands → count < u32_max
+few-commands version count few = let most = version-most version count 512 1024 (omega arith) few in omega (arith, most)
 
 -- a session keeps what it is to keep before its first command
 pub kept-opened : (script : ScriptValue) → IsInRange script → IsKeptSession (at_first script.building) (opened_session script)
@@ -97,7 +98,7 @@ kept-opened script range = record {
   tellable = λ k c below. (ready-at script range k c below).1;
   once = subst (AllPairs (λ one other. one ≢ other)) (sym range.commands.given) (apart-range (length script.names.results));
   learned = All-nil (Contains (flat_map result_given (take 0 script.commands)));
-  few = few-commands script.version (length script.commands) range.version range.commands.few;
+  few = few-commands script.version (length script.commands) range.commands.few;
   recorded = omega arith;
 }
 
@@ -125,6 +126,8 @@ keeps-parts problem old given answer new is =
       learned = λ n has. inl has;
     })
     (λ name bound told new by is. subst (KeepsParts (result_given given) old) (sym is.changed)
+    (record { recorded = omega arith; learned = λ n has. inl has }))
+    (λ first second numbers lines new by is. subst (KeepsParts (result_given given) old) (sym is.changed)
     (record { recorded = omega arith; learned = λ n has. inl has }))
     answer new is
 

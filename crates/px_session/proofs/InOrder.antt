@@ -16,6 +16,7 @@ use Rattle.px_printer.specs.declared.reply.Why.TheVariants.{TooLong, TooDeep, To
 use Rattle.px_session.specs.Causes.{CausesInOrder, RefusedReplies, one_learned, plan_p, where_p}
 use Rattle.px_session.specs.Lawful.{Lawful, RefusesLearning, TellsLearning, TellsRun, first_unknown}
 use Rattle.px_session.specs.Sessions.{SessionState, any_table}
+use Rattle.px_session.proofs.OneDuo.{no-first, no-second}
 use Rattle.px_session.proofs.OneLearning.{none_or_some, one_some}
 use Rattle.px_session.proofs.RunReplies.{bad-unknown}
 
@@ -72,6 +73,8 @@ causes_in_order = record {
   too_deep = too-deep;
   no_table = no-table;
   no_parameter = no-parameter;
+  no_first_table = λ problem old first second numbers answer new. no-first problem old first second numbers answer new;
+  no_second_table = λ problem old first second numbers answer new. no-second problem old first second numbers answer new;
   bad_parameter = λ table bound from. sym (bad-unknown table bound from);
 }
 

@@ -18,7 +18,8 @@ use Rattle.px_script.specs.declared.command.Command.{Command}
 use Rattle.px_session.specs.Determined.{SessionsAreKept}
 use Rattle.px_session.specs.Lawful.{IsLearned, Lawful, turn_told}
 use Rattle.px_session.specs.Sessions.{IsLearnedTable, IsPlanTable, IsSession, SessionState, opening}
-use Rattle.px_session.proofs.Ascending.{run-set}
+use Rattle.px_duo.specs.Duos.{both}
+use Rattle.px_session.proofs.Ascending.{duo-set, run-set}
 use Rattle.px_session.proofs.OneLearning.{plan-right}
 use Rattle.px_session.proofs.OwnKept.{own-kept}
 use Rattle.px_session.proofs.Replied.{replied}
@@ -74,6 +75,13 @@ kept problem old given answer new session is =
     (λ name bound told new by is. subst (IsSession problem) (sym is.changed)
     (record {
       atoms = run-set problem is.table bound old.recorded old.atoms (map turn_told told) is.after is.runs session.atoms;
+      plans = session.plans;
+      learned = session.learned;
+      few = session.few;
+    }))
+    (λ first second numbers lines new by is. subst (IsSession problem) (sym is.changed)
+    (record {
+      atoms = duo-set problem (both is.one is.other) old.atoms numbers lines is.after is.runs session.atoms;
       plans = session.plans;
       learned = session.learned;
       few = session.few;

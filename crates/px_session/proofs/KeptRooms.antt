@@ -6,22 +6,25 @@ use Rattle.px_terms.specs.declared.problem.Problem.{Problem}
 use Rattle.px_world.specs.declared.thing.Thing.{Thing}
 use Rattle.px_rooms.specs.States.{RoomState, first_state}
 use Rattle.px_planex.specs.Turns.{Recorded}
+use Rattle.px_duo.specs.Duos.{both}
 use Rattle.px_printer.specs.declared.reply.Reply.{Reply}
 use Rattle.px_printer.specs.declared.reply.Reply.TheVariants as reply
 use Rattle.px_script.specs.declared.command.Command.{Command}
 use Rattle.px_script.specs.declared.command.Command.TheVariants as command
 use Rattle.px_script.specs.Content.{ScriptValue}
 use Rattle.px_script.specs.Ranges.{IsBuildingOf, IsInRange}
-use Rattle.px_session.specs.Lawful.{Lawful, TellsRun, turn_told}
+use Rattle.px_session.specs.Lawful.{Lawful, TellsDuo, TellsRun, turn_told}
 use Rattle.px_session.specs.OwnStates.{edits_given}
 use Rattle.px_session.specs.Places.{IsPlaced, Takes}
 use Rattle.px_session.specs.RoomRuns.{AreAnswersIn, HasTakenEdits, IsAnsweredInBuilding, IsInBuilding, LeavesRooms, RoomsAreKept}
 use Rattle.px_session.specs.Sessions.{Edit, IsSession, SessionState, opening}
 use Rattle.px_session.specs.Transcripts.{AreAnswers}
+use Rattle.px_session.proofs.DuoRooms.{duo-in}
 use Rattle.px_session.proofs.Executing.{ready-at}
 use Rattle.px_session.proofs.Kept.{sessions_are_kept}
 use Rattle.px_session.proofs.OneLearning.{any-right}
-use Rattle.px_session.proofs.Placing.{RunsNothing, placed-later, placed-run, same_taken, takes-later}
+use Rattle.px_session.proofs.OwnDuos.{each_table}
+use Rattle.px_session.proofs.Placing.{RunsNothing, placed-duo, placed-later, placed-run, same_taken, takes-later}
 use Rattle.px_session.proofs.RoomEdits.{at_first, placed-first}
 use Rattle.px_session.proofs.RoomRuns.{rules-left, run-in, same-left}
 
@@ -73,6 +76,30 @@ module _ (problem : Problem) (old : SessionState) (building : RoomState) (sessio
       )
   run-answered name bound answer new is = absurd is
 
+  duo-answered : (first second : ℕ) (numbers : List ℕ) (answer : Reply) (new : SessionState)
+      → TellsDuo problem old first second numbers answer new → Answered (command.Duo first second numbers) answer new
+  duo-answered first second numbers (reply.Unknown given) new is =
+      as-it-was (command.Duo first second numbers) (reply.Unknown given) new is refl (placed-as new is.1)
+  duo-answered first second numbers (reply.DuoRan a b lines) new is =
+      let one = any-right problem old session.plans session.learned first is.2.one is.2.first_named in
+      let other = any-right problem old session.plans session.learned second is.2.other is.2.second_named in
+      let run = duo-in problem (both is.2.one is.2.other) (each_table problem is.2.one is.2.other one other) building old.atoms numbers lines
+      is.2.after inside.is_state inside.placed.place.1 inside.placed.place.0 is.2.runs in
+      let same = same-left building run.after run.left in (
+        run.after,
+        record {
+          lawful = is;
+          leaves = run.lined;
+          inside = record {
+            is_state = run.left.state;
+            placed = placed-duo problem (Some building) (Some run.after) old new is.2.after is.2.changed inside.placed.edits same
+                (run.facts, rules-left problem building run.after run.left inside.placed.place.1);
+          };
+          same = same;
+        },
+      )
+  duo-answered first second numbers answer new is = absurd is
+
   unmoved : (given : Command) → RunsNothing given → (answer : Reply) (new : SessionState)
       → LeavesRooms old given answer building building
       → HasTakenEdits (Some building) given → Lawful problem old given answer new → Answered given answer new
@@ -90,6 +117,7 @@ module _ (problem : Problem) (old : SessionState) (building : RoomState) (sessio
   answered (command.DisturbRooms turn between edits) answer new taken is =
       unmoved (command.DisturbRooms turn between edits) tt answer new refl taken is
   answered (command.Run name bound) answer new taken is = run-answered name bound answer new is
+  answered (command.Duo first second numbers) answer new taken is = duo-answered first second numbers answer new is
   answered command.Facts answer new taken is = unmoved command.Facts tt answer new refl taken is
 
 -- ---- all commands

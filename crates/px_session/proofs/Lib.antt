@@ -9,6 +9,12 @@ pub mod Learned
 pub mod Shapes
 pub mod Walks
 pub mod Replied
+pub mod TwoRunning
+pub mod OwnDuos
+pub mod OneDuo
+pub mod ToldDuos
+pub mod DuoRooms
+pub mod DuosUnderway
 pub mod Ascending
 pub mod Kept
 pub mod OneTranscript

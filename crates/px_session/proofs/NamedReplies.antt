@@ -1,7 +1,8 @@
 -- Each lawful reply to a command that is built has its names.
-use Rattle.std.specs.Prelude.{◌≡◌, ◌<◌, ◌+◌, ℕ, Option, Some, None, List, [], ◌∷◌, length, map, All}
+use Rattle.std.specs.Prelude.{◌≡◌, ◌<◌, ◌+◌, ℕ, cond, not, Option, Some, None, is_some, List, [], ◌∷◌, length, map, All}
 use Rattle.std.proofs.Common.{refl, sym, ap, ◌∙◌, subst, arith}
-use Rattle.std.proofs.lemmas.List.Elements.{All-cons, All-head, All-nil, All-tail}
+use Rattle.std.proofs.lemmas.List.Elements.{All-cons, All-head, All-nil, All-tail, All-weaker}
+use Rattle.px_base.specs.Answers.{some_same}
 use Rattle.px_base.specs.ListLaws.{All-at, All-each}
 use Rattle.px_names.specs.Lists.{NameLists}
 use Rattle.px_terms.specs.declared.atom.Atom.{Atom}
@@ -15,6 +16,8 @@ use Rattle.px_table.specs.declared.table.Table.{Table}
 use Rattle.px_table.specs.Tables.{IsStepOf, IsTable}
 use Rattle.px_planex.specs.Turns.{Recorded, TurnValue}
 use Rattle.px_ends.specs.Tasks.{Task, task_of}
+use Rattle.px_duo.specs.Duos.{both}
+use Rattle.px_printer.specs.DuoLines.{IsNamedDuoLine}
 use Rattle.px_printer.specs.declared.reply.Reply.{Reply}
 use Rattle.px_printer.specs.declared.reply.Reply.TheVariants as reply
 use Rattle.px_printer.specs.Replies.{IsReplyNamed}
@@ -24,10 +27,11 @@ use Rattle.px_printer.specs.Turns.{IsNamedStep, IsNamedTurn}
 use Rattle.px_printer.specs.declared.turn.Turn.{Turn}
 use Rattle.px_script.specs.declared.command.Command.{Command}
 use Rattle.px_script.specs.declared.command.Command.TheVariants as command
-use Rattle.px_session.specs.Lawful.{FindsPlan, Lawful, Notes, TellsFacts, TellsLearning, TellsRun, TellsSearch, TellsShow, recorded_for, turn_told}
+use Rattle.px_session.specs.Lawful.{FindsPlan, Lawful, Notes, TellsDuo, TellsFacts, TellsLearning, TellsRun, TellsSearch, TellsShow, recorded_for, turn_told}
 use Rattle.px_session.specs.Named.{AreNamesOfProblem, IsTellable, RepliesAreNamed}
 use Rattle.px_session.specs.Sessions.{Edit, IsLearnedTable, IsPlanTable, SessionState, any_table, of_atoms, of_rooms}
 use Rattle.px_session.proofs.OneLearning.{any-right}
+use Rattle.px_session.proofs.OwnDuos.{duo-steps, each_table}
 use Rattle.px_session.proofs.OwnRuns.{IsOwnStep, run-steps}
 
 abbrev number_of : Term → ℕ
@@ -67,10 +71,12 @@ module _ (problem : Problem) (names : NameLists) (all : AreNamesOfProblem proble
       All-each (IsNamedInstance names) steps (λ inst has. named-step params inst (All-at (IsStepOf problem params) steps inst of has))
 
   -- an instance of an operator of the problem is a step without parameters
+  named-step-of : (step : Option OpInst) → IsOwnStep problem step → IsNamedStep names step
+  named-step-of None own = tt
+  named-step-of (Some inst) own = named-step 0 inst (record { op = own.op; count = own.count; terms = own.objects })
+
   named-turn : (turn : Turn) (step : Option OpInst) → turn.op ≡ step → IsOwnStep problem step → IsNamedTurn names turn
-  named-turn turn None same own = subst (IsNamedStep names) (sym same) tt
-  named-turn turn (Some inst) same own =
-      subst (IsNamedStep names) (sym same) (named-step 0 inst (record { op = own.op; count = own.count; terms = own.objects }))
+  named-turn turn step same own = subst (IsNamedStep names) (sym same) (named-step-of step own)
 
   named-turns : (told : List Turn) → All (λ turn. IsOwnStep problem turn.op) (map turn_told told) → All (IsNamedTurn names) told
   named-turns [] own = All-nil (IsNamedTurn names)
@@ -78,6 +84,16 @@ module _ (problem : Problem) (names : NameLists) (all : AreNamesOfProblem proble
       let first = All-head (λ (t : TurnValue). IsOwnStep problem t.op) (turn_told turn) (map turn_told told) own in
       let rest = All-tail (λ (t : TurnValue). IsOwnStep problem t.op) (turn_told turn) (map turn_told told) own in
       All-cons (IsNamedTurn names) turn told (named-turn turn turn.op refl first) (named-turns told rest)
+
+  -- the first name without a table is one of the two
+  named-unknown : (first second : ℕ) (one other : Option Table) (given : ℕ) → first < length names.results
+      → second < length names.results
+      → cond (not (is_some one)) (Some first) (cond (not (is_some other)) (Some second) None) ≡ Some given
+      → given < length names.results
+  named-unknown first second None other given below also is = same-result given first (length names.results) (sym (some_same is)) below
+  named-unknown first second (Some table) None given below also is =
+      same-result given second (length names.results) (sym (some_same is)) also
+  named-unknown first second (Some table) (Some more) given below also is = absurd (cc)
 
   -- ---- a table of the problem
 
@@ -134,6 +150,21 @@ module _ (problem : Problem) (names : NameLists) (all : AreNamesOfProblem proble
         (same-result given name (length names.results) is.0 below, named-turns told steps)
     named-run name bound answer new below is = absurd is
 
+    named-duo : (first second : ℕ) (numbers : List ℕ) (answer : Reply) (new : SessionState) → first < length names.results
+        → second < length names.results → TellsDuo problem old first second numbers answer new → IsReplyNamed names answer
+    named-duo first second numbers (reply.Unknown given) new below also is =
+        named-unknown first second (any_table old first) (any_table old second) given below also is.0
+    named-duo first second numbers (reply.DuoRan one other lines) new below also is =
+        let right = any-right problem old plans learned first is.2.one is.2.first_named in
+        let other_right = any-right problem old plans learned second is.2.other is.2.second_named in
+        let steps = duo-steps problem (both is.2.one is.2.other) (each_table problem is.2.one is.2.other right other_right) old.atoms numbers
+        lines is.2.after is.2.runs in (
+          same-result one first (length names.results) is.0 below,
+          same-result other second (length names.results) is.1 also,
+          All-weaker (λ line. IsOwnStep problem line.op) (IsNamedDuoLine names) (λ line own. named-step-of line.op own) lines steps,
+        )
+    named-duo first second numbers answer new below also is = absurd is
+
     named-facts : (answer : Reply) (new : SessionState) → All (IsAtomOf problem 0) old.atoms
         → TellsFacts old answer new → IsReplyNamed names answer
     named-facts (reply.FactsAre atoms) new of is = subst (All (IsNamedAtom names)) (sym is.0) (named-atoms 0 old.atoms of)
@@ -168,6 +199,8 @@ named-each problem names old (command.Plan name goal vars) answer new all atoms 
     named-search problem names all (task_of problem old.learned.tables old.atoms goal vars) refl name old answer new tellable.0 is
 named-each problem names old (command.Show name) answer new all atoms plans learned tellable is =
     named-show problem names all old plans learned name answer new tellable is
+named-each problem names old (command.Duo first second numbers) answer new all atoms plans learned tellable is =
+    named-duo problem names all old plans learned first second numbers answer new tellable.0 tellable.1 is
 named-each problem names old command.Facts answer new all atoms plans learned tellable is =
     named-facts problem names all old plans learned answer new atoms is
 named-each problem names old (command.Learn name source) answer new all atoms plans learned tellable is =

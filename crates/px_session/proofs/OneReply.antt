@@ -17,6 +17,7 @@ use Rattle.px_script.specs.declared.command.Command.TheVariants as command
 use Rattle.px_session.specs.Determined.{LawfulIsOne, SameReply}
 use Rattle.px_session.specs.Lawful.{Lawful, Notes, TellsFacts, TellsShow, recorded_for}
 use Rattle.px_session.specs.Sessions.{Edit, IsSession, SessionState, any_table, of_atoms, of_rooms}
+use Rattle.px_session.proofs.OneDuo.{duo-one}
 use Rattle.px_session.proofs.OneLearning.{learning-one, none_or_some, one_some}
 use Rattle.px_session.proofs.OneRunning.{run-one}
 use Rattle.px_session.proofs.OneSearch.{search-one}
@@ -64,6 +65,8 @@ reply-one problem old (command.DisturbRooms turn between edits) one other new la
     notes-one old (recorded_for turn between (map of_rooms edits)) one other new later p q
 reply-one problem old (command.Run name bound) one other new later valid session p q =
     run-one problem old name bound one other new later p q
+reply-one problem old (command.Duo first second numbers) one other new later valid session p q =
+    duo-one problem old first second numbers one other new later p q
 reply-one problem old command.Facts one other new later valid session p q = facts-one old one other new later p q
 
 pub text-one : (names : NameLists) (one other : Reply) → SameReply one other → reply_text names one ≡ reply_text names other

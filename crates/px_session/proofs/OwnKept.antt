@@ -11,7 +11,9 @@ use Rattle.px_session.specs.Lawful.{Lawful, recorded_for, turn_told}
 use Rattle.px_session.specs.OwnStates.{HasOwnEdits, IsOwnEdit, IsOwnState, edits_given}
 use Rattle.px_session.specs.Sessions.{Edit, IsSession, SessionState}
 use Rattle.px_session.proofs.OneLearning.{any-right}
+use Rattle.px_duo.specs.Duos.{both}
 use Rattle.px_session.proofs.OwnRuns.{run-own}
+use Rattle.px_session.proofs.OwnDuos.{duo-own, each_table}
 use Rattle.px_session.proofs.Replied.{replied}
 
 abbrev HasOwn : Problem → Recorded Edit → Type 0
@@ -35,5 +37,14 @@ own-kept problem old given answer new valid session own edits is =
     (record {
       atoms = run-own problem valid is.table right bound old.recorded old.atoms (map turn_told told) is.after own.edits is.runs own.atoms;
       edits = All-nil (HasOwn problem);
+    }))
+    (λ first second numbers lines new by is.
+    let one = any-right problem old session.plans session.learned first is.one is.first_named in
+    let other = any-right problem old session.plans session.learned second is.other is.second_named in
+    subst (IsOwnState problem) (sym is.changed)
+    (record {
+      atoms = duo-own problem (both is.one is.other) (each_table problem is.one is.other one other) valid old.atoms numbers lines is.after
+          is.runs own.atoms;
+      edits = own.edits;
     }))
     answer new is

@@ -70,7 +70,7 @@ module _ (problem : Problem) (table : Table) (is_table : IsTable problem table) 
   maybe-own kernel given None at = tt
   maybe-own kernel given (Some inst) at = kernel-own kernel inst given at
 
-  remembered-own : (remembered : Option KernelInstance) (instance : List ℕ) → IsActable problem table remembered
+  pub remembered-own : (remembered : Option KernelInstance) (instance : List ℕ) → IsActable problem table remembered
       → IsOwnStep problem (remembered_step table (record { remembered = remembered; instance = instance }))
   remembered-own None instance can = tt
   remembered-own (Some kernel) instance can = maybe-own kernel can.2 (step_of_kernel table kernel) refl
@@ -128,7 +128,7 @@ module _ (problem : Problem) (table : Table) (is_table : IsTable problem table) 
 -- ---- the atoms
 
 module _ (problem : Problem) where
-  abbrev AreOwn : List Atom → Type 0
+  abbrev pub AreOwn : List Atom → Type 0
   AreOwn atoms = All (IsAtomOf problem 0) atoms
 
   -- what an edit of rooms adds has no variable
@@ -157,7 +157,7 @@ module _ (problem : Problem) where
       ])
 
   module _ (valid : IsValid problem) where
-    result-own : (atoms : List Atom) (inst : OpInst) → IsInstanceOf problem inst → AreOwn atoms → AreOwn (result_of problem atoms inst)
+    pub result-own : (atoms : List Atom) (inst : OpInst) → IsInstanceOf problem inst → AreOwn atoms → AreOwn (result_of problem atoms inst)
     result-own atoms inst is own =
         All-each (IsAtomOf problem 0) (result_of problem atoms inst) (λ q has.
         elim ((result_by-members (schema_of problem inst) atoms inst q).0 has) [

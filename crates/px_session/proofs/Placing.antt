@@ -46,11 +46,12 @@ pub place-left : (problem : Problem) (place : Place) → HaveSameRules (place_ru
 place-left problem (Atoms world) same = tt
 place-left problem (Rooms building) same = (refl, same)
 
--- ---- after each command but a run
+-- ---- after each command that runs no table
 
 -- the command runs nothing
 abbrev pub RunsNothing : Command → Type 0
 RunsNothing (command.Run name bound) = ⊥
+RunsNothing (command.Duo first second numbers) = ⊥
 RunsNothing _ = Unit {0}
 
 pub placed-later : (problem : Problem) (building : Option RoomState) (old : SessionState) → IsPlaced problem building old
@@ -68,6 +69,7 @@ placed-later problem building old placed given no_run taken answer new is =
           (recorded_for turn between (edits_given given)) placed.edits taken;
     })
     (λ name bound told new by is. absurd (subst RunsNothing by no_run))
+    (λ first second numbers lines new by is. absurd (subst RunsNothing by no_run))
     answer new is
 
 -- ---- what a run leaves
@@ -79,3 +81,10 @@ placed-run problem building new atoms atoms_are none place = record {
   place = subst (λ (a : List Atom). IsPlaceInBuilding problem a building) (sym atoms_are) place;
   edits = subst (TakesAll building) (sym none) (All-nil (λ (r : Recorded Edit). All (Takes building) r.edits));
 }
+
+-- what two executors leave, where what is recorded stays
+pub placed-duo : (problem : Problem) (building left : Option RoomState) (old new : SessionState) (atoms : List Atom)
+    → new ≡ record old { atoms = atoms } → TakesAll building old.recorded → TakeSame building left
+    → IsPlaceInBuilding problem atoms left → IsPlaced problem left new
+placed-duo problem building left old new atoms is edits same place =
+    subst (IsPlaced problem left) (sym is) (record { place = place; edits = takes-all-later building left old.recorded same edits })

@@ -5,16 +5,17 @@ use Rattle.px_terms.specs.declared.problem.Problem.{Problem}
 use Rattle.px_table.specs.declared.table.Table.{Table}
 use Rattle.px_library.specs.Libraries.{with_table}
 use Rattle.px_ends.specs.Tasks.{Task, task_of}
+use Rattle.px_printer.specs.declared.duo_line.DuoLine.{DuoLine}
 use Rattle.px_printer.specs.declared.reply.Reply.{Reply}
 use Rattle.px_printer.specs.declared.reply.Reply.TheVariants as reply
 use Rattle.px_printer.specs.declared.turn.Turn.{Turn}
 use Rattle.px_script.specs.declared.command.Command.{Command}
 use Rattle.px_script.specs.declared.command.Command.TheVariants as command
-use Rattle.px_session.specs.Lawful.{IsLearned, IsRunOf, Lawful, Notes, TellsFacts, TellsLearning, TellsRun, TellsSearch, TellsShow, recorded_for}
+use Rattle.px_session.specs.Lawful.{IsDuoOf, IsLearned, IsRunOf, Lawful, Notes, TellsDuo, TellsFacts, TellsLearning, TellsRun, TellsSearch, TellsShow, recorded_for}
 use Rattle.px_session.specs.OwnStates.{edits_given}
 use Rattle.px_session.specs.Sessions.{Edit, IsPlanTable, SessionState, of_atoms, of_rooms}
 
--- What holds of the state, and of each state that one more plan, one more learned table, one more disturbance or a run leaves of it, holds
+-- What holds of the state, and of each state that one more plan, one more learned table, one more disturbance, a run or two executors leave of it, holds
 -- of the state after each lawful reply.
 module _ (problem : Problem) (old : SessionState) (given : Command) (P : SessionState → Type 0) (same : P old)
     (stored : (name : ℕ) (made : Table) → IsPlanTable problem made → P (record old { plans = with_table old.plans name made }))
@@ -22,7 +23,9 @@ module _ (problem : Problem) (old : SessionState) (given : Command) (P : Session
     → IsLearned problem name source old params steps new → P new)
     (noted : (turn : ℕ) (between : Bool) → P (record old { recorded = old.recorded ++ recorded_for turn between (edits_given given) ∷ [] }))
     (ran : (name : ℕ) (bound : List (ℕ × ℕ)) (told : List Turn) (new : SessionState) → given ≡ command.Run name bound
-    → IsRunOf problem name bound old told new → P new) where
+    → IsRunOf problem name bound old told new → P new)
+    (dual : (first second : ℕ) (numbers : List ℕ) (lines : List DuoLine) (new : SessionState) → given ≡ command.Duo first second numbers
+    → IsDuoOf problem first second numbers old lines new → P new) where
   unchanged : (new : SessionState) → new ≡ old → P new
   unchanged new is = subst P (sym is) same
 
@@ -60,6 +63,12 @@ module _ (problem : Problem) (old : SessionState) (given : Command) (P : Session
   after-run name bound by (reply.Ran told turns) new is = ran name bound turns new by is.1
   after-run name bound by answer new is = absurd is
 
+  after-duo : (first second : ℕ) (numbers : List ℕ) → given ≡ command.Duo first second numbers → (answer : Reply) (new : SessionState)
+      → TellsDuo problem old first second numbers answer new → P new
+  after-duo first second numbers by (reply.Unknown told) new is = unchanged new is.1
+  after-duo first second numbers by (reply.DuoRan one other lines) new is = dual first second numbers lines new by is.2
+  after-duo first second numbers by answer new is = absurd is
+
   after-facts : (answer : Reply) (new : SessionState) → TellsFacts old answer new → P new
   after-facts (reply.FactsAre atoms) new is = unchanged new is.2
   after-facts answer new is = absurd is
@@ -74,6 +83,7 @@ module _ (problem : Problem) (old : SessionState) (given : Command) (P : Session
   after-reply (command.DisturbRooms turn between edits) by answer new is =
       after-notes turn between (map of_rooms edits) (ap edits_given by) answer new is
   after-reply (command.Run name bound) by answer new is = after-run name bound by answer new is
+  after-reply (command.Duo first second numbers) by answer new is = after-duo first second numbers by answer new is
   after-reply command.Facts by answer new is = after-facts answer new is
 
   pub replied : (answer : Reply) (new : SessionState) → Lawful problem old given answer new → P new

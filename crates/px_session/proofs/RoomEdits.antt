@@ -26,6 +26,7 @@ use Rattle.px_rooms.specs.Changes.{IsAdmitted, edit_schema}
 use Rattle.px_rooms.specs.Domain.{building_problem, closed, in_room, opened_door}
 use Rattle.px_rooms.specs.States.{RoomState, first_state, thing_at}
 use Rattle.px_rooms.proofs.Starting.{objects_are}
+use Rattle.px_script.specs.RangeLaws.{version-most}
 use Rattle.px_script.specs.declared.limits.Limit.TheVariants as limit
 use Rattle.px_script.specs.Limits.{greatest}
 use Rattle.px_script.specs.Ranges.{AreRoomEditsOf, IsBuildingOf, IsEditOf}
@@ -145,8 +146,8 @@ read-building P None is = tt
 read-building P (Some building) is = is
 
 -- its things are few
-pub few-things : (version : ℕ) (names : NameLists) (problem : Problem) (facts : List Atom) (things : List Thing) → version ≡ 1
+pub few-things : (version : ℕ) (names : NameLists) (problem : Problem) (facts : List Atom) (things : List Thing)
     → length names.objects ≤ greatest version limit.Objects → IsBuildingOf names problem facts things → length things < u32_max
-few-things version names problem facts things is_one few is =
-    let most : length names.objects ≤ greatest 1 limit.Objects = subst (λ (v : ℕ). length names.objects ≤ greatest v limit.Objects) is_one few in
+few-things version names problem facts things few is =
+    let most = version-most version (length names.objects) 256 1024 (omega arith) few in
     omega (arith, most, is.objects, objects_are things is.is_building.0)

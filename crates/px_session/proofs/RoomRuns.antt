@@ -36,10 +36,10 @@ use Rattle.px_session.proofs.Walks.{all-at, sense-atoms}
 
 -- ---- what stays of a building
 
-left-same : (building : RoomState) → IsRoomState building → IsLeft building building
+pub left-same : (building : RoomState) → IsRoomState building → IsLeft building building
 left-same building is = record { state = is; count = refl; kinds = refl }
 
-left-both : (old mid new : RoomState) → IsLeft old mid → IsLeft mid new → IsLeft old new
+pub left-both : (old mid new : RoomState) → IsLeft old mid → IsLeft mid new → IsLeft old new
 left-both old mid new first second = record { state = second.state; count = second.count ∙ first.count; kinds = second.kinds ∙ first.kinds }
 
 pub same-left : (old new : RoomState) → IsLeft old new → TakeSame (Some old) (Some new)
@@ -98,7 +98,7 @@ known (x ∷ xs) atom = by_test (known xs atom) (atom_eq x atom) refl where
   ])
 
 -- a state in which the step is done, and its facts
-record Does (problem : Problem) (inst : OpInst) (building : RoomState) : Type 0 where
+pub record Does (problem : Problem) (inst : OpInst) (building : RoomState) : Type 0 where
   pub after : RoomState
   pub done : IsDone inst building after
   pub left : IsLeft building after
@@ -118,7 +118,7 @@ module _ (problem : Problem) (table : Table) (is_table : IsTable problem table) 
             (refusals-allowed building inst atom is own needed not))
       ])
 
-  does : (building : RoomState) → IsRoomState building → HaveSameRules (building_rules building) problem
+  pub does : (building : RoomState) → IsRoomState building → HaveSameRules (building_rules building) problem
       → (kernel : KernelInstance) (inst : OpInst) → IsInstantiation problem table kernel.objects
       → KernelRowHolds table kernel (rendering building) → step_of_kernel table kernel ≡ Some inst → Does problem inst building
   does building is rules kernel inst given row at =

@@ -30,6 +30,14 @@ pub record CausesInOrder : Type 0 where
       (answer : Reply) (new : SessionState) (table : Table) (param : ℕ)
       → any_table old name ≡ Some table → first_unknown table bound ≡ Some param
       → Lawful problem old (command.Run name bound) answer new → (answer ≡ reply.UnknownParam param) × (new ≡ old)
+  -- of two names the first without a table is unknown
+  pub no_first_table : (problem : Problem) (old : SessionState) (first second : ℕ) (numbers : List ℕ) (answer : Reply) (new : SessionState)
+      → any_table old first ≡ None → Lawful problem old (command.Duo first second numbers) answer new
+      → (answer ≡ reply.Unknown first) × (new ≡ old)
+  pub no_second_table : (problem : Problem) (old : SessionState) (first second : ℕ) (numbers : List ℕ)
+      (answer : Reply) (new : SessionState) (table : Table)
+      → any_table old first ≡ Some table → any_table old second ≡ None
+      → Lawful problem old (command.Duo first second numbers) answer new → (answer ≡ reply.Unknown second) × (new ≡ old)
   -- where all numbers are from 1 on, an executor refuses the same bindings
   pub bad_parameter : (table : Table) (bound : List (ℕ × ℕ)) → All (λ (pair : ℕ × ℕ). 1 ≤ pair.0) bound
       → first_unknown table bound ≡ first_bad table bound

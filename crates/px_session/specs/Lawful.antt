@@ -1,5 +1,5 @@
 -- Which replies to a command are lawful, and what state each leaves.
-use Rattle.std.specs.Prelude.{◌≡◌, ◌+◌, ◌≤◌, ◌++◌, ℕ, Bool, nat_lt, Option, Some, None, List, [], ◌∷◌, map, find, length, option_map}
+use Rattle.std.specs.Prelude.{◌≡◌, ◌+◌, ◌≤◌, ◌++◌, ℕ, Bool, not, nat_lt, Option, Some, None, is_some, List, [], ◌∷◌, map, find, length, option_map}
 use Rattle.px_table.specs.Limits.{most_tables}
 use Rattle.px_terms.specs.declared.atom.Atom.{Atom}
 use Rattle.px_terms.specs.declared.instance.OpInst.{OpInst}
@@ -13,9 +13,11 @@ use Rattle.px_general.specs.Limits.{IsTooDeep, IsTooLong, IsTooWide}
 use Rattle.px_library.specs.Libraries.{table_named, with_table}
 use Rattle.px_planex.specs.Turns.{AtGoal, AtNoKernel, ByActing, BySlipping, Recorded, RunsTable, TurnValue}
 use Rattle.px_planex.specs.Turns as executed
+use Rattle.px_duo.specs.Duos.{both}
 use Rattle.px_ends.specs.Ends.{IsExhausted, IsFound, IsNodeLimit, IsShapeLimit}
 use Rattle.px_ends.specs.Made.{IsTableOfMoves}
 use Rattle.px_ends.specs.Tasks.{Task, steps_of, task_of}
+use Rattle.px_printer.specs.declared.duo_line.DuoLine.{DuoLine}
 use Rattle.px_printer.specs.declared.reply.Reply.{Reply}
 use Rattle.px_printer.specs.declared.reply.Reply.TheVariants as reply
 use Rattle.px_printer.specs.declared.reply.Why.{Why}
@@ -25,6 +27,7 @@ use Rattle.px_printer.specs.declared.turn.TurnEnd.{TurnEnd}
 use Rattle.px_printer.specs.declared.turn.TurnEnd.TheVariants.{Acted, Slipped, Goal, NoKernel}
 use Rattle.px_script.specs.declared.command.Command.{Command}
 use Rattle.px_script.specs.declared.command.Command.TheVariants as command
+use Rattle.px_session.specs.DuoRuns.{RunsDuo}
 use Rattle.px_session.specs.Sessions.{Edit, IsPlanTable, SessionState, any_table, leaves_edit, of_atoms, of_rooms}
 
 -- ---- plan
@@ -144,6 +147,32 @@ TellsRun problem old name bound (reply.UnknownParam param) new = HasNoParameter 
 TellsRun problem old name bound (reply.Ran given told) new = (given ≡ name) × IsRunOf problem name bound old told new
 TellsRun problem old name bound answer new = ⊥
 
+-- ---- duo
+
+-- the first of these names that has no table
+abbrev pub first_without_table : SessionState → List ℕ → Option ℕ
+first_without_table state names = find (λ name. not (is_some (any_table state name))) names
+
+-- Both names have tables, and two executors of these have the lines that the reply prints, from the world's atoms on. The world is then the
+-- one that they leave, and what is recorded stays so.
+pub record IsDuoOf (problem : Problem) (first second : ℕ) (numbers : List ℕ)
+    (old : SessionState) (lines : List DuoLine) (new : SessionState) : Type 0 where
+  pub one : Table
+  pub other : Table
+  pub first_named : any_table old first ≡ Some one
+  pub second_named : any_table old second ≡ Some other
+  pub after : List Atom
+  pub runs : RunsDuo leaves_edit problem (both one other) old.atoms numbers lines after
+  pub changed : new ≡ record old { atoms = after }
+
+-- the reply has the first name without a table, and nothing changes; or both tables are executed in one world
+abbrev pub TellsDuo : Problem → SessionState → ℕ → ℕ → List ℕ → Reply → SessionState → Type 0
+TellsDuo problem old first second numbers (reply.Unknown given) new =
+    (first_without_table old (first ∷ second ∷ []) ≡ Some given) × (new ≡ old)
+TellsDuo problem old first second numbers (reply.DuoRan one other lines) new =
+    (one ≡ first) × (other ≡ second) × IsDuoOf problem first second numbers old lines new
+TellsDuo problem old first second numbers answer new = ⊥
+
 -- ---- facts
 
 -- the world's atoms, ascending
@@ -168,4 +197,5 @@ Lawful problem old (command.DisturbAtoms turn between edits) answer new =
 Lawful problem old (command.DisturbRooms turn between edits) answer new =
     Notes old (recorded_for turn between (map of_rooms edits)) answer new
 Lawful problem old (command.Run name bound) answer new = TellsRun problem old name bound answer new
+Lawful problem old (command.Duo first second numbers) answer new = TellsDuo problem old first second numbers answer new
 Lawful problem old command.Facts answer new = TellsFacts old answer new

@@ -1,10 +1,12 @@
 -- The files of definitions and laws.
 pub mod Sessions
+pub mod DuoRuns
 pub mod Lawful
 pub mod Transcripts
 pub mod Demo
 pub mod Runs
 pub mod ToldRuns
+pub mod ToldDuos
 pub mod Planning
 pub mod Learning
 pub mod Places

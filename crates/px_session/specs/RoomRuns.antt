@@ -1,5 +1,5 @@
 -- What a session does in a building: the states that its edits, its steps and its replies leave.
-use Rattle.std.specs.Prelude.{◌≡◌, ℕ, false, true, Option, Some, List, [], ◌∷◌, map, take, All}
+use Rattle.std.specs.Prelude.{◌≡◌, ℕ, false, true, Option, None, Some, List, [], ◌∷◌, map, take, All}
 use Rattle.std.proofs.Common.{suc}
 use Rattle.px_terms.specs.declared.instance.OpInst.{OpInst}
 use Rattle.px_terms.specs.declared.problem.Problem.{Problem}
@@ -8,12 +8,17 @@ use Rattle.px_rooms.specs.Changes.{IsAdmitted, IsMoved, state_edited}
 use Rattle.px_rooms.specs.Following.{IsMet}
 use Rattle.px_rooms.specs.States.{IsRoomState, RoomState, first_state}
 use Rattle.px_planex.specs.Turns.{AtGoal, AtNoKernel, ByActing, BySlipping, Recorded, TurnEnd, TurnValue, edits_at}
+use Rattle.px_duo.specs.Duos.{Pair, both, own, with_own}
+use Rattle.px_printer.specs.declared.duo_line.DuoEnd.{DuoEnd}
+use Rattle.px_printer.specs.declared.duo_line.DuoEnd.TheVariants.{Acted}
+use Rattle.px_printer.specs.declared.duo_line.DuoLine.{DuoLine}
 use Rattle.px_printer.specs.declared.reply.Reply.{Reply}
 use Rattle.px_printer.specs.declared.reply.Reply.TheVariants as reply
 use Rattle.px_script.specs.declared.command.Command.{Command}
-use Rattle.px_script.specs.declared.command.Command.TheVariants.{Run}
+use Rattle.px_script.specs.declared.command.Command.TheVariants.{Run, Duo}
 use Rattle.px_script.specs.Content.{ScriptValue}
 use Rattle.px_script.specs.Ranges.{IsInRange}
+use Rattle.px_session.specs.DuoRuns.{who_of}
 use Rattle.px_session.specs.Lawful.{Lawful, turn_told}
 use Rattle.px_session.specs.OwnStates.{edits_given}
 use Rattle.px_session.specs.Places.{IsPlaced, TakeSame, Takes}
@@ -51,6 +56,20 @@ AreTurnsInRooms recorded number (turn ∷ turns) old new =
     × ((mid : RoomState) × EndsInRooms (edits_at recorded number true) turn.op turn.end sensed mid
     × AreTurnsInRooms recorded (suc number) turns mid new)
 
+-- ---- two executors
+
+-- an action that is taken leaves what its step leaves, and anything else the building as it was
+abbrev pub EndsDuoInRooms : Option OpInst → DuoEnd → RoomState → RoomState → Type 0
+EndsDuoInRooms step Acted old new = (inst : OpInst) × (step ≡ Some inst) × IsDone inst old new
+EndsDuoInRooms step _ old new = new ≡ old
+
+-- The lines come one after the other, where each of the two remembers its step: the one that its last line prints, if that prints one.
+abbrev pub AreDuoLinesInRooms : Pair (Option OpInst) → List DuoLine → RoomState → RoomState → Type 0
+AreDuoLinesInRooms steps [] old new = new ≡ old
+AreDuoLinesInRooms steps (line ∷ lines) old new =
+    (mid : RoomState) × EndsDuoInRooms (own (who_of line.who) steps) line.end old mid
+    × AreDuoLinesInRooms (with_own (who_of line.who) line.op steps) lines mid new
+
 -- ---- replies
 
 -- The building's state is one of a building. Its facts are the world's atoms, and its rules the problem's; and it takes each edit that is
@@ -63,10 +82,13 @@ pub record IsInBuilding (problem : Problem) (building : RoomState) (state : Sess
 abbrev pub HasTakenEdits : Option RoomState → Command → Type 0
 HasTakenEdits building command = All (Takes building) (edits_given command)
 
--- what a reply leaves of the building: a run that a reply prints leaves what its turns leave, and any other reply the building as it was
+-- what a reply leaves of the building: a run that a reply prints leaves what its turns leave, two executors what the steps leave that their
+-- lines print, and any other reply the building as it was
 abbrev pub LeavesRooms : SessionState → Command → Reply → RoomState → RoomState → Type 0
 LeavesRooms old (Run name bound) (reply.Ran given told) building left =
     AreTurnsInRooms old.recorded 1 (map turn_told told) building left
+LeavesRooms old (Duo first second numbers) (reply.DuoRan one other lines) building left =
+    AreDuoLinesInRooms (both None None) lines building left
 LeavesRooms old command answer building left = left ≡ building
 
 -- a lawful reply in a building leaves a state of it, in which the session is then, and which takes the same edits

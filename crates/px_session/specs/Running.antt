@@ -9,6 +9,7 @@ use Rattle.px_planex.specs.declared.event.Outcome.TheVariants.{Sensed}
 use Rattle.px_planex.specs.Execution.{Memory}
 use Rattle.px_planex.specs.Executors.{PlanexValue, running}
 use Rattle.px_planex.specs.Turns.{EndsTurn, Recorded, TakesTurn, TakesTurns, TurnValue, after_edits, edits_at}
+use Rattle.px_duo.specs.DuoValue.{DuoValue}
 use Rattle.px_printer.specs.declared.turn.Turn.{Turn}
 use Rattle.px_session.specs.declared.place.Place.{Place}
 pub use Rattle.px_session.specs.Lawful.{end_told, turn_told}
@@ -46,6 +47,12 @@ pub record HasPlaces (planex : PlanexValue) (places : ℕ) (world : Place) : Typ
   pub rules : HaveSameRules (place_rules world) planex.problem
   pub spare : places ≤ place_spare world
   pub room : length (place_atoms world) + places ≤ planex.room
+
+-- and the same for two executors
+pub record HasDuoPlaces (duo : DuoValue) (places : ℕ) (world : Place) : Type 0 where
+  pub rules : HaveSameRules (place_rules world) duo.problem
+  pub spare : places ≤ place_spare world
+  pub room : length (place_atoms world) + places ≤ duo.room
 
 -- how many atoms an operator adds at most
 abbrev pub adds_most : List Schema → ℕ

@@ -68,6 +68,11 @@ pub(crate) fn run_command(
             let bound = pairs(alloc, bindings.as_slice())?;
             state.run(alloc, problem, *name, &bound, building)
         }
+        Command::Duo {
+            first,
+            second,
+            events,
+        } => state.duo(alloc, problem, *first, *second, events.as_slice(), building),
         Command::Facts => state.tell_facts(alloc),
     }
 }

@@ -4,6 +4,7 @@ ghost use Rattle.px_session.specs.Determined.{AnswersAreOne, LawfulIsOne, Sessio
 ghost use Rattle.px_session.specs.Named.{RepliesAreNamed};
 ghost use Rattle.px_session.specs.RoomRuns.{RoomsAreKept};
 ghost use Rattle.px_session.specs.Runs.{OneKindRuns};
+ghost use Rattle.px_session.specs.ToldDuos.{ToldDuos};
 ghost use Rattle.px_session.specs.ToldRuns.{ToldRuns};
 ghost use Rattle.px_session.specs.WorkedDemo.{WorkedDemoLine};
 ghost use Rattle.px_session.specs.WorkedRooms.{WorkedRooms};
@@ -58,8 +59,14 @@ pub fn told_runs()
     ensures { ToldRuns }
 {}
 
+/// The lines that a reply prints of two executors are one for each number, and a trace: their events have the outcomes that they say.
+pub fn told_duos()
+    ensures { ToldDuos }
+{}
+
 /// A script with a building begins in the building's first state, and each lawful reply leaves a state of it, whose facts are the
-/// world's atoms: a run what its turns leave, edit by edit and step by step, and any other command the state as it was.
+/// world's atoms: a run what its turns leave, edit by edit and step by step, two executors what their steps leave, and any other command the
+/// state as it was.
 pub fn rooms_are_kept()
     ensures { RoomsAreKept }
 {}

@@ -5,18 +5,18 @@
 //! # Calling it
 //!
 //! - [`Session::new`] takes a [`px_script::Script`] that was read. [`Session::execute`] answers command `k`, each once and in
-//!   order: `plan`, `learn`, `show`, `disturb`, `run` and `facts`. Its reply is lawful, each number that it prints as a name has
+//!   order: `plan`, `learn`, `show`, `disturb`, `run`, `duo` and `facts`. Its reply is lawful, each number that it prints as a name has
 //!   one, and after a refusal for memory the session is as it was. Contracts see a session as a `SessionValue` (`specs/Opened`); what it
 //!   keeps is in `specs/KeptSessions`.
 //! - With a building the world's atoms are the facts of a state of it, from the opening on and after each lawful reply, and the building
-//!   takes each recorded edit. A run leaves the state that the edits and steps of its turns leave, one after the other, and any other
-//!   command leaves the state as it was (`specs/RoomRuns`, [`rooms_are_kept`]).
+//!   takes each recorded edit. A run leaves the state that the edits and steps of its turns leave, one after the other, and two executors
+//!   the one that their steps leave. Any other command leaves the state as it was (`specs/RoomRuns`, [`rooms_are_kept`]).
 //! - A `SessionState` in `specs/Sessions` has the world's atoms, the tables of the stored plans by name, the learned tables by
 //!   name in the order of learning, and the disturbances that are recorded for the next run. `opening` is the one before the
 //!   first command. An `Edit` is one of atoms or one of a building.
 //! - `Lawful` in `specs/Lawful` says which reply a command may have in a state, and which state it leaves: one relation for all
 //!   commands of version 1, a line for each. It stands on the ends of a search (`px_ends`), generalising (`px_general`), the
-//!   executor's runs (`px_planex`) and tables by name (`px_library`).
+//!   executor's runs (`px_planex`), two executors in one world (`px_duo`, `specs/DuoRuns`) and tables by name (`px_library`).
 //! - `IsSession` is what a session keeps: the world's atoms are a set; the table of each stored plan has no parameters, and its
 //!   own steps delete nothing that its later rows rest on; there are at most 32 learned tables, none of them too long or with a
 //!   proof that is too high. The opening state is like this where the facts are a set, and each lawful reply leaves such a state
@@ -33,7 +33,7 @@
 //!   [`replies_are_named`]).
 //! - A run by edits of atoms alone, or of rooms alone, is a session's run with the same disturbances (`specs/Runs`,
 //!   [`one_kind_runs`]). A run that a reply prints has few turns, and is a trace of its events (`specs/ToldRuns`,
-//!   [`told_runs`]).
+//!   [`told_runs`]). What two executors did, line by line, is a trace, too (`specs/ToldDuos`, [`told_duos`]).
 //! - A small script is worked out with its text ([`worked_session`]), and so are the demo's line for five replies ([`worked_demo`]),
 //!   and the states that the turns of a run in a building leave ([`worked_rooms`]).
 //! - The laws are calls that do nothing. No public clause cites `specs/Learning`, `specs/Planning` and `specs/Running`.
@@ -42,11 +42,13 @@
 //!
 //! A `run` asks for all its memory before the first turn: room for each turn that there may be, and for each atom that edits and steps
 //! may add. It goes on in a copy of the world's atoms, or in the building itself (`place`, `running`, `turns`; `specs/Running` has the
-//! counts).
+//! counts). So does a `duo`, before its first event (`duo_run`, `duo_lines`).
 #![tactic(auto)]
 
 mod commands;
 mod disturbance;
+mod duo_lines;
+mod duo_run;
 mod edit;
 mod laws;
 mod learning;
@@ -61,7 +63,7 @@ mod turns;
 
 pub use laws::{
     answers_are_one, causes_in_order, lawful_is_one, one_kind_runs, refused_replies,
-    replies_are_named, rooms_are_kept, sessions_are_kept, told_runs, transcripts_are_one,
-    worked_demo, worked_rooms, worked_session,
+    replies_are_named, rooms_are_kept, sessions_are_kept, told_duos, told_runs,
+    transcripts_are_one, worked_demo, worked_rooms, worked_session,
 };
 pub use session::Session;

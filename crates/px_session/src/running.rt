@@ -50,7 +50,7 @@ pub(crate) struct Run {
 }
 
 /// Returns how many atoms an operator adds at most.
-fn most_adds(problem: &Problem) -> usize
+pub(crate) fn most_adds(problem: &Problem) -> usize
     ensures { adds_most problem.now.schemas ≤ result }
 {
     let mut most = 0;

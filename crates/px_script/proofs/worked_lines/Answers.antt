@@ -54,6 +54,25 @@ pub returns-clause-limits : goal.returns-clause-limits
 unfolding lines_read scan_by unicode_ident encode all_within items_after with_item set_of
 returns-clause-limits c = search (after-so, fit-so, refuse-so) depth 14
 
+pub returns-clause-sorts : goal.returns-clause-sorts
+unfolding lines_read scan_by unicode_ident encode all_within items_after with_item set_of
+returns-clause-sorts c = search (after-so, fit-so, refuse-so) depth 14
+
+pub returns-clause-duos : goal.returns-clause-duos
+unfolding lines_read scan_by unicode_ident encode all_within items_after with_item set_of digits
+returns-clause-duos c = record {
+  duos = search (after-so, fit-so, refuse-so) depth 14;
+  keeps_disturbs = search (after-so, fit-so, refuse-so) depth 14;
+  most_events = search (after-so, fit-so, refuse-so) depth 14;
+  new = search (after-so, fit-so, refuse-so) depth 14;
+  no_form = search (after-so, fit-so, refuse-so) depth 14;
+  unknown = search (after-so, fit-so, refuse-so) depth 14;
+  numbers = search (after-so, fit-so, refuse-so) depth 14;
+  many_events = search (after-so, fit-so, refuse-so) depth 14;
+  numbers_first = search (after-so, fit-so, refuse-so) depth 14;
+  commands_first = search (after-so, fit-so, refuse-so) depth 14;
+}
+
 pub returns-clause-later : goal.returns-clause-later
 unfolding lines_read scan_by unicode_ident encode all_within items_after with_item set_of digits
 returns-clause-later c = search after-so depth 14

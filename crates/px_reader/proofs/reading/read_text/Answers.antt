@@ -1,5 +1,5 @@
 -- Proofs of the goals that `read_text` of src/reading.rt leaves open.
-use Rattle.px_reader.proofs.Common.{◌≡◌, refl, open_block_view, sym, ap, ◌∙◌, subst, inr, length, arith, nothing_declared, lines_of, PassAll, lines-kept, start-in-range, declared-in-range, characters_of, HasFirstFault, LinesFail, stage_view, declared_of}
+use Rattle.px_reader.proofs.Common.{◌≡◌, ◌≤◌, map, refl, open_block_view, sym, ap, ◌∙◌, subst, inr, length, arith, length-map, string_bytes, nothing_declared, lines_of, PassAll, lines-kept, start-in-range, declared-in-range, characters_of, HasFirstFault, LinesFail, stage_view, declared_of}
 use Rattle.px_reader.proofs.Outcomes.{parts-lines, few-parts, left-open, text-fails, err-carried}
 use Rattle.px_reader.proofs.reading.read_text.Goals as goal
 
@@ -9,8 +9,14 @@ read_each-requires-clause-few c =
     let same = ap length c.deref.ensures.value in
     omega (arith, few, same, c.requires)
 
-pub finish-requires : goal.finish-requires
-finish-requires c = declared-in-range _
+pub finish-requires-clause-few_sorts : goal.finish-requires-clause-few_sorts
+finish-requires-clause-few_sorts c =
+    let kept = lines-kept (stage_view c.args.stage.now) 1 nothing_declared _ _ start-in-range c.in_ok-read_each.ensures.passes in
+    let few : length (map string_bytes c.read_each.new.reader.sorts.items) ≤ 32 = kept.problem.few_sorts in
+    omega (arith, few, length-map c.read_each.new.reader.sorts.items string_bytes)
+
+pub finish-requires-clause-range : goal.finish-requires-clause-range
+finish-requires-clause-range c = declared-in-range _
     (lines-kept (stage_view c.args.stage.now) 1 nothing_declared _ _ start-in-range c.in_ok-read_each.ensures.passes) (rw c.in-None.is refl)
 
 pub returns-in_err-read_each-clause-refused : goal.returns-in_err-read_each-clause-refused

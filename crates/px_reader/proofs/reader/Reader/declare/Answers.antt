@@ -1,5 +1,5 @@
 -- Proofs of the goals that `Reader::declare` of src/reader.rt leaves open.
-use Rattle.px_reader.proofs.Common.{refl, at-most, arith, declared_of}
+use Rattle.px_reader.proofs.Common.{◌≤◌, length, map, refl, at-most, arith, length-map, string_bytes, declared_of}
 use Rattle.px_reader.proofs.Fresh.{objects-named}
 use Rattle.px_reader.proofs.Right.{readable, facts-ground, axiom-plain}
 use Rattle.px_reader.proofs.reader.Reader.declare.Goals as goal
@@ -72,3 +72,17 @@ returns-in-Door c = rw c.in-Door.is c.add_door.ensures
 
 pub returns-in-Box : goal.returns-in-Box
 returns-in-Box c = rw c.in-Box.is c.add_box.ensures
+
+pub add_sort-requires-clause-few : goal.add_sort-requires-clause-few
+add_sort-requires-clause-few c =
+    let few : length (map string_bytes c.args.self.now.sorts.items) ≤ 32 = c.requires.range.problem.few_sorts in
+    omega (arith, few, length-map c.args.self.now.sorts.items string_bytes)
+
+pub add_sort-requires-clause-named : goal.add_sort-requires-clause-named
+add_sort-requires-clause-named c =
+    (objects-named c.in-Sort.objects.now (rw c.in-Sort.is at c.requires.named).1.1)
+
+pub give_sort-requires : goal.give_sort-requires
+give_sort-requires c =
+    let few : length (map string_bytes c.args.self.now.sorts.items) ≤ 32 = c.requires.range.problem.few_sorts in
+    omega (arith, few, length-map c.args.self.now.sorts.items string_bytes)

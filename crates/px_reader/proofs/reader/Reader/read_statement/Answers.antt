@@ -31,11 +31,11 @@ returns-then-has_too_many_facts-clause-fault c =
     let none = rw c.in-None.is at c.in_ok-fault.ensures in
     let many = rw c.is_fact-is_fact.ensures at (sym c.has_too_many_facts.ensures ∙ c.if-has_too_many_facts.true) in
     many-facts (stage_view c.args.stage.now) c.args.number (declared_of c.args.self.now) (declared_of c.declare.new.self)
-    c.requires.range.version (statement_view c.args.statement) c.in_ok-declare-in-None.ensures (sym none) many
+    (statement_view c.args.statement) c.in_ok-declare-in-None.ensures (sym none) many
 
 pub returns-else-has_too_many_facts-clause-fault : goal.returns-else-has_too_many_facts-clause-fault
 returns-else-has_too_many_facts-clause-fault c =
     let none = rw c.in-None.is at c.in_ok-fault.ensures in
     let few = rw c.is_fact-is_fact.ensures at (sym c.has_too_many_facts.ensures ∙ c.if-has_too_many_facts.false) in
     few-facts (stage_view c.args.stage.now) c.args.number (declared_of c.args.self.now) (declared_of c.declare.new.self)
-    c.requires.range.version (statement_view c.args.statement) c.in_ok-declare-in-None.ensures (sym none) few
+    (statement_view c.args.statement) c.in_ok-declare-in-None.ensures (sym none) few

@@ -27,7 +27,7 @@ world_of-requires-clause-short c =
     let IsShort : List Thing → Type 0 = λ things. length things < u32_max in
     read-building IsShort c.args.script.building
     (each-building (IsBuildingOf script.names script.problem script.facts) IsShort script.building
-    (λ things is. few-things script.version script.names script.problem script.facts things range.version range.names.few_objects is)
+    (λ things is. few-things script.version script.names script.problem script.facts things range.names.few_objects is)
     range.building)
 
 pub invariant_of-result : goal.invariant_of-result
