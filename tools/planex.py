@@ -7,8 +7,8 @@
 
 `run` takes a script, as a text or as a path, and `read` a transcript that was kept. Both return an `Answer`, which lists the replies in the
 order of the commands and finds them by name. Each reply is an object of its own kind: `Plan`, `Exhausted`, `NodeLimit`, `ShapeLimit`,
-`Learned`, `NotLearned`, `Table`, `Noted`, `Run`, `Facts` or `Unknown`, with its line and its first line's text. docs/LANGUAGE.md says
-when each comes.
+`Learned`, `NotLearned`, `Table`, `Noted`, `Run`, `Duo`, `Facts` or `Unknown`, with its line and its first line's text. docs/LANGUAGE.md
+says when each comes.
 
 In a notebook a `Table` shows itself as the picture of a triangle, and the `floors` of a plan or of a run in a building show the rooms.
 The examples on this page run the program where it stands proved, and else read what is recorded of it (`example`).
@@ -151,6 +151,16 @@ class Turn(NamedTuple):
     kernel: int
     step: Atom
     end: str
+
+
+class Event(NamedTuple):
+    """What one of two executors does, 1 or 2. Its end is `sensed` where it finds a kernel and remembers its step, `acted` or `slipped` where it
+    takes that step or doesn't, `goal` or `nokernel`. Of the first three the kernel's number and the step are told."""
+    text: str
+    who: int
+    end: str
+    kernel: int = 0
+    step: Atom = None
 
 
 def in_order(parameters):
@@ -382,6 +392,32 @@ class Run(Reply):
 
 
 @dataclass
+class Duo(Reply):
+    """A run of two executors in one world: the event of one of them on each line. Executor 1 runs the table `name`, and 2 the table `other`.
+
+    >>> duo = read('duo P Q\\n  1 kernel 1 A(a)\\n  2 kernel 2 B(b)\\n  1 acted\\n  2 slipped\\n')[0]
+    >>> duo.name, duo.other, [(event.who, event.end, str(event.step)) for event in duo.events[2:]]
+    ('P', 'Q', [(1, 'acted', 'A(a)'), (2, 'slipped', 'B(b)')])
+    """
+    word, form = 'duo', f'duo {NAME} {NAME}'
+    other: str = ''
+    events: list = field(default_factory=list)
+
+    def take(self, numbers, lines):
+        remembered = {}
+        while not self.events or lines.rest() and lines.lines[lines.at].startswith('  '):
+            found = lines.wanted(r'  ([12]) (?:kernel ([1-9]\d{0,9}) (\S+)|(acted|slipped|goal|nokernel))', 'an event of one of two')
+            who, end = int(found[1]), found[4] or 'sensed'
+            if (end in ('acted', 'slipped')) != (who in remembered):
+                lines.at -= 1
+                lines.fail(f'executor {who} remembers {"a" if who in remembered else "no"} step here')
+            if end == 'sensed':
+                remembered[who] = int(found[2]), lines.atom(found[3])
+            kernel, step = remembered.get(who, (0, None)) if end == 'sensed' else remembered.pop(who, (0, None))
+            self.events.append(Event(lines.lines[lines.at - 1].strip(), who, end, kernel, step))
+
+
+@dataclass
 class Facts(Reply):
     """The facts, in their order."""
     word, form = 'facts', f'facts {NUMBER}'
@@ -416,12 +452,14 @@ def read_reply(lines):
     found = lines.take(kind.form) if kind else None
     if not found:
         lines.fail('this line begins no reply')
-    groups = list(found.groups())
-    reply = kind(lines.at, text, groups.pop(0) if NAME in kind.form else '')
-    if reply.name and not reply.name.isidentifier():
-        lines.at -= 1
-        lines.fail(f'{reply.name} is no name')
-    reply.take([int(number) for number in groups], lines)
+    count = kind.form.count(NAME)
+    names, numbers = found.groups()[:count], found.groups()[count:]
+    for name in names:
+        if not name.isidentifier():
+            lines.at -= 1
+            lines.fail(f'{name} is no name')
+    reply = kind(lines.at, text, *names)
+    reply.take([int(number) for number in numbers], lines)
     return reply
 
 

@@ -1,67 +1,18 @@
 """Makes the page: a section for each transcript, and in it a part for each reply."""
 import html
+import pathlib
 
-from pictures import floor, triangle
+from pictures import floor, legend, triangle
 from pictures.drawing import style
+from pictures.ends import said_of
+from pictures.duo import memories_of, name_of
 from pictures.floor import captions
-from planex import Facts, Noted, Plan, Run, Table, Unknown, in_order
+from planex import Duo, Facts, Learned, Noted, Plan, Run, Table, Unknown, in_order
 
-STYLE = """
-:root { color-scheme: light dark; font-family: system-ui, sans-serif; line-height: 1.4; }
-body { max-width: 75rem; margin: 2rem auto; padding: 0 1rem; overflow-wrap: anywhere; }
-figure { margin: 1rem 0; overflow-x: auto; max-width: 100%; } figcaption { margin-bottom: .3rem; }
-code, pre, li, h3, .line { font-family: ui-monospace, 'DejaVu Sans Mono', monospace; }
-label { margin-right: .8rem; white-space: nowrap; } fieldset { border: 1px solid; }
-input[type=range] { width: min(30rem, 60vw); vertical-align: middle; }
-.beside { display: flex; flex-wrap: wrap; gap: 0 2rem; align-items: flex-start; } .beside > figure { flex: 0 1 auto; min-width: 0; }
-.items { flex: 1 1 20rem; min-width: 0; max-width: 100%; }
-.items { list-style: none; padding: 0; } .items > li { margin-bottom: 1rem; } .line { font-weight: bold; }
-.facts { columns: 15rem; column-gap: 2.5rem; padding-left: 1.2rem; } .note { font-style: italic; }
-@page { size: landscape; margin: 1cm; }
-@media print {
-  fieldset, .slider { display: none; } .items > [hidden] { display: list-item; } figure { overflow: visible; }
-  svg { max-width: 100%; height: auto; }
-  .beside { display: block; } .walk .out { opacity: 1; } .walk .kernel { display: none !important; }
-  svg, .items > li { break-inside: avoid; } h2, h3 { break-after: avoid; }
-}
-"""
-SCRIPT = """
-function choose(figure, kernel, end) {
-  figure.querySelectorAll('g').forEach(function (cell) {
-    var row = +cell.dataset.row, column = +cell.dataset.column;
-    cell.classList.toggle('out', kernel > 0 && !(row >= kernel && column < kernel) && !(row === kernel && column === kernel));
-    cell.classList.toggle('slipped', end === 'slipped' && row === kernel && column === kernel);
-  });
-  figure.querySelectorAll('.kernel').forEach(function (shape) {
-    shape.style.display = +shape.dataset.kernel === kernel ? 'inline' : 'none';
-  });
-}
-document.querySelectorAll('.table').forEach(function (part) {
-  var figure = part.querySelector('figure'), said = part.querySelector('[role=status]'), chosen = 0;
-  function point(element, kernel) {
-    element.addEventListener('mouseenter', function () { choose(figure, kernel); });
-    element.addEventListener('mouseleave', function () { choose(figure, chosen); });
-  }
-  part.querySelectorAll('input[type=radio]').forEach(function (input) {
-    input.addEventListener('change', function () {
-      chosen = +input.value; choose(figure, chosen); said.textContent = input.dataset.said;
-    });
-    point(input.parentElement, +input.value);
-  });
-  figure.querySelectorAll('.step').forEach(function (step) { point(step, +step.dataset.row); });
-});
-document.querySelectorAll('.walk').forEach(function (part) {
-  var slider = part.querySelector('input'), items = part.querySelectorAll('.items > li'), figure = part.querySelector('.beside > figure');
-  function show() {
-    items.forEach(function (item, at) { item.hidden = at !== +slider.value - +slider.min; });
-    var item = items[slider.value - slider.min];
-    slider.setAttribute('aria-valuetext', item.querySelector('.line').textContent);
-    if (figure) choose(figure, +item.dataset.kernel || -1, item.dataset.end);
-  }
-  part.querySelector('.slider').hidden = false;
-  slider.addEventListener('input', show); show();
-});
-"""
+HERE = pathlib.Path(__file__).resolve().parent
+STYLE, SCRIPT = (HERE / 'view.css').read_text(), (HERE / 'view.js').read_text()
+MOST_FACTS = 40  # that aren't folded
+FULL = '<button class="full" type="button" hidden>Full screen</button>'
 COMPUTED = 'worked out from the script by its operators and disturbances: the program tells the steps alone'
 
 
@@ -108,34 +59,77 @@ def table_text(table):
         yield f'<li>{breaking(head)}{listed(marks) if marks else ""}</li>'
 
 
+def words(table):
+    """A table in words, folded."""
+    return f'<details><summary>table {text(table.name)} in words</summary><ul>{"".join(table_text(table))}</ul></details>'
+
+
 def table_part(table, script, unique):
     """A table with the choice of a kernel, and in words."""
     objects = script.objects if script else ()
-    return (f'<section class="table"><h3>{text(table.text)}</h3>{"".join(choices(table, unique))}<p role="status"></p>'
-            f'{figure(triangle.picture(table, objects), f"triangle table {table.name}")}'
-            f'<details><summary>table {text(table.name)} in words</summary><ul>{"".join(table_text(table))}</ul></details></section>')
+    return (f'<section class="table drawn"><h3>{text(table.text)}</h3>'
+            f'<div class="slide" tabindex="-1" data-title="{text(table.text)}">{"".join(choices(table, unique))}'
+            f'<p role="status"></p>{FULL}{figure(triangle.picture(table, objects), f"triangle table {table.name}")}</div>'
+            f'{words(table)}</section>')
 
 
-def walk(caption, first, items, layout, beside=''):
+def walk(title, caption, first, items, layout, beside=''):
     """Items of which a slider shows one at a time. Without scripts, and on paper, all are shown. Floors are as wide as their layout."""
     last, wide = first + len(items) - 1, f' style="flex-basis: {layout.size[0]:.0f}px"' if layout else ''
-    return (f'<div class="walk"><p class="slider" hidden><label>{text(caption)} '
-            f'<input type="range" min="{first}" max="{last}" value="{first}"></label></p>'
+    return (f'<div class="walk slide" tabindex="-1" data-title="{text(title)}"><p class="slider" hidden><label>{text(caption)} '
+            f'<input type="range" min="{first}" max="{last}" value="{first}"></label> '
+            f'<button class="play" type="button">Play</button> {FULL}</p>'
             f'<div class="beside">{beside}<ol class="items"{wide}>{"".join(items)}</ol></div></div>')
 
 
-def plan_part(item, script, layout):
-    """A plan: its steps, and for a building the floor after each."""
-    steps = item.reply.steps
-    inner = listed(steps, 'ol') if steps else '<p>No step: the goal holds already.</p>'
+def changed_facts(script, facts, gone, come, caption):
+    """Facts with those marked that a step deletes and adds; folded where they are many."""
+    marked = [(f'<li class="gone"><del>{breaking(fact)}</del></li>' if fact in gone else
+               f'<li class="come"><ins>{breaking(fact)}</ins></li>' if fact in come else f'<li>{breaking(fact)}</li>')
+              for fact in script.in_order(facts | come)]
+    return (f'<details{" open" if len(marked) <= MOST_FACTS else ""}><summary>{text(caption)}</summary>'
+            f'<ul class="facts">{"".join(marked)}</ul></details>')
+
+
+def change_text(script, gone, come):
+    """What a step changes, in words."""
+    gone, come = (' '.join(map(str, script.in_order(facts))) or 'nothing' for facts in (gone, come))
+    return f'<p>The step deletes: {breaking(gone)}. It adds: {breaking(come)}.</p>'
+
+
+def plan_item(number, caption, states, table, script, layout):
+    """The facts, and in a building the floor, before the first step of a plan or after a step."""
+    before, after = states[max(number - 1, 0)], states[number]
+    yield f'<li data-kernel="{number + 1}">{triangle.small(table, number + 1) if table else ""}<p class="line">{breaking(caption)}</p>'
+    if number:
+        yield change_text(script, before - after, after - before)
     if layout:
-        floors = []
-        for caption, facts in zip(captions(steps), item.states):
-            floors.append(f'<li><p class="line">{breaking(caption)}</p>'
-                          f'{figure(floor.picture(layout, floor.State(script.building, facts), caption), caption)}</li>')
-        inner += f'<p class="note">The floor, {COMPUTED}. Rooms stand in the order of the script, which doesn\'t say how they lie.</p>'
-        inner += walk(f'step of {item.reply.name}', 0, floors, layout)
-    return f'<section><h3>{text(item.reply.text)}</h3>{inner}</section>'
+        yield figure(floor.picture(layout, floor.State(script.building, after), caption), caption)
+    yield changed_facts(script, before | after, before - after, after - before, f'{len(after)} facts {caption.split(",")[0]}')
+    yield '</li>'
+
+
+def plan_part(item, script, table, layout, is_shown):
+    """A plan: its goal, its steps, and beside its table the facts step by step, with the floor in a building."""
+    steps, name = item.reply.steps, item.reply.name
+    inner = listed(steps, 'ol') if steps else '<p>No step: the goal holds already.</p>'
+    beside = figure(triangle.picture(table, script.objects if script else ()), f'triangle table {name}') if table else ''
+    if item.states:
+        items = [''.join(plan_item(number, caption, item.states, table, script, layout)) for number, caption in enumerate(captions(steps))]
+        rooms = ' Rooms stand in the order of the script, which doesn\'t say how they lie.' if layout else ''
+        outlines = ' The outlined kernel is what has to be true then.' if table else ''
+        inner += f'<p class="note">Facts{" and floors" if layout else ""}: {COMPUTED}.{rooms}{outlines}</p>'
+        inner += walk(item.reply.text, f'step of {name}', 0, items, layout, beside)
+    elif beside:
+        inner += beside
+    folded = words(table) if table and not is_shown else ''
+    kind = 'plan drawn' if item.states or table else 'plan'
+    return f'<section class="{kind}"><h3>{text(item.reply.text)}</h3>{goal(item)}{inner}{folded}</section>'
+
+
+def goal(item):
+    """The goal of a plan, which its command has."""
+    return f'<p class="goal">goal: {breaking(item.command.text.split(None, 2)[2])}</p>' if item.command else ''
 
 
 def values_of(table, turn, objects):
@@ -146,17 +140,17 @@ def values_of(table, turn, objects):
 
 
 def turn_facts(told, turn, script):
-    """The facts that the executor sees, and what a step changes."""
-    seen = script.in_order(told.seen)
-    yield f'<details open><summary>{len(seen)} facts when the executor looks</summary>{listed(seen, name="facts")}</details>'
+    """What a step changes, and the facts that the executor sees, with these marked."""
+    gone, come = (told.met - told.left, told.left - told.met) if turn.end == 'acted' else (frozenset(), frozenset())
     if turn.end == 'acted':
-        gone, come = (' '.join(map(str, script.in_order(facts))) or 'nothing' for facts in (told.met - told.left, told.left - told.met))
-        yield f'<p>The step takes away: {breaking(gone)}. It adds: {breaking(come)}.</p>'
+        yield change_text(script, gone, come)
+    yield changed_facts(script, told.seen, gone, come - told.seen, f'{len(told.seen)} facts when the executor looks')
 
 
 def turn_item(turn, told, table, script, layout):
     """A turn of a run."""
-    yield f'<li data-kernel="{turn.kernel}" data-end="{turn.end}"><p class="line">{breaking(turn.text)}</p>'
+    small = triangle.small(table, turn.kernel, turn.end) if table else ''
+    yield f'<li data-kernel="{turn.kernel}" data-end="{turn.end}">{small}<p class="line">{breaking(turn.text)}</p>'
     if told:
         yield ''.join(f'<p>Before the look: {text(line)}</p>' for line in told.before)
         yield ''.join(f'<p>Between the look and the step: {text(line)}</p>' for line in told.between)
@@ -178,8 +172,85 @@ def run_part(item, script, table, layout):
     beside = figure(triangle.picture(table, script.objects if script else ()), f'triangle table {table.name}') if table else ''
     notes = '' if table else '<p class="note">The transcript doesn\'t show its table.</p>'
     notes += f'<p class="note">Facts{" and floors" if layout else ""}: {COMPUTED}.</p>' if item.turns else ''
-    return (f'<section class="run"><h3>{text(item.command.text if item.command else reply.text)}</h3>'
-            f'{notes}{walk(f"turn of {reply.name}", 1, items, layout, beside)}</section>')
+    title = item.command.text if item.command else reply.text
+    return (f'<section class="run drawn"><h3>{text(title)}</h3>'
+            f'{notes}{walk(title, f"turn of {reply.name}", 1, items, layout, beside)}</section>')
+
+
+def since(number):
+    """When an executor sensed what it remembers."""
+    return f'since event {number}'
+
+
+def event_text(number, reply, told, memories):
+    """What one of two executors does at an event, in words."""
+    event = reply.events[number - 1]
+    who = f'Executor {event.who}, of {name_of(reply, event.who)},'
+    if event.end == 'sensed':
+        return f'{who} finds kernel {event.kernel} and remembers {event.step}.'
+    if event.end in ('goal', 'nokernel'):
+        return f'{who} finds {"that its goal is reached" if event.end == "goal" else "no kernel"}.'
+    own = memories[number - 1][event.who]
+    if event.end == 'acted':
+        return f'{who} takes {event.step}, which it has remembered {since(own.event)}.'
+    causes = [f'{lost.fact}, which event {lost.event} deleted: {lost.step} of the other' for lost in told.lost] if told else []
+    steps = [f'event {at + 1}: {other.step}' for at, other in enumerate(reply.events[:number - 1])
+             if at >= own.event and other.who != event.who and other.end == 'acted']
+    why = f'It rests on {"; and on ".join(causes)}.' if causes else f'Since then the other acted: {"; ".join(steps)}.'
+    return f'{who} doesn\'t take {event.step}, which it has remembered {since(own.event)}. {why}'
+
+
+def event_item(number, reply, told, memories, tables, script, layout):
+    """An event of one of two executors, with what both remember then."""
+    event, kernels, ends = reply.events[number - 1], [], []
+    for who in (1, 2):
+        table, kept = tables.get(name_of(reply, who)), memories[number].get(who)
+        is_own = event.who == who
+        goal = len(table.rows) if table and is_own and event.end == 'goal' else 0
+        kernels += [str(goal or (event.kernel if is_own else kept.kernel if kept else 0))] if table else []
+        ends += [event.end if is_own else 'other'] if table else []
+    small = triangle.small(tables[name_of(reply, event.who)], event.kernel, event.end) if name_of(reply, event.who) in tables else ''
+    yield (f'<li data-kernel="{" ".join(kernels)}" data-end="{" ".join(ends)}">{small}'
+           f'<p class="line">event {number}: {breaking(event.text)}</p>')
+    yield f'<p>{breaking(event_text(number, reply, told, memories))}</p>'
+    yield '<p>Remembered then: ' + '; '.join(
+        f'{who}: ' + (f'{breaking(kept.step)} {since(kept.event)}' if kept else 'nothing')
+        for who, kept in ((who, memories[number].get(who)) for who in (1, 2))) + '.</p>'
+    if told:
+        if layout:
+            caption = f'after event {number}'
+            yield figure(floor.picture(layout, floor.State(script.building, told.left), caption), caption, caption)
+        gone, come = told.met - told.left, told.left - told.met
+        yield change_text(script, gone, come) if event.end == 'acted' else ''
+        yield changed_facts(script, told.met, gone, come, f'{len(told.left)} facts after it')
+    yield '</li>'
+
+
+def duo_part(item, script, tables, layout):
+    """A run of two executors: both tables, with one slider over the events."""
+    reply, told, memories = item.reply, item.events or [None] * len(item.reply.events), memories_of(item.reply.events)
+    items = [''.join(event_item(number, reply, one, memories, tables, script, layout)) for number, one in enumerate(told, 1)]
+    objects = script.objects if script else ()
+    own = [(f'executor {who}: {name_of(reply, who)}', tables.get(name_of(reply, who))) for who in (1, 2)]
+    beside = ''.join(figure(triangle.picture(table, objects), f'triangle table of {caption}', caption) for caption, table in own if table)
+    missing = [caption for caption, table in own if not table]
+    notes = ''.join(f'<p class="note">The transcript doesn\'t show the table of {text(caption)}.</p>' for caption in missing)
+    notes += f'<p class="note">Facts{" and floors" if layout else ""}: {COMPUTED}.</p>' if item.events else ''
+    title = item.command.text if item.command else reply.text
+    return (f'<section class="run drawn"><h3>{text(title)}</h3>{notes}'
+            f'{walk(title, f"event of {reply.name} and {reply.other}", 1, items, layout, beside)}</section>')
+
+
+def other_part(item):
+    """A reply that isn't drawn: its lines, and what it means that a search found no plan."""
+    reply, said = item.reply, ''
+    if item.command and isinstance(reply, (Noted, Unknown)):
+        said = f'<p>{text(item.command.text)}</p>'
+    numbers, meaning = said_of(reply)
+    if meaning:
+        said = f'{goal(item)}<p>{text(numbers)}</p><p>{text(meaning)}</p>' if numbers else f'{goal(item)}<p>{text(meaning)}</p>'
+    atoms = reply.atoms if isinstance(reply, Facts) else []
+    return f'<section><h3>{text(reply.text)}</h3>{said}{listed(atoms, name="facts") if atoms else ""}</section>'
 
 
 def parts(story, unique):
@@ -189,29 +260,32 @@ def parts(story, unique):
     if script:
         facts = script.in_order(frozenset(script.facts))
         yield f'<details><summary>facts of the script</summary>{listed(facts, name="facts")}</details>'
-    layout = floor.layout_of(story)
+    layout, shown = floor.layout_of(story), {item.reply.name for item in story.told if isinstance(item.reply, Table)}
     for number, item in enumerate(story.told):
         reply = item.reply
         if isinstance(reply, Table):
             yield table_part(reply, script, f'k{unique}-{number}')
         elif isinstance(reply, Run):
             yield run_part(item, script, tables.get(reply.name), layout)
+        elif isinstance(reply, Duo):
+            yield duo_part(item, script, tables, layout)
         elif isinstance(reply, Plan):
-            yield plan_part(item, script, layout)
+            yield plan_part(item, script, tables.get(reply.name), layout, reply.name in shown)
         else:
-            said = f'<p>{text(item.command.text)}</p>' if item.command and isinstance(reply, (Noted, Unknown)) else ''
-            atoms = reply.atoms if isinstance(reply, Facts) else []
-            yield f'<section><h3>{text(reply.text)}</h3>{said}{listed(atoms, name="facts") if atoms else ""}</section>'
+            yield other_part(item)
+            if isinstance(reply, Learned) and reply.name in tables and reply.name not in shown:
+                yield table_part(tables[reply.name], script, f'k{unique}-{number}')
     yield '</section>'
 
 
-def page(stories):
-    """The page of some transcripts."""
+def page(stories, is_folded=False):
+    """The page of some transcripts, with its legend open or folded."""
     links = ''.join(f'<li><a href="#s{number}">{text(story.title)}</a></li>' for number, story in enumerate(stories))
     body = [part for number, story in enumerate(stories) for part in parts(story, number)]
     names = in_order({name for story in stories for table in story.tables.values() for name in table.parameters()})
     return (f'<!doctype html>\n<html lang="en"><head><meta charset="utf-8"><meta name="viewport" content="width=device-width">'
             f'<title>planex: {text(", ".join(story.title for story in stories))}</title><style>{STYLE}{style(names)}</style></head>'
-            f'<body><main><h1>planex</h1>\n'
+            f'<body><main><h1>planex</h1>\n<p hidden><button id="projector" type="button" aria-pressed="false">Projector</button></p>\n'
+            + legend.of(stories, is_folded)
             + (f'<nav aria-label="transcripts"><ul>{links}</ul></nav>\n' if len(stories) > 1 else '') + '\n'.join(body)
             + f'\n</main><script>{SCRIPT}</script></body></html>\n')

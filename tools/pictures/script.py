@@ -8,7 +8,7 @@ from typing import NamedTuple
 from pictures.changes import Change
 from planex import Atom, Unread
 
-COMMANDS = ('plan', 'learn', 'show', 'disturb', 'run', 'facts')
+COMMANDS = ('plan', 'learn', 'show', 'disturb', 'run', 'duo', 'facts')
 # What a building gives to its script: as the table of operators in docs/LANGUAGE.md, without the preconditions.
 BUILDING_PREDICATES = ('INROOM', 'NEXTTO', 'CONNECTS', 'OPENED', 'CLOSED', 'ROOM', 'DOOR', 'BOX')
 BUILDING_OPERATORS = """
@@ -37,7 +37,8 @@ add INROOM(ROBOT,s) INROOM(b,s) NEXTTO(ROBOT,b)
 
 
 class Command(NamedTuple):
-    """A command, with its line's number and text. A disturbance has a turn, a point, and what it changes."""
+    """A command, with its line's number and text. A disturbance has a turn, a point, and what it changes; a run of two executors has the
+    second name, and whose event each is."""
     line: int
     text: str
     word: str
@@ -45,6 +46,8 @@ class Command(NamedTuple):
     turn: int = 0
     point: str = ''
     changes: tuple = ()
+    other: str = ''
+    events: tuple = ()
 
 
 @dataclass
@@ -147,6 +150,8 @@ def edits_of_building(words, building):
 
 def read_command(number, text, words, script):
     """A command of a line."""
+    if words[0] == 'duo':
+        return Command(number, text, 'duo', words[1], other=words[2], events=tuple(map(int, words[3:])))
     if words[0] != 'disturb':
         return Command(number, text, words[0], words[1] if len(words) > 1 else '')
     changes = tuple(edits_of_building(words[3:], script.building) if script.building else edits_of_atoms(words[3:], script))

@@ -29,21 +29,28 @@ def answer(path, data):
 
 
 def asking(data, script):
-    """The script with a `show` line before the first run of each table that no line shows, and the places of these among the commands."""
-    lines, places = data.split(b'\n'), []
+    """The script with a `show` line behind the first command of each result that no line shows, as long as it has room for one; the places
+    of these among the commands; and by line the number of the line that it was before."""
     shown = {command.name for command in script.commands if command.word == 'show'}
+    names, places = {}, []
     for place, command in enumerate(script.commands):
-        if command.word == 'run' and command.name not in shown:
+        if command.word in ('plan', 'learn', 'run') and command.name not in shown and len(script.commands) + len(names) < MOST_COMMANDS:
             shown.add(command.name)
-            lines[command.line - 1] = f'show {command.name}\n'.encode() + lines[command.line - 1]
-            places.append(place + len(places))
-    return b'\n'.join(lines), places
+            names[command.line] = command.name
+            places.append(place + len(names))
+    lines, sources = [], []
+    for number, line in enumerate(data.split(b'\n'), 1):
+        new = [line, f'show {names[number]}'.encode()] if number in names else [line]
+        lines += new
+        sources += [number] * len(new)
+    asked = b'\n'.join(lines)
+    return (asked, places, sources) if len(asked) <= MOST_BYTES else (data, [], [])
 
 
 def answers(path, data, script):
     """The replies to a script, and besides those to `show` lines that are asked where the script has room for them."""
-    asked, places = asking(data, script)
-    if places and len(script.commands) + len(places) <= MOST_COMMANDS and len(asked) <= MOST_BYTES:
+    asked, places, _ = asking(data, script)
+    if places:
         try:
             transcript, said = transcript_of(asked)
         except PlanexError:

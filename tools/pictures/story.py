@@ -4,7 +4,8 @@ The facts are worked out from the script's facts, operators and disturbances, an
 """
 from dataclasses import dataclass, field
 
-from planex import Facts, Noted, Plan, Run, Table, Unread
+from pictures.duo import check_duo, check_step, events_of
+from planex import Duo, Facts, Noted, Plan, Run, Table, Unread
 
 # The replies that a command may have.
 ANSWERS = {
@@ -13,6 +14,7 @@ ANSWERS = {
     'show': ('table', 'unknown'),
     'disturb': ('noted',),
     'run': ('run', 'unknown'),
+    'duo': ('duo', 'unknown'),
     'facts': ('facts',),
 }
 
@@ -29,11 +31,13 @@ class TurnTold:
 
 @dataclass
 class Told:
-    """A reply with what its script tells of it: the command, the facts before and after each step of a plan, and the turns of a run."""
+    """A reply with what its script tells of it: the command, the facts before and after each step of a plan, the turns of a run, and the
+    events of a run of two."""
     reply: object
     command: object = None
     states: list = field(default_factory=list)
     turns: list = field(default_factory=list)
+    events: list = field(default_factory=list)
 
 
 @dataclass
@@ -50,6 +54,7 @@ class Story:
             yield from item.states
             for turn in item.turns:
                 yield from (turn.seen, turn.met, turn.left)
+            yield from (event.left for event in item.events)
 
 
 def disturbed(facts, recorded, turn, point):
@@ -76,7 +81,10 @@ def turns_of(script, facts, recorded, reply):
 
 def fit(command, reply):
     """May the reply answer the command?"""
-    named = reply.name in ('', command.name) or command.word == 'learn' or command.word == 'run' and reply.word == 'unknown'
+    if isinstance(reply, Duo):
+        return (command.word, command.name, command.other, command.events) == (
+            'duo', reply.name, reply.other, tuple(event.who for event in reply.events))
+    named = reply.name in ('', command.name) or command.word == 'learn' or command.word in ('run', 'duo') and reply.word == 'unknown'
     return reply.word in ANSWERS[command.word] and named
 
 
@@ -87,7 +95,8 @@ def without_script(title, replies):
 
 def with_script(title, script, replies, asked=()):
     """What a transcript and its script tell, with tables that were asked for besides."""
-    return Story(title, tell(script, replies), script, tables_of([*asked, *replies], replies))
+    tables = tables_of([*asked, *replies], replies)
+    return Story(title, tell(script, replies, tables), script, tables)
 
 
 def tables_of(told, replies):
@@ -96,30 +105,28 @@ def tables_of(told, replies):
     for reply in replies:
         if isinstance(reply, Run) and reply.name in tables:
             check_run(reply, tables[reply.name])
+        elif isinstance(reply, Duo):
+            check_duo(reply, tables)
     return tables
 
 
 def check_run(reply, table):
     """Are the turns of a run those of its table?"""
-    names = table.parameters()
     for turn in reply.turns:
         if turn.kernel > len(table.rows) or (turn.kernel == len(table.rows)) != (turn.end == 'goal'):
             raise Unread(reply.line, 'a kernel here is none of the table')
         if turn.step:
-            head = table.rows[turn.kernel - 1].heads[0]
-            values = {own: value for own, value in zip(head.arguments, turn.step.arguments) if own in names}
-            if head.under(values) != turn.step:
-                raise Unread(reply.line, 'a step here is none of the table')
+            check_step(reply, table, turn)
 
 
 def steps_of(reply):
     """The steps of a plan, or of a run."""
-    if isinstance(reply, Run):
-        return [turn.step for turn in reply.turns if turn.step]
+    if isinstance(reply, (Run, Duo)):
+        return [each.step for each in (reply.turns if isinstance(reply, Run) else reply.events) if each.step]
     return reply.steps if isinstance(reply, Plan) else []
 
 
-def tell(script, replies):
+def tell(script, replies, tables):
     """The replies with what the script tells of them. A transcript that isn't the script's is refused."""
     told, facts, recorded = [], frozenset(script.facts), []
     for command, reply in zip(script.commands, replies):
@@ -139,6 +146,9 @@ def tell(script, replies):
         elif isinstance(reply, Run):
             item.turns = turns_of(script, facts, recorded, reply)
             facts, recorded = item.turns[-1].left, []
+        elif isinstance(reply, Duo):
+            item.events = events_of(script, facts, reply, tables)
+            facts = item.events[-1].left
         elif isinstance(reply, Facts) and facts != frozenset(reply.atoms):
             raise Unread(reply.line, 'these aren\'t the facts to which the script\'s operators and disturbances lead')
         told.append(item)

@@ -76,3 +76,20 @@ def picture(table, objects=(), alone=False):
         parts.append(f'<rect class="kernel" data-kernel="{kernel}" x="{xs[0]:.0f}" y="{ys[kernel - 1]:.0f}" '
                      f'width="{xs[kernel] - xs[0]:.0f}" height="{ys[-1] - ys[kernel - 1]:.0f}"/>')
     return svg(xs[-1] + 4, ys[-1] + 4, f'triangle table {table.name}, {len(table.steps)} steps', parts, parameters if alone else None)
+
+
+def small(table, kernel, end=''):
+    """The outline of a table with a kernel in it, as small as a thumbnail, which paper shows of each turn. A screen reader passes it
+    over: all that it says is said beside it."""
+    last = len(table.rows)
+    rows = ''.join(f'M0 {row - 1}h{min(row + 1, last)}v1h-{min(row + 1, last)}z' for row in range(1, last + 1))
+    marks = ''.join(f'M{column + .3:.1f} {row - .7:.1f}h.4v.4h-.4z' for row, line in enumerate(table.rows, 1)
+                    for column in sorted({column for column, _ in line.marks}))
+    parts = [f'<path class="box" d="{rows}" stroke-width=".05"/>', f'<path class="thing" d="{marks}"/>']
+    if 0 < kernel <= last:
+        parts.append(f'<rect class="kernel" x="0" y="{kernel - 1}" width="{kernel}" height="{last - kernel + 1}"/>')
+    if 0 < kernel < last:
+        slipped = ' slipped' if end == 'slipped' else ''
+        parts.append(f'<g class="step{slipped}"><rect class="box" x="{kernel + .1:.1f}" y="{kernel - .9:.1f}" '
+                     'width=".8" height=".8" style="stroke-width: .1; stroke-dasharray: none"/></g>')
+    return f'<svg class="mini" aria-hidden="true" viewBox="-.2 -.2 {last + .4:.1f} {last + .4:.1f}">{"".join(parts)}</svg>'

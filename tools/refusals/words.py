@@ -39,9 +39,13 @@ WORDS = {
     'sort': Word('sort NAME OBJECT ..', (DECLARATION,)),
     'param': Word('param SORT PARAMETER ..', (OPERATOR,)),
     'duo': Word('duo NAME NAME NUMBER .., each number 1 or 2', (COMMAND,), 'a number of a duo line may be 1 or 2'),
+    'save': Word('save NAME', (COMMAND,)),
+    'certify': Word('certify NAME', (COMMAND,)),
+    'edit': Word('edit NAME from NAME NUMBER STEP=PLACE ..', (COMMAND,)),
+    'pursue': Word('pursue NAME ATOM ..', (COMMAND,)),
 }
 # The words that version 1 hasn't got.
-WORDS_OF_TWO = ('sort', 'param', 'duo')
+WORDS_OF_TWO = ('sort', 'param', 'duo', 'save', 'certify', 'edit', 'pursue')
 BUILDING_EDITS = 'disturb NUMBER before EDIT .., or between, each edit robot ROOM, box BOX ROOM, or door DOOR open, or closed'
 # The words that open a block, with the place of the lines inside.
 BLOCKS = {'operator': OPERATOR, 'building': BUILDING}
@@ -62,7 +66,7 @@ SENTENCES = {
     8: 'a limit is passed',
     9: 'this line may not stand here',
     10: 'the block that opens here is closed by no end: write a line end after its last line',
-    11: 'this isn\'t built yet',
+    11: 'lines of this word can\'t be answered yet: leave it out',
 }
 # By limit: what passes it. A number that is out of its range (16) has the sentence of its word.
 OUT_OF_RANGE = 16

@@ -3,11 +3,13 @@ use crate::asking::Case;
 use crate::relevance_tests::{are_entries, has_count, is_limited, pushes_of};
 use crate::sample_problems::{entry_of, one_too_wide, things, two_steps};
 use crate::sample_tables::{begin_and_finish, both_steps, take_and_use};
+use px_diff::relevant_measured;
+use px_entries::are_learned;
 use px_gaps::AskErr;
 use px_ops::Model;
 use px_samples::{atom, model_of, moving, o, opening, parameters, rooms};
 use px_table::{Entry, Table};
-use px_terms::{Atom, Problem, Sequence};
+use px_terms::{Atom, Problem, Sequence, is_valid};
 use std::alloc::Global;
 use std::process::Abort;
 use std::rt::HostRuntime;
@@ -148,15 +150,16 @@ fn a_row_alone_meets_the_limit(rt: HostRuntime) {
     }
 }
 
-/// Returns what may be pushed so that atom 2 holds, where the last operator's parameter has this sort.
+/// Returns what may be pushed so that atom 2 holds, where the last of two operators takes objects of this sort, of which there is one.
 fn pushes_where_one_is_too_wide(
     alloc: Global,
     rt: &impl Abort,
     wanted: u32,
+    params: u32,
 ) -> Result<Vec<Entry>, AskErr> {
-    let problem = one_too_wide(alloc, rt, wanted);
+    let problem = one_too_wide(alloc, rt, wanted, 2);
     let model = model_of(alloc, &[atom(0, &[o(0)])]).expect(rt, "memory");
-    let tables = [begin_and_finish(alloc, rt, wanted)];
+    let tables = [begin_and_finish(alloc, rt, wanted, params)];
     let case = Case {
         problem: &problem,
         wanted: &[atom(2, &[])],
@@ -167,12 +170,39 @@ fn pushes_where_one_is_too_wide(
     pushes_of(alloc, rt, &case)
 }
 
-/// A row asks nothing about an object that doesn't fit: where each object fits, the question about object 1 meets the limit.
+/// Where the last operator takes object 0 alone, it and the MACROP with object 0 may be pushed. Where it takes each object, the question
+/// about object 1 meets the limit.
+fn assert_only_what_fits(alloc: Global, rt: &impl Abort, params: u32, sigma: &[u32]) {
+    let found = pushes_where_one_is_too_wide(alloc, rt, 1, params);
+    let expected = [entry_of(1, &[o(0)]), two_of(alloc, rt, sigma)];
+    assert!(rt; are_entries(&found, &expected));
+    assert!(rt; is_limited(&pushes_where_one_is_too_wide(alloc, rt, 0, params)));
+}
+
+/// With one parameter there are two MACROPs, and each is tried by itself; with nine there are 512 choices of objects, and the table's
+/// rows are asked.
+#[test]
+fn macros_that_do_not_fit_are_not_pushed(rt: HostRuntime) {
+    let alloc = rt.alloc();
+    assert_only_what_fits(alloc, &rt, 1, &[0]);
+    assert_only_what_fits(alloc, &rt, 9, &[0; 9]);
+}
+
+/// Returns how many questions it takes to say what may be pushed, with a table of nine parameters, where of so many objects one fits.
+fn questions_where_one_fits(alloc: Global, rt: &impl Abort, objects: u32) -> u64 {
+    let problem = one_too_wide(alloc, rt, 1, objects);
+    let model = model_of(alloc, &[atom(0, &[o(0)])]).expect(rt, "memory");
+    let tables = [begin_and_finish(alloc, rt, 1, 9)];
+    assert!(rt; is_valid(&problem));
+    assert!(rt; are_learned(&problem, &tables));
+    let found = relevant_measured(alloc, &problem, &[atom(2, &[])], &[], &model, &tables);
+    found.expect(rt, "below the limit").questions
+}
+
+/// Of an object that doesn't fit a table's rows ask nothing: it takes as many questions with six of them as with one.
 #[test]
 fn rows_ask_nothing_about_what_does_not_fit(rt: HostRuntime) {
     let alloc = rt.alloc();
-    let found = pushes_where_one_is_too_wide(alloc, &rt, 1);
-    let expected = [entry_of(1, &[o(0)]), two_of(alloc, &rt, &[0])];
-    assert!(&rt; are_entries(&found, &expected));
-    assert!(&rt; is_limited(&pushes_where_one_is_too_wide(alloc, &rt, 0)));
+    let count = questions_where_one_fits(alloc, &rt, 2);
+    assert!(&rt; count > 0 && count == questions_where_one_fits(alloc, &rt, 7));
 }

@@ -116,10 +116,20 @@ pub fn two_steps(alloc: Global, rt: &impl Abort) -> Problem {
     problem_of(alloc, 1, &[0, 0, 0, 0], axioms, operators).expect(rt, "memory")
 }
 
+/// Returns a list of `count` sorts, at least one: this sort, and then none for each of the others.
+pub fn with_first(alloc: Global, rt: &impl Abort, sort: u32, count: u32) -> Sequence<u32> {
+    let mut sorts = Vec::new(alloc);
+    put(rt, &mut sorts, sort);
+    for _ in 1..count {
+        put(rt, &mut sorts, 0);
+    }
+    Sequence::from_vec(sorts)
+}
+
 /// Returns a problem in which atom 0 of object 1 follows from each of four atoms, which is too much for four shapes. An operator adds
 /// atom 1; a second one needs atom 0 of an object, and atom 1, and adds atom 2. Only object 0 has the sort of its parameter, where it has
-/// one.
-pub fn one_too_wide(alloc: Global, rt: &impl Abort, wanted: u32) -> Problem {
+/// one. There are so many objects, at least two.
+pub fn one_too_wide(alloc: Global, rt: &impl Abort, wanted: u32, objects: u32) -> Problem {
     let (begun, done) = (atom(1, &[]), atom(2, &[]));
     let mut axioms = ClauseArena::new(alloc);
     for given in 3..7 {
@@ -132,9 +142,11 @@ pub fn one_too_wide(alloc: Global, rt: &impl Abort, wanted: u32) -> Problem {
     );
     finish.param_sorts = Sequence::from_slice(alloc, &[wanted]).expect(rt, "memory");
     let arities = [1, 0, 0, 0, 0, 0, 0];
-    let mut problem = problem_of(alloc, 2, &arities, axioms, [begin, finish]).expect(rt, "memory");
+    let mut problem = problem_of(alloc, objects, &arities, axioms, [begin, finish]).expect(
+        rt, "memory",
+    );
     problem.sorts = 1;
-    problem.object_sorts = Sequence::from_slice(alloc, &[1, 0]).expect(rt, "memory");
+    problem.object_sorts = with_first(alloc, rt, 1, objects);
     problem.shapes = 4;
     problem
 }

@@ -1,6 +1,6 @@
 //! Tables of two and three steps for the tests.
 
-use crate::sample_problems::put;
+use crate::sample_problems::{put, with_first};
 use px_proof::{Leaf, Proof};
 use px_samples::{atom, by_axiom, instance, mark, v};
 use px_table::{Mark, Row, Table};
@@ -119,8 +119,8 @@ pub fn take_and_use(alloc: Global, rt: &impl Abort, params: u32) -> Table {
     table_of(alloc, rt, params, &steps, &goal, 0, rows)
 }
 
-/// Returns the table of both operators of `one_too_wide` one after the other. Its parameter has this sort.
-pub fn begin_and_finish(alloc: Global, rt: &impl Abort, wanted: u32) -> Table {
+/// Returns the table of both operators of `one_too_wide` one after the other. Its first parameter has this sort; no step uses the others.
+pub fn begin_and_finish(alloc: Global, rt: &impl Abort, wanted: u32, params: u32) -> Table {
     let needed = [given(atom(0, &[v(0)])), added(1, 0, atom(1, &[]))];
     let goal = [atom(2, &[])];
     let mut rows = no_rows(alloc);
@@ -128,7 +128,7 @@ pub fn begin_and_finish(alloc: Global, rt: &impl Abort, wanted: u32) -> Table {
     add_row(alloc, rt, &mut rows, 2, &needed, &[]);
     add_row(alloc, rt, &mut rows, 3, &[added(2, 0, goal[0])], &[]);
     let steps = [instance(0, &[]), instance(1, &[v(0)])];
-    let mut table = table_of(alloc, rt, 1, &steps, &goal, 0, rows);
-    table.param_sorts = Sequence::from_slice(alloc, &[wanted]).expect(rt, "memory");
+    let mut table = table_of(alloc, rt, params, &steps, &goal, 0, rows);
+    table.param_sorts = with_first(alloc, rt, wanted, params);
     table
 }

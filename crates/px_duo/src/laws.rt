@@ -35,14 +35,14 @@ pub fn slips_have_causes<W: World>()
     ensures { SlipsHaveCauses W.leaves }
 {}
 
-/// Where the steps of the other spare what its kernels rest on, none of its actions slips, and each of its sensings finds a kernel, whatever
-/// its own events are and however the other's fall between them.
+/// Where the steps of the other spare what its kernels rest on and nothing else changes the world, from its first kernel on none of its
+/// actions slips, and each of its sensings finds a kernel, whatever its own events are and however the other's fall between them.
 pub fn spared_are_unhindered<W: World>()
     ensures { SparedAreUnhindered W.leaves }
 {}
 
-/// Where the steps of the other spare what its kernels rest on, the one reaches its goal by acting and sensing in turn, however the other's
-/// events fall between.
+/// Where the steps of the other spare what its kernels rest on and nothing else changes the world, the one, once it has sensed a kernel,
+/// reaches its goal by acting and sensing in turn, however the other's events fall between.
 pub fn spared_reach_goal<W: World>()
     ensures { SparedReachGoal W.leaves }
 {}

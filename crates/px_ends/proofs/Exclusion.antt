@@ -125,7 +125,7 @@ module _ (task : Task) where
 -- ---- the laws
 
 -- a limit has as many shapes as the problem says
-limit-count : (problem : Problem) (question : Question) (formula : List Atom) (shapes : List (List Tick))
+pub limit-count : (problem : Problem) (question : Question) (formula : List Atom) (shapes : List (List Tick))
     → MeetsLimit problem question formula shapes → length shapes ≡ problem.shapes
 limit-count problem (Proving needed) formula shapes met = met.1.count
 limit-count problem (FindingGaps needed) formula shapes (inl met) = met.1.count

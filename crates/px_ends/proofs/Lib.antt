@@ -7,3 +7,6 @@ pub mod ByStop
 pub mod MadeOne
 pub mod Smallest
 pub mod Operators
+pub mod ByValueLaws
+pub mod Fitting
+pub mod WorkedByValue

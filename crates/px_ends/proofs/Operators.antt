@@ -35,11 +35,11 @@ use Rattle.px_ends.proofs.Smallest.{IsSmall, begins, needed_from, no_proof, noth
 -- ---- what is asked
 
 -- each operator needs at most one atom
-abbrev NeedLittle : List Schema → Type 0
+abbrev pub NeedLittle : List Schema → Type 0
 NeedLittle schemas = (nodes : ℕ) (inst : OpInst) → IsSmall (precondition (plain_problem schemas nodes) inst)
 
 -- no stack, or an operator on top
-abbrev IsPlainStack : List Entry → Type 0
+abbrev pub IsPlainStack : List Entry → Type 0
 IsPlainStack [] = Unit {0}
 IsPlainStack (Op inst ∷ below) = Unit {0}
 IsPlainStack (Macro number prefix sigma ∷ below) = ⊥
@@ -53,7 +53,7 @@ entry_below schemas nodes little model (Op inst) question is =
 entry_below schemas nodes little model (Macro number prefix sigma) question is = let at = is.1 in absurd (cc)
 
 -- what the node needs is asked about
-needs_below : (schemas : List Schema) (nodes : ℕ) → NeedLittle schemas → (model : List Atom) (stack : List Entry) → IsPlainStack stack
+pub needs_below : (schemas : List Schema) (nodes : ℕ) → NeedLittle schemas → (model : List Atom) (stack : List Entry) → IsPlainStack stack
     → (question : Question) → AsksAt (p_from_none schemas nodes) (record { model = model; stack = stack }) question → (formula : List Atom)
     (shapes : List (List Tick)) → ¬ MeetsLimit (plain_problem schemas nodes) question formula shapes
 needs_below schemas nodes little model stack plain question (inr (entry, relevant, asks)) =
@@ -136,17 +136,19 @@ stuck_closed schemas nodes only is_open = elim (is_open 0 (needed_from [] []) (o
   | inr gap_of ↦ no_gap schemas nodes only gap_of.0 gap_of.1
 ]
 
-not_open : IsExhausted (p_from_none (stuck ∷ []) 1)
-not_open = exhausted_at_once (stuck ∷ []) little no_moves
+pub little_stuck : NeedLittle (stuck ∷ [])
+little_stuck nodes inst = little_of inst.op inst.args
   where
-    little : NeedLittle (stuck ∷ [])
-    little nodes inst = little_of inst.op inst.args
-      where
-        little_of : (op : ℕ) (args : List Term)
-            → IsSmall (precondition (plain_problem (stuck ∷ []) nodes) (record { op = op; args = args }))
-        little_of zero args = tt
-        little_of (suc op) args = tt
+    little_of : (op : ℕ) (args : List Term)
+        → IsSmall (precondition (plain_problem (stuck ∷ []) nodes) (record { op = op; args = args }))
+    little_of zero args = tt
+    little_of (suc op) args = tt
 
+pub stuck_moves : (moves : List Move) → AreMoves (p_from_none (stuck ∷ []) 1) moves → [] ≡ moves
+stuck_moves [] can = refl
+stuck_moves (Apply ∷ moves) can = absurd (can.0.0 refl)
+stuck_moves (Push (Op inst) ∷ moves) can = absurd (closed inst.op inst.args can.0.0.is_entry.of.op can.0.1)
+  where
     only : AddOnlyP (stuck ∷ [])
     only pred has = Contains-one 0 pred has
 
@@ -155,34 +157,32 @@ not_open = exhausted_at_once (stuck ∷ []) little no_moves
         (obligations_of (plain_problem (stuck ∷ []) 1) [] [] (Op (record { op = op; args = args })))
     closed zero args within = stuck_closed (stuck ∷ []) 1 only
     closed (suc op) args within = absurd (omega (arith, within))
+stuck_moves (Push (Macro number prefix sigma) ∷ moves) can = let at = can.0.0.is_entry.1 in absurd (cc)
 
-    no_moves : (moves : List Move) → AreMoves (p_from_none (stuck ∷ []) 1) moves → [] ≡ moves
-    no_moves [] can = refl
-    no_moves (Apply ∷ moves) can = absurd (can.0.0 refl)
-    no_moves (Push (Op inst) ∷ moves) can = absurd (closed inst.op inst.args can.0.0.is_entry.of.op can.0.1)
-    no_moves (Push (Macro number prefix sigma) ∷ moves) can = let at = can.0.0.is_entry.1 in absurd (cc)
+pub not_open : IsExhausted (p_from_none (stuck ∷ []) 1)
+not_open = exhausted_at_once (stuck ∷ []) little_stuck stuck_moves
 
 -- ---- an operator that leads to the goal, beside one that isn't open
 
-abbrev two : List Schema
+abbrev pub two : List Schema
 two = stuck ∷ maker ∷ []
 
-abbrev to_p : ℕ → Task
+abbrev pub to_p : ℕ → Task
 to_p nodes = p_from_none two nodes
 
-abbrev pushed : List Move
+abbrev pub pushed : List Move
 pushed = Push make ∷ []
 
-abbrev pushed_and_applied : List Move
+abbrev pub pushed_and_applied : List Move
 pushed_and_applied = Push make ∷ Apply ∷ []
 
-abbrev three : List (List Move)
+abbrev pub three : List (List Move)
 three = [] ∷ pushed ∷ pushed_and_applied ∷ []
 
 only_p : AddOnlyP two
 only_p pred has = elim (Contains-cases 0 (0 ∷ []) pred has) [ inl here ↦ here | inr later ↦ Contains-one 0 pred later ]
 
-little : NeedLittle two
+pub little : NeedLittle two
 little nodes inst = little_of inst.op inst.args
   where
     little_of : (op : ℕ) (args : List Term) → IsSmall (precondition (plain_problem two nodes) (record { op = op; args = args }))
@@ -191,7 +191,7 @@ little nodes inst = little_of inst.op inst.args
     little_of (suc (suc op)) args = tt
 
 -- nothing else can be pushed first
-only_make : (nodes : ℕ) (entry : Entry) → IsAllowed (to_p nodes) (bare []) (Push entry) → make ≡ entry
+pub only_make : (nodes : ℕ) (entry : Entry) → IsAllowed (to_p nodes) (bare []) (Push entry) → make ≡ entry
 only_make nodes (Macro number prefix sigma) can = let at = can.0.is_entry.1 in absurd (cc)
 only_make nodes (Op inst) can = of inst.op inst.args can.0.is_entry.of.op can.0.is_entry.of.count can.1
   where
@@ -239,7 +239,7 @@ after_push nodes (Apply ∷ Apply ∷ moves) can = absurd (can.1.0.0 refl)
 after_push nodes (Apply ∷ Push entry ∷ moves) can =
     absurd (no_push nodes (p ∷ []) (p ∷ []) [] entry (λ atom missing. missing.0 (goal_there nodes)) refl can.1.0.0)
 
-all_moves : (nodes : ℕ) (moves : List Move) → AreMoves (to_p nodes) moves → Contains three moves
+pub all_moves : (nodes : ℕ) (moves : List Move) → AreMoves (to_p nodes) moves → Contains three moves
 all_moves nodes [] can = Contains-first [] (pushed ∷ pushed_and_applied ∷ [])
 all_moves nodes (Apply ∷ moves) can = absurd (can.0.0 refl)
 all_moves nodes (Push entry ∷ moves) can =
@@ -247,7 +247,7 @@ all_moves nodes (Push entry ∷ moves) can =
     (only_make nodes entry can.0) (after_push nodes moves) can.1
 
 -- what holds of each of them
-each_list : (P : List Move → Type 0) → P [] → P pushed → P pushed_and_applied → (moves : List Move) → Contains three moves → P moves
+pub each_list : (P : List Move → Type 0) → P [] → P pushed → P pushed_and_applied → (moves : List Move) → Contains three moves → P moves
 each_list P none_yet one_yet all_yet moves has = elim (Contains-cases [] (pushed ∷ pushed_and_applied ∷ []) moves has) [
   | inl first ↦ subst P first none_yet
   | inr later ↦ elim (Contains-cases pushed (pushed_and_applied ∷ []) moves later) [
@@ -256,7 +256,7 @@ each_list P none_yet one_yet all_yet moves has = elim (Contains-cases [] (pushed
   ]
 ]
 
-push_allowed : (nodes : ℕ) → IsAllowed (to_p nodes) (bare []) (Push make)
+pub push_allowed : (nodes : ℕ) → IsAllowed (to_p nodes) (bare []) (Push make)
 push_allowed nodes = (
   record {
     is_entry = record {
@@ -295,7 +295,7 @@ push_allowed nodes = (
       ),
     )
 
-apply_allowed : (nodes : ℕ) → IsAllowed (to_p nodes) (bare (make ∷ [])) Apply
+pub apply_allowed : (nodes : ℕ) → IsAllowed (to_p nodes) (bare (make ∷ [])) Apply
 apply_allowed nodes = (
   λ empty. cc,
   one (HasAnswer (plain_problem two nodes)) (needed_from [] [])
@@ -326,7 +326,7 @@ least_lists nodes = each_list (IsLeastList (to_p nodes))
 
 -- ---- the ends
 
-stops : (nodes : ℕ) → 2 ≤ nodes → IsStop (to_p nodes) ([] ∷ pushed ∷ []) pushed_and_applied
+pub stops : (nodes : ℕ) → 2 ≤ nodes → IsStop (to_p nodes) ([] ∷ pushed ∷ []) pushed_and_applied
 unfolding set_of with_item
 stops nodes room = record {
   beginning = record {

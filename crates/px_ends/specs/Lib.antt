@@ -6,3 +6,7 @@ pub mod Ends
 pub mod Made
 pub mod Determined
 pub mod WorkedEnds
+pub mod Lacks
+pub mod ByValue
+pub mod ValueLaws
+pub mod WorkedValues

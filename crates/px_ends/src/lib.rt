@@ -18,7 +18,11 @@
 //!   adds it.
 //! - A search has one end ([`ends_are_one`]), a list of moves has one table, proofs included ([`tables_are_one`]), and which
 //!   questions are asked is what the stop says ([`asked_by_stop`]; the statements are in `specs/Determined`).
-//! - [`worked_ends`] has the smallest searches.
+//! - `specs/ByValue`: the same four ends with a weight, of a search that picks the node of the least value (`px_order`): the number of
+//!   moves, and what the node lacks (`specs/Lacks`) as many times as the weight says. With each weight a search has one end
+//!   ([`value_ends_are_one`]); where it is exhausted with one, it isn't found or limited with any ([`exhausted_with_all`]); weight 0 is
+//!   breadth ([`weight_none_is_breadth`]). No search goes by a weight yet. [`fits_is_match`] says what the test of an instance means.
+//! - [`worked_ends`] has the smallest searches, and [`worked_values`] those with a weight.
 //! - The laws are calls that do nothing.
 #![tactic(auto)]
 
@@ -26,4 +30,7 @@ mod laws;
 #[cfg(test)]
 mod tests;
 
-pub use laws::{asked_by_stop, ends_are_one, tables_are_one, worked_ends};
+pub use laws::{
+    asked_by_stop, ends_are_one, exhausted_with_all, fits_is_match, tables_are_one,
+    value_ends_are_one, weight_none_is_breadth, worked_ends, worked_values,
+};

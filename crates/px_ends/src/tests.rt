@@ -1,5 +1,8 @@
 //! The laws are calls.
-use crate::{asked_by_stop, ends_are_one, tables_are_one, worked_ends};
+use crate::{
+    asked_by_stop, ends_are_one, exhausted_with_all, fits_is_match, tables_are_one,
+    value_ends_are_one, weight_none_is_breadth, worked_ends, worked_values,
+};
 use std::rt::HostRuntime;
 
 #[test]
@@ -8,4 +11,9 @@ fn laws_are_calls(_rt: HostRuntime) {
     asked_by_stop();
     tables_are_one();
     worked_ends();
+    value_ends_are_one();
+    exhausted_with_all();
+    weight_none_is_breadth();
+    fits_is_match();
+    worked_values();
 }

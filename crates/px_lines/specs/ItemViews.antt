@@ -59,6 +59,7 @@ rest_view (rest.Numbers ns) = items.amounts ns.items ∷ []
 rest_view (rest.Atoms xs) = items.atoms (map signed_view xs.items) ∷ []
 rest_view (rest.Bindings bs) = items.bindings (map binding_view bs.items) ∷ []
 rest_view (rest.RoomEdits es) = items.room_edits (map room_edit_view es.items) ∷ []
+rest_view (rest.Pairs ps) = items.pairs ps.items ∷ []
 
 -- the items of a line
 abbrev pub said_items : List Said → Rest → List items.Item

@@ -64,6 +64,8 @@ pub enum Rest<'a> {
     Atoms(Vec<SignedAtom<'a>>),
     Bindings(Vec<WrittenBinding<'a>>),
     RoomEdits(Vec<WrittenRoomEdit<'a>>),
+    /// Pairs of numbers.
+    Pairs(Vec<(u32, u32)>),
 }
 
 impl Argument<'_> {
@@ -103,6 +105,7 @@ impl<'a> Rest<'a> {
             Rest::Numbers(numbers) => !numbers.is_empty(),
             Rest::Atoms(atoms) => !atoms.is_empty(),
             Rest::RoomEdits(edits) => !edits.is_empty(),
+            Rest::Pairs(pairs) => !pairs.is_empty(),
             Rest::Bindings(bindings) => are_numbered(bindings),
             Rest::Nothing | Rest::Listed(_, _) => true,
         }
@@ -120,7 +123,8 @@ impl<'a> Rest<'a> {
             | Rest::Wanted(_, _)
             | Rest::Numbers(_)
             | Rest::Atoms(_)
-            | Rest::RoomEdits(_) => false,
+            | Rest::RoomEdits(_)
+            | Rest::Pairs(_) => false,
         }
     }
 

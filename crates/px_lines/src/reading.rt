@@ -12,7 +12,7 @@ ghost use Rattle.px_lines.specs.LineViews.{IsShaped, line_view, row_view};
 use crate::items::{Rest, Said, SignedAtom};
 use crate::lists::{listed_names, names, numbers};
 use crate::rows::{Row, row_for};
-use crate::series::{atoms, bindings, room_edits};
+use crate::series::{atoms, bindings, pairs, room_edits};
 use crate::token::Token;
 use px_base::NoMemory;
 use px_script::{Choice, Last, Manner, One};
@@ -100,6 +100,7 @@ fn last_item<'a>(
         Last::Numbers => Ok(numbers(alloc, tokens)?.map(|numbers| Rest::Numbers(numbers))),
         Last::Atoms => Ok(atoms(alloc, tokens)?.map(|atoms| Rest::Atoms(atoms))),
         Last::Bindings => Ok(bindings(alloc, tokens)?.map(|bindings| Rest::Bindings(bindings))),
+        Last::Pairs => Ok(pairs(alloc, tokens)?.map(|pairs| Rest::Pairs(pairs))),
         Last::RoomEdits => Ok(room_edits(alloc, tokens)?.map(|edits| Rest::RoomEdits(edits))),
     }
 }

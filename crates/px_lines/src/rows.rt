@@ -61,6 +61,15 @@ const DUO: [One; 2] = [One::Known(Named::Table), One::Known(Named::Table)];
 
 const PARAM: [One; 1] = [One::Known(Named::Sort)];
 
+const EDIT: [One; 4] = [
+    One::New(Named::Table),
+    One::Word(Choice::Source),
+    One::Known(Named::Table),
+    One::Number,
+];
+
+const RESULT: [One; 1] = [One::New(Named::Result)];
+
 const DISTURB: [One; 2] = [One::Number, One::Word(Choice::Time)];
 
 fn described(
@@ -181,6 +190,16 @@ pub fn row_for(with_building: bool, word: &str) -> Option<Row>
             Place::Inside(Block::Operator),
             &PARAM,
             Last::Known(Named::Parameter),
+        ))),
+        "save" => Some(newer(plain("save", Place::Command, &TABLE, Last::Nothing))),
+        "certify" => Some(newer(plain("certify", Place::Command, &TABLE, Last::Nothing))),
+        "edit" => Some(newer(plain("edit", Place::Command, &EDIT, Last::Pairs))),
+        "pursue" => Some(newer(described(
+            "pursue",
+            Place::Command,
+            Manner::Goals,
+            &RESULT,
+            Last::Atoms,
         ))),
         _ => None,
     }

@@ -1,6 +1,6 @@
 //! What is written one after another to the end of a line: atoms, edits and bindings.
 ghost use Rattle.std.specs.Prelude.{◌≡◌, ◌≤◌, ◌<◌, length, IfOk, IfSome};
-ghost use Rattle.px_lines.specs.Common.{option_map, all_of, atom_at, atom_after, sign_of, room_edit_at, room_edit_for, binding_at, open_of, parameter_of, lexemes_of, signed_view, room_edit_view, binding_view, list_view, front_view};
+ghost use Rattle.px_lines.specs.Common.{option_map, all_of, atom_at, atom_after, sign_of, room_edit_at, room_edit_for, binding_at, open_of, pair_at, parameter_of, lexemes_of, signed_view, room_edit_view, binding_view, list_view, front_view};
 
 use crate::items::{SignedAtom, WrittenBinding, WrittenRoomEdit};
 use crate::lists::arguments;
@@ -136,7 +136,24 @@ fn binding<'a>(tokens: &[Token<'a>]) -> Option<(WrittenBinding<'a>, usize)>
     Some((WrittenBinding { parameter, object }, 3))
 }
 
-// Alike: the three functions below, one for each kind of thing, since each reads another type of things.
+/// Returns the pair of numbers in front, and how many tokens it takes.
+fn pair(tokens: &[Token<'_>]) -> Option<((u32, u32), usize)>
+    ensures found { front_view (λ pair. pair) tokens.now result ≡ pair_at (lexemes_of tokens.now) }
+    ensures within { IfSome result (λ p. (0 < p.1) × (p.1 ≤ length tokens.now)) }
+{
+    let [
+        Token::Number(one),
+        Token::Sign('='),
+        Token::Number(other),
+        ..
+    ] = tokens
+    else {
+        return None;
+    };
+    Some(((*one, *other), 3))
+}
+
+// Alike: the four functions below, one for each kind of thing, since each reads another type of things.
 
 /// Returns the atoms that the tokens are, to the last.
 pub fn atoms<'a>(
@@ -193,4 +210,20 @@ pub fn bindings<'a>(
         at += count;
     }
     Ok(Some(bindings))
+}
+
+/// Returns the pairs of numbers that the tokens are, to the last.
+pub fn pairs(alloc: Global, tokens: &[Token<'_>]) -> Result<Option<Vec<(u32, u32)>>, NoMemory>
+    ensures { IfOk result (λ found. list_view (λ pair. pair) found ≡ all_of pair_at (lexemes_of tokens.now)) }
+{
+    let mut pairs = Vec::new(alloc);
+    let mut at = 0;
+    'things: while at < tokens.len() {
+        let Some((pair, count)) = pair(&tokens[at..]) else {
+            return Ok(None);
+        };
+        pairs.push(pair)?;
+        at += count;
+    }
+    Ok(Some(pairs))
 }

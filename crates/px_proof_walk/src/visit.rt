@@ -34,7 +34,7 @@ fn move_to(ticks: &mut Vec<Tick>, visit: &Visit) -> Result<(), NoMemory>
 fn shape_of(alloc: Global, ticks: &[Tick], places: usize) -> Result<Shape, NoMemory>
     ensures { IfOk result (λ shape. shape ≡ shape_with ticks.now places) }
 {
-    let mut all = Vec::new(alloc);
+    let mut all = Vec::with_capacity(alloc, ticks.len().saturating_add(places))?;
     all.extend_from_slice(ticks)?;
     for _ in 0..places {
         push(&mut all, Tick::Open)?;
@@ -48,7 +48,7 @@ pub(crate) fn shapes_of(alloc: Global, trail: &[Visit]) -> Result<Vec<Shape>, No
         → shapes.items ≡ map (λ ticks. shape_with ticks (places ticks)) seen) }
 {
     let mut ticks = Vec::new(alloc);
-    let mut shapes = Vec::new(alloc);
+    let mut shapes = Vec::with_capacity(alloc, trail.len())?;
     for visit in trail {
         move_to(&mut ticks, visit)?;
         let shape = shape_of(alloc, &ticks, visit.places)?;

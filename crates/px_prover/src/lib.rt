@@ -47,8 +47,9 @@
 //!
 //! Internally places are closed from left to right, over variables whose bindings are undone (`px_proof_state`), in the order
 //! of the shapes (`px_proof_walk`). [`prove`] stops at the first finished list. `gap_patterns` visits the unfinished ones, and at
-//! each gathers a pattern for each list that one more closing finishes; equal patterns are kept once. `gap_lists` puts all
-//! objects in the place of their variables.
+//! each gathers a pattern for each list that one more closing finishes; equal patterns are kept once. Where there are more than
+//! a few, a walk that gathers nothing tells first whether they are too many. `gap_lists` puts all objects in the place of their
+//! variables.
 //!
 //! Of the files of `specs/`, public clauses cite `Limits`, `Outcomes`, `PatternLists` and `Patterns`; only private functions cite the
 //! others.
@@ -60,6 +61,7 @@ mod first;
 mod gap_question;
 mod gathering;
 mod laws;
+mod limiting;
 mod limits;
 mod listing;
 mod outcome;

@@ -6,6 +6,7 @@ ghost use Rattle.px_question.specs.Settings.{setting_of};
 ghost use Rattle.px_terms.specs.Language.{IsVariableBelow};
 ghost use Rattle.px_terms.specs.Validity.{IsValid, IsAtomOf};
 ghost use Rattle.px_terms.specs.declared.atom.Atom.{Atom as AtomValue};
+ghost use Rattle.px_prover.specs.Asked.{IsAsked};
 ghost use Rattle.px_prover.specs.GapAsking.{gap_setting};
 ghost use Rattle.px_prover.specs.Outcomes.{IfGapLimit};
 ghost use Rattle.px_prover.specs.declared.pattern.GapPattern.{GapPattern as PatternValue};
@@ -15,14 +16,19 @@ ghost use Rattle.px_prover.specs.Standing.{ticks_in, IsStanding};
 
 use crate::gap_question::{GapQuestion, sized};
 use crate::gathering::{atoms_under, free_of, missing_atoms, roots_of};
+use crate::limiting::shapes_at_limit;
 use crate::outcome::GapErr;
 use crate::pattern::GapPattern;
+use crate::walking::are_two_open;
 use px_base::{NoMemory, Sequence, push};
 use px_ops::Model;
 use px_proof_state::ProofState;
 use px_proof_walk::{Gather, Walk, walk_to_end};
 use px_terms::{Atom, Problem, Term};
 use std::alloc::Global;
+
+/// Up to how many lists patterns are gathered at once. Where there are more, a walk first tells whether they are too many.
+const FEW_LISTS: u32 = 64;
 
 /// Returns the place of the variable in the list of `count` variables, or `count` if it is not there.
 fn place(free: &[u32], count: u32, variable: u32) -> u32
@@ -59,7 +65,7 @@ fn renamed_ends(
     requires { count ≡ length free.now }
     ensures { IfOk result (λ ends. ends.items ≡ ends_of free.now roots.now) }
 {
-    let mut ends = Vec::new(alloc);
+    let mut ends = Vec::with_capacity(alloc, roots.len())?;
     for root in roots {
         let end = renamed_term(free, count, *root);
         push(&mut ends, end)?;
@@ -147,6 +153,10 @@ impl<'a> Gather<GapQuestion<'a>, ProofState> for Patterns {
         question: &GapQuestion<'a>,
         walk: &mut ProofState,
     ) -> Result<(), NoMemory> {
+        // a closing leaves the other place open
+        if are_two_open(walk) {
+            return Ok(());
+        }
         let loose = question.loose();
         let mut last = None;
         while walk.try_after(&loose, last)? {
@@ -186,6 +196,32 @@ fn distinct(mut patterns: Vec<GapPattern>) -> Vec<GapPattern>
     patterns
 }
 
+/// Returns the patterns of the question, unless as many unfinished lists as `limit` exist.
+fn gathered(alloc: Global, question: &GapQuestion, limit: u32) -> Result<Vec<GapPattern>, GapErr>
+    requires asked { IsAsked question.now }
+    requires some { 0 < limit }
+    requires within { limit ≤ question.now.problem.now.shapes }
+    ensures patterns { IfOk result (λ patterns. AreGapPatterns (gap_setting question.now) question.now.formula.now question.now.vars
+        patterns.items) }
+    ensures few { IfOk result (λ patterns. AreFewGapShapes (gap_setting question.now) question.now.formula.now question.now.vars) }
+    ensures limited { limit ≡ question.now.problem.now.shapes
+        → IfGapLimit result (IsGapLimited (gap_setting question.now) question.now.formula.now question.now.vars) }
+{
+    let mut patterns = Patterns {
+        found: Vec::new(alloc),
+    };
+    let height = question.problem.height;
+    let mut state = match ProofState::new(alloc, question.formula, question.vars, height) {
+        Ok(state) => state,
+        Err(NoMemory) => return Err(GapErr::NoMemory),
+    };
+    match walk_to_end(alloc, question, &mut state, &mut patterns, limit) {
+        Ok(None) => Ok(distinct(patterns.found)),
+        Ok(Some(shapes)) => Err(GapErr::ShapeLimit(shapes)),
+        Err(NoMemory) => Err(GapErr::NoMemory),
+    }
+}
+
 /// Returns the gap lists of the formula as patterns: whatever objects of the problem are chosen for a pattern's variables, its
 /// terms and its atoms are a gap list of [`gap_lists`](crate::gap_lists), with the atoms in any order, and each gap list
 /// is that of a pattern with some objects.
@@ -208,16 +244,14 @@ pub fn gap_patterns(
     ensures limited { IfGapLimit result (IsGapLimited (setting_of problem.now model.now.atoms) formula.now vars) }
 {
     let facts = model.atoms();
-    let mut patterns = Patterns {
-        found: Vec::new(alloc),
-    };
     if formula.is_empty() {
         let pattern = match without_atoms(alloc, vars) {
             Ok(pattern) => pattern,
             Err(NoMemory) => return Err(GapErr::NoMemory),
         };
-        return match push(&mut patterns.found, pattern) {
-            Ok(()) => Ok(patterns.found),
+        let mut found = Vec::new(alloc);
+        return match push(&mut found, pattern) {
+            Ok(()) => Ok(found),
             Err(NoMemory) => Err(GapErr::NoMemory),
         };
     }
@@ -227,13 +261,18 @@ pub fn gap_patterns(
         vars,
         facts,
     };
-    let mut state = match ProofState::new(alloc, formula, vars, problem.height) {
-        Ok(state) => state,
-        Err(NoMemory) => return Err(GapErr::NoMemory),
-    };
-    match walk_to_end(alloc, &question, &mut state, &mut patterns, problem.shapes) {
-        Ok(None) => Ok(distinct(patterns.found)),
-        Ok(Some(shapes)) => Err(GapErr::ShapeLimit(shapes)),
-        Err(NoMemory) => Err(GapErr::NoMemory),
+    if problem.shapes <= FEW_LISTS {
+        return gathered(alloc, &question, problem.shapes);
     }
+    match gathered(alloc, &question, FEW_LISTS) {
+        Ok(patterns) => return Ok(patterns),
+        Err(GapErr::ShapeLimit(_)) => {}
+        Err(GapErr::NoMemory) => return Err(GapErr::NoMemory),
+    }
+    match shapes_at_limit(alloc, &question) {
+        Ok(Some(shapes)) => return Err(GapErr::ShapeLimit(shapes)),
+        Ok(None) => {}
+        Err(NoMemory) => return Err(GapErr::NoMemory),
+    }
+    gathered(alloc, &question, problem.shapes)
 }

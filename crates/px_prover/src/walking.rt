@@ -1,5 +1,5 @@
 //! The prover's state as a walk over unfinished lists.
-ghost use Rattle.std.specs.Prelude.{◌≡◌, ◌≤◌, ◌-◌, ◌++◌, take, length, map as map_list};
+ghost use Rattle.std.specs.Prelude.{◌≡◌, ◌<◌, ◌≤◌, ◌-◌, ◌++◌, take, length, map as map_list, IsTrue};
 ghost use Rattle.px_proof_state.specs.Arena.{goals_at, AreOlder};
 ghost use Rattle.px_proof_state.specs.declared.open.Choice.{Choice as ChoiceValue};
 ghost use Rattle.px_proof_walk.specs.Trail.{tick_or_none};
@@ -24,6 +24,20 @@ fn open_places(state: &ProofState) -> usize
         at = state.goal_at(at).next;
     }
     count
+}
+
+/// Returns whether another place is open besides the first.
+pub(crate) fn are_two_open(state: &ProofState) -> bool
+    requires arena { AreOlder state.now.goals }
+    requires within { state.now.first ≤ length state.now.goals }
+    ensures { IsTrue result → 1 < length (goals_at state.now.goals state.now.first) }
+{
+    let place = state.first();
+    if place == 0 {
+        return false;
+    }
+    let goal = state.goal_at(place);
+    goal.next > 0
 }
 
 /// Returns the tick of the last choice.

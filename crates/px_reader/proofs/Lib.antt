@@ -19,3 +19,4 @@ pub mod Finishing
 pub mod LineLemmas
 pub mod LineSteps
 pub mod Outcomes
+pub mod Pairs

@@ -43,6 +43,10 @@ statement_view (statement.Run n bindings) = spec.run n.now (map binding_view bin
 statement_view (statement.Duo one other ns) = spec.duo one.now other.now ns.now
 statement_view statement.Facts = spec.facts
 statement_view (statement.Sort n ns) = spec.sort n.now (map text_of ns.now)
+statement_view (statement.Save n) = spec.save n.now
+statement_view (statement.Certify n) = spec.certify n.now
+statement_view (statement.Edit n source prefix ps) = spec.edit n.now source.now prefix ps.now
+statement_view (statement.Pursue n atoms) = spec.pursue n.now (map signed_view atoms.now)
 statement_view (statement.Param n ps) = spec.param n.now (map text_of ps.now)
 
 abbrev pub in_role : Role → List items.SignedAtom → spec.Statement

@@ -70,6 +70,10 @@ impl Reader {
             Statement::Run(name, bindings) => self.add_run(name, bindings),
             Statement::Duo(one, other, numbers) => self.add_duo(one, other, numbers),
             Statement::Facts => self.add_command(Command::Facts),
+            Statement::Save(_) => unreachable!(),
+            Statement::Certify(_) => unreachable!(),
+            Statement::Edit(_, _, _, _) => unreachable!(),
+            Statement::Pursue(_, _) => unreachable!(),
             Statement::Sort(name, objects) => self.add_sort(name, objects),
             Statement::Param(sort, names) => self.give_sort(sort, names),
         }

@@ -1,9 +1,9 @@
 //! The limits of a script.
-ghost use Rattle.std.specs.Prelude.{◌≡◌, ◌<◌, ◌+◌, ◌^◌, ◌&&◌, [], ◌∷◌, length, map, nat_lt, IfOk, if◌then◌else◌, Some, None};
+ghost use Rattle.std.specs.Prelude.{◌≡◌, ◌<◌, ◌+◌, ◌^◌, ◌&&◌, ◌||◌, [], ◌∷◌, length, map, nat_lt, IfOk, if◌then◌else◌, Some, None, List, ℕ};
 ghost use Rattle.px_script.specs.Causes.{is_long, is_numbered};
 ghost use Rattle.px_script.specs.Items.{declared_in};
 ghost use Rattle.px_script.specs.declared.limits.Limit.TheVariants as limit;
-ghost use Rattle.px_script.specs.Faults.{any_outside};
+ghost use Rattle.px_script.specs.Faults.{any_outside, has_great_number};
 ghost use Rattle.px_script.specs.Limits.{greatest, of_executor};
 ghost use Rattle.px_script.specs.Statements as spec;
 ghost use Rattle.px_lines.specs.ItemViews.{rest_view, said_view};
@@ -18,7 +18,8 @@ use px_base::NoMemory;
 use px_lines::{Line, Rest, Said, SignedAtom};
 use px_names::Kind;
 use px_script::{
-    EXECUTORS, LAST_TURN, LAST_VERSION, Limit, MOST_SCRIPT_NODES, NAME_BYTES, Named, greatest,
+    EXECUTORS, LAST_NUMBER, LAST_TURN, LAST_VERSION, Limit, MOST_SCRIPT_NODES, NAME_BYTES, Named,
+    greatest,
 };
 use px_terms::{MOST_HEIGHT, MOST_SHAPES};
 
@@ -112,6 +113,31 @@ fn names_no_executor(numbers: &[u32]) -> bool
         .any(|number| *number < 1 || EXECUTORS < *number)
 }
 
+/// Returns the limit of numbers, if one of an edit's is greater than it may be.
+fn great_number(prefix: u32, pairs: &[(u32, u32)]) -> Option<PassedLimit>
+    ensures { result ≡ (if (has_great_number (prefix ∷ flat_map (λ pair. pair.0 ∷ pair.1 ∷ []) pairs.now)).0
+        then Some PassedLimit.Bounds else None) }
+{
+    passed(
+        prefix > LAST_NUMBER || any_great(pairs),
+        PassedLimit::Bounds,
+    )
+}
+
+fn any_great(pairs: &[(u32, u32)]) -> bool
+    ensures { result ≡ list_any (nat_lt LAST_NUMBER) (flat_map (λ pair. pair.0 ∷ pair.1 ∷ []) pairs.now) }
+{
+    each_great(pairs)
+}
+
+fn each_great(pairs: &[(u32, u32)]) -> bool
+    ensures { result ≡ list_any (λ pair. nat_lt LAST_NUMBER pair.0 || nat_lt LAST_NUMBER pair.1) pairs.now }
+{
+    pairs
+        .iter()
+        .any(|pair| pair.0 > LAST_NUMBER || pair.1 > LAST_NUMBER)
+}
+
 impl Reader {
     /// Returns the least number of the limits that the line passes, but for that of facts.
     pub fn passed_limit(
@@ -154,7 +180,10 @@ impl Reader {
             Statement::DisturbRooms(turn, _, edits) => self.disturbance_limit(turn, edits.len()),
             Statement::Learn(_, _) | Statement::Show(_) | Statement::Run(_, _) | Statement::Facts =>
                 { self.commands_limit() }
+            Statement::Save(_) | Statement::Certify(_) => self.commands_limit(),
+            Statement::Edit(_, _, prefix, pairs) => self.edit_limit(prefix, pairs),
             Statement::Duo(_, _, numbers) => self.duo_limit(numbers),
+            Statement::Pursue(_, goal) => self.plan_limit(goal)?,
             Statement::Sort(_, objects) => self.sort_limit(objects.len()),
             Statement::Building
             | Statement::Robot(_)
@@ -247,6 +276,16 @@ impl Reader {
         ensures { IsFirstLimit result (over (declared_of self.now) limit.Commands (length self.now.commands.items + 1) ∷ []) }
     {
         self.commands_over()
+    }
+
+    fn edit_limit(&self, prefix: u32, pairs: &[(u32, u32)]) -> Option<PassedLimit>
+        ensures { IsFirstLimit result (over (declared_of self.now) limit.Commands (length self.now.commands.items + 1)
+            ∷ has_great_number (prefix ∷ flat_map (λ pair. pair.0 ∷ pair.1 ∷ []) pairs.now)
+            ∷ over (declared_of self.now) limit.Pairs (length pairs.now) ∷ []) }
+    {
+        self.commands_over()
+            .or(great_number(prefix, pairs))
+            .or(self.over(pairs.len(), Limit::Pairs))
     }
 
     fn disturbance_limit(&self, turn: u32, edits: usize) -> Option<PassedLimit>

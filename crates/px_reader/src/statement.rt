@@ -40,6 +40,12 @@ pub enum Statement<'line, 'text> {
     Sort(&'text str, &'line [&'text str]),
     /// A sort, and the parameters of the open operator that have it.
     Param(&'text str, &'line [&'text str]),
+    // No command serves these yet, so each is refused as not built.
+    Save(&'text str),
+    Certify(&'text str),
+    /// The name of an edited table, the table that it is made from, how many of its steps, and the wanted adds.
+    Edit(&'text str, &'text str, u32, &'line [(u32, u32)]),
+    Pursue(&'text str, &'line [SignedAtom<'text>]),
 }
 
 impl Statement<'_, '_> {

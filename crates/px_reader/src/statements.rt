@@ -3,7 +3,7 @@ ghost use Rattle.std.specs.Prelude.{◌≡◌, ℕ, List, ◌∷◌, Some, None,
 ghost use Rattle.px_script.specs.Items as items;
 ghost use Rattle.px_script.specs.Statements as spec;
 ghost use Rattle.px_script.specs.Statements.{time_word};
-ghost use Rattle.px_script.proofs.Rows.{entry_of, make_atoms, make_box, make_disturb, make_door, make_duo, make_learn, make_nothing, make_number, make_object, make_operator, make_param, make_plan, make_predicate, make_robot, make_room, make_run, make_show, make_sort, row_of, statement_of};
+ghost use Rattle.px_script.proofs.Rows.{entry_of, make_atoms, make_box, make_disturb, make_door, make_duo, make_edit, make_learn, make_nothing, make_number, make_object, make_of_table, make_operator, make_param, make_plan, make_predicate, make_pursue, make_robot, make_room, make_run, make_show, make_sort, row_of, statement_of};
 ghost use Rattle.px_lines.specs.ItemViews.{rest_view, said_items};
 ghost use Rattle.px_lines.specs.LineViews.{line_view, IsShaped};
 ghost use Rattle.px_reader.specs.Common.{bytes_eq, option_and_then, option_map, time_of, signed_view, statement_view};
@@ -496,6 +496,94 @@ fn param<'line, 'text>(
     }
 }
 
+/// Returns the name of the table that a line names alone.
+fn table<'text>(ones: &[Said<'text>], last: &Rest<'_>) -> Option<&'text str>
+    requires { length ones.now ≡ 1 }
+    ensures { (f : List ℕ → spec.Statement) → option_map (λ name. f name.now) result ≡ make_of_table f (said_items ones.now last.now) }
+{
+    match ones {
+        [Said::Known(Named::Table, name)] => match last {
+            Rest::Nothing => Some(*name),
+            _ => None,
+        },
+        _ => None,
+    }
+}
+
+fn save<'line, 'text>(
+    ones: &[Said<'text>],
+    last: &'line Rest<'text>,
+) -> Option<Statement<'line, 'text>>
+    requires { length ones.now ≡ 1 }
+    ensures { option_map statement_view result ≡ make_of_table spec.save (said_items ones.now last.now) }
+{
+    Some(Statement::Save(table(ones, last)?))
+}
+
+fn certify<'line, 'text>(
+    ones: &[Said<'text>],
+    last: &'line Rest<'text>,
+) -> Option<Statement<'line, 'text>>
+    requires { length ones.now ≡ 1 }
+    ensures { option_map statement_view result ≡ make_of_table spec.certify (said_items ones.now last.now) }
+{
+    Some(Statement::Certify(table(ones, last)?))
+}
+
+fn edited<'line, 'text>(
+    name: &'text str,
+    word: &str,
+    source: &'text str,
+    prefix: u32,
+    pairs: &'line [(u32, u32)],
+) -> Option<Statement<'line, 'text>>
+    ensures { option_map statement_view result
+        ≡ (if bytes_eq word.now (codes "from") then Some (spec.edit name.now source.now prefix pairs.now) else None) }
+{
+    if word == "from" {
+        Some(Statement::Edit(name, source, prefix, pairs))
+    } else {
+        None
+    }
+}
+
+fn edit<'line, 'text>(
+    ones: &[Said<'text>],
+    last: &'line Rest<'text>,
+) -> Option<Statement<'line, 'text>>
+    requires { length ones.now ≡ 4 }
+    ensures { option_map statement_view result ≡ make_edit (said_items ones.now last.now) }
+{
+    match ones {
+        [
+            Said::New(Named::Table, name),
+            Said::The(word),
+            Said::Known(Named::Table, source),
+            Said::Number(prefix),
+        ] => match last {
+            Rest::Pairs(pairs) => edited(name, word, source, *prefix, pairs.as_slice()),
+            _ => None,
+        },
+        _ => None,
+    }
+}
+
+fn pursue<'line, 'text>(
+    ones: &[Said<'text>],
+    last: &'line Rest<'text>,
+) -> Option<Statement<'line, 'text>>
+    requires { length ones.now ≡ 1 }
+    ensures { option_map statement_view result ≡ make_pursue (said_items ones.now last.now) }
+{
+    match ones {
+        [Said::New(Named::Result, name)] => match last {
+            Rest::Atoms(goal) => Some(Statement::Pursue(name, goal.as_slice())),
+            _ => None,
+        },
+        _ => None,
+    }
+}
+
 /// Returns what the items of a word's line say, in a script with or without a building so far.
 fn made<'line, 'text>(
     with_building: bool,
@@ -535,6 +623,10 @@ fn made<'line, 'text>(
         "duo" => duo(ones, last),
         "sort" => sort(ones, last),
         "param" => param(ones, last),
+        "save" => save(ones, last),
+        "certify" => certify(ones, last),
+        "edit" => edit(ones, last),
+        "pursue" => pursue(ones, last),
         _ => None,
     }
 }

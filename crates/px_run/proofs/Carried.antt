@@ -1,7 +1,9 @@
 -- Each plan of a transcript carries, and so does each table that is kept on the way.
 use Rattle.std.proofs.Common.{◌≡◌, ℕ, zero, suc, ◌≤◌, List, [], ◌∷◌, length, take, get_or, refl, sym, subst, arith}
 use Rattle.std.specs.Prelude.{All}
+use Rattle.std.proofs.lemmas.List.Elements.{All-head, All-tail}
 use Rattle.px_terms.specs.declared.problem.Problem.{Problem}
+use Rattle.px_terms.specs.Validity.{IsValid}
 use Rattle.px_table.specs.Kernels.{KernelsCarry}
 use Rattle.px_printer.specs.declared.reply.Reply.{Reply}
 use Rattle.px_printer.specs.declared.reply.Reply.TheVariants as reply
@@ -11,47 +13,60 @@ use Rattle.px_script.specs.Stages.{stage_now}
 use Rattle.px_script.proofs.Kept.{in-range}
 use Rattle.px_session.specs.Lawful.{Lawful}
 use Rattle.px_session.specs.Opened.{tables_of}
+use Rattle.px_session.specs.OwnStates.{IsOwnGoal}
 use Rattle.px_session.specs.Sessions.{IsSession, SessionState, opening}
 use Rattle.px_session.specs.Transcripts.{AreAnswers, Transcript}
+use Rattle.px_session.proofs.Executing.{own-goals}
 use Rattle.px_session.proofs.Kept.{sessions_are_kept}
 use Rattle.px_session.proofs.KeptRooms.{rooms_are_kept}
-use Rattle.px_run.specs.Laws.{CarriesAfter, CarriesWhereDone, PlanCarries, TranscriptsCarry}
+use Rattle.px_session.proofs.Undisturbed.{undisturbed_runs}
+use Rattle.px_run.specs.Laws.{CarriesAfter, CarriesWhereDone, PlanCarries, RunReaches, TranscriptsCarry}
 use Rattle.px_run.specs.Outcomes.{SourceEnds}
 use Rattle.px_run.specs.declared.status.Status.{Status}
 use Rattle.px_run.specs.declared.status.Status.TheVariants as status
 
-plan-carries : (problem : Problem) (old : SessionState) (c : Command) (answer : Reply) (new : SessionState)
-    → Lawful problem old c answer new → PlanCarries problem old c answer
-plan-carries problem old (command.Plan name goal vars) (reply.Plan given count steps) new is =
-    sessions_are_kept.plans problem old name goal vars given count steps new is
-plan-carries problem old (command.Plan name goal vars) answer new is = tt
-plan-carries problem old c answer new is = tt
+plan-carries : (problem : Problem) (old : SessionState) (c : Command) (answer : Reply) (new : SessionState) → IsValid problem
+    → IsSession problem old → IsOwnGoal problem c → Lawful problem old c answer new → PlanCarries problem old c answer
+plan-carries problem old (command.Plan name goal vars) (reply.Plan given count steps) new valid session own is =
+    sessions_are_kept.plans problem old name goal vars given count steps new valid session own is
+plan-carries problem old (command.Plan name goal vars) answer new valid session own is = tt
+plan-carries problem old c answer new valid session own is = tt
+
+run-reaches : (problem : Problem) (old : SessionState) (c : Command) (answer : Reply) (new : SessionState) → IsValid problem
+    → IsSession problem old → Lawful problem old c answer new → RunReaches old c answer
+run-reaches problem old (command.Run name bound) (reply.Ran given told) new valid session is =
+    λ table named. undisturbed_runs.reached problem old name given bound table told new valid session named is
+run-reaches problem old (command.Run name bound) answer new valid session is = tt
+run-reaches problem old c answer new valid session is = tt
 
 record Carries (problem : Problem) (old : SessionState) (commands : List Command) (answers : List Reply) (done : ℕ) : Type 0 where
   state : SessionState
   left : AreAnswers problem old (take done commands) (take done answers) state
   plan : PlanCarries problem state (get_or commands done command.Facts) (get_or answers done (reply.FactsAre []))
+  run : RunReaches state (get_or commands done command.Facts) (get_or answers done (reply.FactsAre []))
   kernels : All (KernelsCarry problem) (tables_of state)
 
-module _ (problem : Problem) where
-  carried : (old : SessionState) → IsSession problem old → (commands : List Command) (answers : List Reply) (last : SessionState)
+module _ (problem : Problem) (valid : IsValid problem) where
+  carried : (old : SessionState) → IsSession problem old → (commands : List Command) → All (IsOwnGoal problem) commands
+      → (answers : List Reply) (last : SessionState)
       → AreAnswers problem old commands answers last → (done : ℕ) → done ≤ length commands → Carries problem old commands answers done
-  carried old session [] [] last are done below = let none : done ≡ 0 = omega (arith, below) in
+  carried old session [] own [] last are done below = let none : done ≡ 0 = omega (arith, below) in
       subst (Carries problem old [] []) (sym none)
-      (record { state = old; left = refl; plan = tt; kernels = sessions_are_kept.kernels problem old session })
-  carried old session [] (a ∷ answers) last are done below = absurd are
-  carried old session (c ∷ commands) [] last are done below = absurd are
-  carried old session (c ∷ commands) (a ∷ answers) last are zero below =
+      (record { state = old; left = refl; plan = tt; run = tt; kernels = sessions_are_kept.kernels problem old session })
+  carried old session [] own (a ∷ answers) last are done below = absurd are
+  carried old session (c ∷ commands) own [] last are done below = absurd are
+  carried old session (c ∷ commands) own (a ∷ answers) last are zero below =
       record {
         state = old;
         left = refl;
-        plan = plan-carries problem old c a are.0 are.1;
+        plan = plan-carries problem old c a are.0 valid session (All-head (IsOwnGoal problem) c commands own) are.1;
+        run = run-reaches problem old c a are.0 valid session are.1;
         kernels = sessions_are_kept.kernels problem old session;
       }
-  carried old session (c ∷ commands) (a ∷ answers) last are (suc done) below =
-      let next = sessions_are_kept.kept problem old c a are.0 session are.1 in
-      let rest = carried are.0 next commands answers last are.2 done (omega (arith, below)) in
-      record { state = rest.state; left = (are.0, are.1, rest.left); plan = rest.plan; kernels = rest.kernels }
+  carried old session (c ∷ commands) own (a ∷ answers) last are (suc done) below =
+      let next = sessions_are_kept.kept problem old c a are.0 valid session (All-head (IsOwnGoal problem) c commands own) are.1 in
+      let rest = carried are.0 next commands (All-tail (IsOwnGoal problem) c commands own) answers last are.2 done (omega (arith, below)) in
+      record { state = rest.state; left = (are.0, are.1, rest.left); plan = rest.plan; run = rest.run; kernels = rest.kernels }
 
 carry : (bytes text : List ℕ) → (transcript : Transcript bytes text) → (done : ℕ) → done ≤ length transcript.script.commands
     → CarriesAfter transcript.script transcript.answers done
@@ -59,12 +74,14 @@ carry bytes text transcript done below =
     let script = transcript.script in
     let range = in-range stage_now bytes script transcript.spelt in
     let session = sessions_are_kept.opened script.problem script.facts range.facts.fact_set in
-    let is = carried script.problem
-    (opening script.facts) session script.commands transcript.answers transcript.lawful.last transcript.lawful.lawful done below in
+    let is = carried script.problem range.problem.valid
+    (opening script.facts) session script.commands (own-goals script range) transcript.answers transcript.lawful.last
+    transcript.lawful.lawful done below in
     record {
       state = is.state;
       left = is.left;
       plan = is.plan;
+      run = is.run;
       kernels = is.kernels;
       rooms = λ things building.
           let kept = rooms_are_kept.answers script things done (take done transcript.answers) is.state range building is.left in

@@ -2,6 +2,9 @@
 use Rattle.std.proofs.Common.{◌≡◌, ℕ, ◌≤◌, List, [], ◌∷◌, ◌++◌, length, refl, sym, ap, subst, ◌∙◌, arith, length-append}
 use Rattle.std.proofs.lemmas.List.Concat.{flat_map-append}
 use Rattle.std.specs.List.{AllZip}
+use Rattle.std.specs.Prelude.{All, Contains}
+use Rattle.std.proofs.lemmas.List.Elements.{All-head, All-tail, Contains-append_left}
+use Rattle.px_base.specs.ListLaws.{All-at, All-each}
 use Rattle.px_names.specs.Lists.{NameLists}
 use Rattle.px_terms.specs.declared.problem.Problem.{Problem}
 use Rattle.px_terms.specs.Validity.{IsValid}
@@ -13,8 +16,10 @@ use Rattle.px_script.specs.Stages.{stage_now}
 use Rattle.px_script.proofs.Kept.{in-range}
 use Rattle.px_script.proofs.Law.{reads-one-way}
 use Rattle.px_session.specs.Determined.{SameReply}
+use Rattle.px_session.specs.OwnStates.{IsOwnGoal}
 use Rattle.px_session.specs.Sessions.{IsSession, SessionState, opening}
 use Rattle.px_session.specs.Transcripts.{AreAnswers, Transcript, texts}
+use Rattle.px_session.proofs.Executing.{own-goals}
 use Rattle.px_session.proofs.Kept.{sessions_are_kept}
 use Rattle.px_session.proofs.OneReply.{lawful_is_one}
 use Rattle.px_session.proofs.OneTranscript.{answers_are_one, transcripts_are_one}
@@ -39,17 +44,26 @@ begins-more a b xs ys same begins =
 
 -- the replies to the first commands begin the replies to all
 module _ (problem : Problem) (valid : IsValid problem) where
-  front-of : (old : SessionState) → IsSession problem old → (before after : List Command) (xs ys : List Reply) (last later : SessionState)
+  front-of : (old : SessionState) → IsSession problem old → (before after : List Command) → All (IsOwnGoal problem) before
+      → (xs ys : List Reply) (last later : SessionState)
       → AreAnswers problem old before xs last → AreAnswers problem old (before ++ after) ys later → BeginsLike xs ys
-  front-of old session [] after [] ys last later p q = record { front = []; rest = ys; whole = refl; alike = tt }
-  front-of old session [] after (a ∷ xs) ys last later p q = absurd p
-  front-of old session (c ∷ before) after [] ys last later p q = absurd p
-  front-of old session (c ∷ before) after (a ∷ xs) [] last later p q = absurd q
-  front-of old session (c ∷ before) after (a ∷ xs) (b ∷ ys) last later p q =
+  front-of old session [] after own [] ys last later p q = record { front = []; rest = ys; whole = refl; alike = tt }
+  front-of old session [] after own (a ∷ xs) ys last later p q = absurd p
+  front-of old session (c ∷ before) after own [] ys last later p q = absurd p
+  front-of old session (c ∷ before) after own (a ∷ xs) [] last later p q = absurd q
+  front-of old session (c ∷ before) after own (a ∷ xs) (b ∷ ys) last later p q =
       let same = lawful_is_one.replies problem old c a b p.0 q.0 valid session p.1 q.1 in
-      let next = sessions_are_kept.kept problem old c b q.0 session q.1 in
+      let next = sessions_are_kept.kept problem old c b q.0 valid session (All-head (IsOwnGoal problem) c before own) q.1 in
       let here = subst (λ (s : SessionState). AreAnswers problem s before xs last) same.1 p.2 in
-      begins-more a b xs ys same.0 (front-of q.0 next before after xs ys last later here q.2)
+      begins-more a b xs ys same.0 (front-of q.0 next before after (All-tail (IsOwnGoal problem) c before own) xs ys last later here q.2)
+
+-- the goals of the first commands are of the problem
+own-front : (script : ScriptValue) (before after : List Command) → script.commands ≡ before ++ after
+    → All (IsOwnGoal script.problem) script.commands → All (IsOwnGoal script.problem) before
+own-front script before after whole own =
+    All-each (IsOwnGoal script.problem) before
+    (λ c has. All-at (IsOwnGoal script.problem) script.commands c own
+    (subst (λ (cs : List Command). Contains cs c) (sym whole) (Contains-append_left before after c has)))
 
 text-begins : (names : NameLists) (xs ys : List Reply) → BeginsLike xs ys → (rest : List ℕ) × (texts names ys ≡ texts names xs ++ rest)
 text-begins names xs ys begins = (
@@ -72,7 +86,9 @@ front-text bytes begun text (script, is, of) whole =
         let session = sessions_are_kept.opened script.problem script.facts range.facts.fact_set in
         let all = subst (λ (cs : List Command). AreAnswers script.problem (opening script.facts) cs whole.answers last) of.whole lawful in
         let begins = front-of script.problem range.problem.valid
-        (opening script.facts) session of.before of.after of.answers whole.answers of.last last of.lawful all in
+        (opening script.facts) session of.before of.after
+        (own-front script of.before of.after of.whole (own-goals script range))
+        of.answers whole.answers of.last last of.lawful all in
         let texts_begin = text-begins script.names of.answers whole.answers begins in
         (texts_begin.0, text_is ∙ texts_begin.1 ∙ ap (λ (t : List ℕ). t ++ texts_begin.0) (sym of.text_is))
 

@@ -2,18 +2,20 @@
 use Rattle.std.specs.Prelude.{◌≡◌, ◌≤◌, ◌++◌, ℕ, List, [], Some, length, take, All, slice_index_or}
 use Rattle.px_terms.specs.Plans.{Carries}
 use Rattle.px_terms.specs.declared.problem.Problem.{Problem}
+use Rattle.px_table.specs.declared.table.Table.{Table}
 use Rattle.px_table.specs.Kernels.{KernelsCarry}
 use Rattle.px_world.specs.declared.thing.Thing.{Thing}
 use Rattle.px_rooms.specs.States.{RoomState, first_state}
 use Rattle.px_printer.specs.declared.reply.Reply.{Reply}
 use Rattle.px_printer.specs.declared.reply.Reply.TheVariants as reply
 use Rattle.px_script.specs.declared.command.Command.{Command}
-use Rattle.px_script.specs.declared.command.Command.TheVariants.{Plan, Facts}
+use Rattle.px_script.specs.declared.command.Command.TheVariants.{Plan, Facts, Run}
 use Rattle.px_script.specs.Content.{ScriptValue}
 use Rattle.px_session.specs.Opened.{tables_of}
 use Rattle.px_session.specs.RoomRuns.{AreAnswersIn, IsInBuilding}
-use Rattle.px_session.specs.Sessions.{SessionState, opening}
+use Rattle.px_session.specs.Sessions.{SessionState, any_table, opening}
 use Rattle.px_session.specs.Transcripts.{AreAnswers, Transcript}
+use Rattle.px_session.specs.Undisturbed.{ReachesGoal}
 use Rattle.px_run.specs.Outcomes.{Came, SourceEnds}
 use Rattle.px_run.specs.Transcripts.{Begun}
 use Rattle.px_run.specs.declared.status.Status.{Status}
@@ -30,6 +32,12 @@ abbrev pub PlanCarries : Problem → SessionState → Command → Reply → Type
 PlanCarries problem state (Plan name goal vars) (reply.Plan given moves steps) = Carries problem state.atoms steps vars goal
 PlanCarries problem state _ _ = Unit {0}
 
+-- a run that a reply prints reaches the goal of the name's table, once it has sensed a kernel and nothing disturbs it after that
+abbrev pub RunReaches : SessionState → Command → Reply → Type 0
+RunReaches state (Run name bound) (reply.Ran given told) = (table : Table) → any_table state name ≡ Some table
+    → ReachesGoal table state.recorded told
+RunReaches state _ _ = Unit {0}
+
 -- From the first state of a building the replies leave one state of it after the other, each run by the edits and steps of its turns. The
 -- session is in the last of these states: the world's atoms are its facts.
 pub record AreInBuilding (script : ScriptValue) (things : List Thing) (done : ℕ) (answers : List Reply)
@@ -41,11 +49,13 @@ pub record AreInBuilding (script : ScriptValue) (things : List Thing) (done : �
 
 -- `done` commands are done. In the state that their replies leave, the next command is answered by a plan only where the world's atoms
 -- carry its steps to the goal; and each proper instance of each kernel of each stored and each learned table carries the steps that are
--- left to that table's goal. With a building the replies leave a state of it.
+-- left to that table's goal. It is answered by a run only if that reaches the goal, once it has sensed a kernel and nothing disturbs it
+-- after that. With a building the replies leave a state of it.
 pub record CarriesAfter (script : ScriptValue) (answers : List Reply) (done : ℕ) : Type 0 where
   pub state : SessionState
   pub left : AreAnswers script.problem (opening script.facts) (take done script.commands) (take done answers) state
   pub plan : PlanCarries script.problem state (slice_index_or script.commands done Facts) (slice_index_or answers done (reply.FactsAre []))
+  pub run : RunReaches state (slice_index_or script.commands done Facts) (slice_index_or answers done (reply.FactsAre []))
   pub kernels : All (KernelsCarry script.problem) (tables_of state)
   pub rooms : (things : List Thing) → script.building ≡ Some things → AreInBuilding script things done answers state
 

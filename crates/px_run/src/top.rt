@@ -31,10 +31,11 @@ const LIMIT: usize = 1_048_576;
 /// source and answers it; `demo ROOMS SEED` makes a script, and sums up the replies to it; `check` isn't built yet and any other words
 /// aren't taken, so they are `Usage`.
 ///
-/// For every script, with or without a building, the transcript holds one lawful reply for each command (`right`). So the world's atoms
-/// carry the steps of each plan that a reply prints to its goal, each proper instance of each kernel of each table that is kept carries
-/// the steps that are left, PLANEX acts by the highest kernel that fits, and the replies that no plan was found, that a limit was met or
-/// that no kernel fits come exactly where their definitions hold (`carries`; laws of `px_session`).
+/// For every script, with or without a building, the transcript holds one lawful reply for each command (`right`): PLANEX acts by the
+/// highest kernel that fits, and the replies that no plan was found, that a limit was met or that no kernel fits come exactly where their
+/// definitions hold (laws of `px_session`). So the world's atoms carry the steps of each plan that a reply prints to its goal, and each
+/// proper instance of each kernel of each table that is kept carries the steps that are left (`carries`). A run that has sensed a kernel,
+/// and that nothing disturbs after that, ends at the goal, after no more turns than its table has kernels above that one (`carries`, too).
 #[tactic(auto, using(crate::proofs::Carried::is_carried))]
 pub fn planex_main<'a, S: Source, K: Sink>(
     alloc: Global,

@@ -1,10 +1,10 @@
 -- The parser reads what stands in lines exactly: each spelling back, and nothing else. What a line in its form has.
-use Rattle.px_script.proofs.Common.{Binding, decimal, Lexeme, name, number, sign, Argument, Sign, WrittenAtom, SignedAtom, WrittenRoomEdit, named, bare, robot_to, door_to, spell, spell_argument, spell_sign, spell_atom, spell_room_edit, spell_binding, is_filled, is_parameter_number, parameter_name, open_word, with_commas, parenthesised, Statement, Line, line_of, is_word, Declared, Forms, begins_with_word, is_formed, is_signed, is_of_script, ◌≡◌, ℕ, zero, suc, ◌<◌, ◌≤◌, Bool, true, false, cond, not, ◌==◌, List, [], ◌∷◌, ◌++◌, map, length, drop, refl, ap, ◌∙◌, subst, arith, append_assoc, append-nil, eqb-true, length-append, ltb-true, nat_lt, Option, None, Some, codes, list_all, flat_map, option_map, option_and_then, IfSome, bytes_eq, digits_value, and_parts, not-true, bytes_eq-Decides}
+use Rattle.px_script.proofs.Common.{Binding, decimal, Lexeme, name, number, sign, Argument, Sign, WrittenAtom, SignedAtom, WrittenRoomEdit, named, bare, robot_to, door_to, spell, spell_argument, spell_sign, spell_atom, spell_room_edit, spell_binding, is_filled, is_parameter_number, parameter_name, open_word, with_commas, parenthesised, Statement, Line, line_of, is_word, Declared, Forms, begins_with_word, is_formed, is_signed, is_of_script, ◌≡◌, ℕ, zero, suc, ◌<◌, ◌≤◌, Bool, true, false, cond, not, ◌==◌, List, [], ◌∷◌, ◌++◌, map, length, drop, refl, ap, ◌∙◌, subst, arith, append_assoc, append-nil, eqb-true, length-append, ltb-true, nat_lt, Option, None, Some, codes, list_all, flat_map, option_map, option_and_then, IfSome, bytes_eq, digits_value, and_parts, not-true, bytes_eq-Decides, spell_pair}
 use Rattle.std.proofs.lemmas.Fmt.{decimal_is_IsNumeral}
 use Rattle.std.proofs.lemmas.Option.{IfSome_then}
 use Rattle.px_script.specs.Forms as spec
 use Rattle.px_script.proofs.Lists.{by_test}
-use Rattle.px_script.proofs.Parsing.{argument_of, items_after, items_at, all_within, all_of, atom_after, atom_at, sign_of, which, open_of, room_edit_at, parameter_of, binding_at, names_of, names_among, names_at, numbers_of}
+use Rattle.px_script.proofs.Parsing.{argument_of, items_after, items_at, all_within, all_of, atom_after, atom_at, sign_of, which, open_of, room_edit_at, parameter_of, binding_at, names_of, names_among, names_at, numbers_of, pair_at}
 
 -- ---- what is said of an answer, if there is one
 
@@ -216,7 +216,15 @@ pub bindings-back : ReadsBack (λ b. is_parameter_number b.parameter) binding_at
 bindings-back =
     record { again = λ b rest good shut. rw (parameter-again b.parameter good) refl; closed = λ b rest. refl; long = λ b. omega arith }
 
+pub pairs-back : ReadsBack each pair_at spell_pair
+pairs-back = record { again = λ p rest good shut. refl; closed = λ p rest. refl; long = λ p. omega arith }
+
 -- ---- what is read is spelled so
+
+pub pair-sound : ReadsSpelled pair_at spell_pair
+pair-sound (number n ∷ sign s ∷ number m ∷ rest) = if-there _ _ _ (s == 61) (λ e. rw (eqb-true s 61 e) refl) (λ e. tt)
+pair-sound (number n ∷ sign s ∷ rest) = if-there _ _ _ (s == 61) (λ e. tt) (λ e. tt)
+pair-sound _ = tt
 
 pub which-sound : (word : Bool → List ℕ) (w : List ℕ) → IfSome (which (word true) (word false) w) (λ b. w ≡ word b)
 which-sound word w = if-there _ _ _ (bytes_eq w (word true)) (same_word w (word true))
@@ -283,6 +291,9 @@ atoms-again xs = all-again each atom_at spell_atom atoms-back xs (all-each xs)
 
 pub edits-again : (es : List WrittenRoomEdit) → all_of room_edit_at (flat_map spell_room_edit es ++ []) ≡ Some es
 edits-again es = all-again each room_edit_at spell_room_edit room-edits-back es (all-each es)
+
+pub pairs-again : (ps : List (ℕ × ℕ)) → all_of pair_at (flat_map spell_pair ps ++ []) ≡ Some ps
+pairs-again ps = all-again each pair_at spell_pair pairs-back ps (all-each ps)
 
 pub bindings-again : (bs : List Binding) → list_all (λ b. is_parameter_number b.parameter) bs ≡ true
     → all_of binding_at (flat_map spell_binding bs ++ []) ≡ Some bs

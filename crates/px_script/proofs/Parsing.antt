@@ -106,6 +106,10 @@ abbrev pub binding_at : List Lexeme → Option (Binding × List Lexeme)
 binding_at =
     after_name (λ p. after_sign 61 (after_name (λ o rest. option_map (λ k. (record { parameter = k; object = o }, rest)) (parameter_of p))))
 
+-- N=N
+abbrev pub pair_at : List Lexeme → Option ((ℕ × ℕ) × List Lexeme)
+pair_at = after_number (λ n. after_sign 61 (after_number (λ m rest. Some ((n, m), rest))))
+
 abbrev pub names_of : List Lexeme → Option (List (List ℕ))
 names_of [] = Some []
 names_of (name n ∷ rest) = option_map (λ more. n ∷ more) (names_of rest)

@@ -1,6 +1,6 @@
 -- The table of the words: what each line has in which order; a plain reader by the table, and the statement that items are.
-use Rattle.px_script.proofs.Common.{SignedAtom, ℕ, Bool, true, false, List, [], ◌∷◌, ◌++◌, length, drop, Option, None, Some, codes, if◌then◌else◌, ◌||◌, ◌==◌, bytes_eq, option_map, option_and_then, Lexeme, name, number, Manner, Place, Line, Declared, has_building, is_formed, Statement, inside, plain, patterns, literals, goals, atom_changes, operator_block, building_block, script, object, predicate, «axiom», operator, pre, delete, add, building, room, door, box, robot, end, fact, height, nodes, shapes, plan, learn, show, disturb_atoms, disturb_rooms, run, facts, sort, param, duo}
-use Rattle.px_script.specs.Items.{Item, the, amount, amounts, new, declared, listed, known, wanted, atoms, bindings, room_edits, an_object, a_predicate, an_operator, a_parameter, a_sort, a_room as room_name, a_door as door_name, a_box as box_name, a_plan, a_table}
+use Rattle.px_script.proofs.Common.{SignedAtom, ℕ, Bool, true, false, List, [], ◌∷◌, ◌++◌, length, drop, Option, None, Some, codes, if◌then◌else◌, ◌||◌, ◌==◌, bytes_eq, option_map, option_and_then, Lexeme, name, number, Manner, Place, Line, Declared, has_building, is_formed, Statement, inside, plain, patterns, literals, goals, atom_changes, operator_block, building_block, script, object, predicate, «axiom», operator, pre, delete, add, building, room, door, box, robot, end, fact, height, nodes, shapes, plan, learn, show, disturb_atoms, disturb_rooms, run, facts, sort, param, duo, save, certify, edit, pursue}
+use Rattle.px_script.specs.Items.{Item, the, amount, amounts, new, declared, listed, known, wanted, atoms, bindings, room_edits, an_object, a_predicate, an_operator, a_parameter, a_sort, a_room as room_name, a_door as door_name, a_box as box_name, a_plan, a_table, pairs, a_result}
 use Rattle.px_script.specs.Statements.{room_changes, line, first, domain, setting, opens, closes, command}
 use Rattle.px_script.specs.declared.kinds.Choice.{Choice}
 use Rattle.px_script.specs.declared.kinds.Choice.TheVariants as choice
@@ -8,7 +8,7 @@ use Rattle.px_script.specs.declared.kinds.One.{One}
 use Rattle.px_script.specs.declared.kinds.One.TheVariants as one
 use Rattle.px_script.specs.declared.kinds.Last.{Last}
 use Rattle.px_script.specs.declared.kinds.Last.TheVariants as last
-use Rattle.px_script.proofs.Parsing.{names_of, names_at, at_end, all_of, atom_at, binding_at, room_edit_at, open_of, time_of, nothing_form, numbers_of}
+use Rattle.px_script.proofs.Parsing.{names_of, names_at, at_end, all_of, atom_at, binding_at, room_edit_at, open_of, time_of, nothing_form, numbers_of, pair_at}
 
 pub record Row : Type 0 where
   pub word : List ℕ
@@ -60,6 +60,7 @@ last_at (last.Known kind) lexemes = option_map (λ ns. wanted kind ns ∷ []) (n
 last_at last.Numbers lexemes = option_map (λ ns. amounts ns ∷ []) (numbers_of lexemes)
 last_at last.Atoms lexemes = option_map (λ xs. atoms xs ∷ []) (all_of atom_at lexemes)
 last_at last.Bindings lexemes = option_map (λ bs. bindings bs ∷ []) (all_of binding_at lexemes)
+last_at last.Pairs lexemes = option_map (λ ps. pairs ps ∷ []) (all_of pair_at lexemes)
 last_at last.RoomEdits lexemes = option_map (λ es. room_edits es ∷ []) (all_of room_edit_at lexemes)
 
 abbrev pub row_items : Row → List Lexeme → Option (List Item)
@@ -151,6 +152,20 @@ abbrev pub make_duo : List Item → Option Statement
 make_duo (wanted a_table (one ∷ []) ∷ wanted a_table (other ∷ []) ∷ amounts ns ∷ []) = Some (duo one other ns)
 make_duo _ = None
 
+-- what names a table alone
+abbrev pub make_of_table : (List ℕ → Statement) → List Item → Option Statement
+make_of_table f (wanted a_table (n ∷ []) ∷ []) = Some (f n)
+make_of_table f _ = None
+
+abbrev pub make_edit : List Item → Option Statement
+make_edit (declared a_table (n ∷ []) ∷ the w ∷ wanted a_table (source ∷ []) ∷ amounts (prefix ∷ []) ∷ pairs ps ∷ []) =
+    if bytes_eq w (codes "from") then Some (edit n source prefix ps) else None
+make_edit _ = None
+
+abbrev pub make_pursue : List Item → Option Statement
+make_pursue (declared a_result (n ∷ []) ∷ atoms xs ∷ []) = Some (pursue n xs)
+make_pursue _ = None
+
 abbrev pub disturb_manner : Bool → Manner
 disturb_manner true = room_changes
 disturb_manner false = atom_changes
@@ -197,7 +212,12 @@ entries_of_all b =
 abbrev pub entries_of_two : List Entry
 entries_of_two = entry (newer (row (codes "sort") domain plain (one.New a_sort ∷ []) (last.New an_object))) make_sort
     ∷ entry (newer (row (codes "param") (inside operator_block) plain (one.Known a_sort ∷ []) (last.Known a_parameter))) make_param
+    ∷ entry (newer (row (codes "save") command plain (one.Known a_table ∷ []) last.Nothing)) (make_of_table save)
+    ∷ entry (newer (row (codes "certify") command plain (one.Known a_table ∷ []) last.Nothing)) (make_of_table certify)
+    ∷ entry (newer (row (codes "edit") command plain
+    (one.New a_table ∷ one.Word choice.Source ∷ one.Known a_table ∷ one.Number ∷ []) last.Pairs)) make_edit
     ∷ entry (newer (row (codes "duo") command plain (one.Known a_table ∷ one.Known a_table ∷ []) last.Numbers)) make_duo
+    ∷ entry (newer (row (codes "pursue") command goals (one.New a_result ∷ []) last.Atoms)) make_pursue
     ∷ []
 
 abbrev pub entries : Bool → List Entry

@@ -1,12 +1,12 @@
 -- Which lines are refused, and why: the causes of all lines, in their order.
 use Rattle.std.specs.Prelude.{◌≡◌, ◌⊎◌, ℕ, ◌+◌, Bool, false, List, [], ◌∷◌, ◌++◌, map, length, Option, None, Some, is_some, if◌then◌else◌, ◌||◌, ◌==◌, nat_lt, not, slice_index}
-use Rattle.std.specs.List.{list_any, filter}
+use Rattle.std.specs.List.{list_any, filter, flat_map}
 use Rattle.std.specs.Str.{bytes_eq}
 use Rattle.px_script.specs.Common.{Schema, atom_set}
 use Rattle.px_script.specs.Items.{SignedAtom, Binding}
-use Rattle.px_script.specs.Statements.{Statement, line_of, script, object, predicate, «axiom», operator, pre, delete, add, building, room, door, box, robot, end, fact, height, nodes, shapes, plan, learn, show, disturb_atoms, disturb_rooms, run, facts, sort, param, duo}
+use Rattle.px_script.specs.Statements.{Statement, line_of, script, object, predicate, «axiom», operator, pre, delete, add, building, room, door, box, robot, end, fact, height, nodes, shapes, plan, learn, show, disturb_atoms, disturb_rooms, run, facts, sort, param, duo, save, certify, edit, pursue}
 use Rattle.px_script.specs.Limits as limit
-use Rattle.px_script.specs.Limits.{Limit, Bounds, greatest, number_of, number_of_numbers, of_version, of_height, of_nodes, of_shapes, of_turn, of_executor}
+use Rattle.px_script.specs.Limits.{Limit, Bounds, greatest, number_of, number_of_numbers, of_version, of_height, of_nodes, of_shapes, of_turn, of_executor, last_number}
 use Rattle.px_script.specs.Declarations.{Declared, OpenOperator, operator_here, has_building, number_in, variable_names_of, atom_of}
 use Rattle.px_script.specs.Stages.{Stage, whole_language, is_unbuilt}
 use Rattle.px_script.specs.Causes.{is_out_of_order, has_unknown_name, repeats_name, has_wrong_arity, is_unbound, has_long_name, has_robot, repeats}
@@ -59,6 +59,10 @@ outside bounds n = (nat_lt n bounds.least || nat_lt bounds.most n, number_of_num
 abbrev pub any_outside : Bounds → List ℕ → Bool × ℕ
 any_outside bounds ns = (list_any (λ n. (outside bounds n).0) ns, number_of_numbers)
 
+-- some of the numbers is greater than an edit's may be
+abbrev pub has_great_number : List ℕ → Bool × ℕ
+has_great_number ns = (list_any (nat_lt last_number) ns, number_of_numbers)
+
 abbrev pub one_more_object : Declared → Bool × ℕ
 one_more_object d = over d limit.objects (length d.names.objects + 1)
 
@@ -99,6 +103,12 @@ own_limits d (duo one other ns) = one_more_command d ∷ any_outside of_executor
 own_limits d facts = one_more_command d ∷ []
 own_limits d (sort n ns) = over d limit.objects (length d.names.objects + length ns) ∷ over d limit.sorts (length d.sorts + 1) ∷ []
 own_limits d (param n ps) = []
+own_limits d (save n) = one_more_command d ∷ []
+own_limits d (certify n) = one_more_command d ∷ []
+own_limits d (edit n source prefix ps) = one_more_command d ∷ has_great_number (prefix ∷ flat_map (λ p. p.0 ∷ p.1 ∷ []) ps)
+    ∷ over d limit.pairs (length ps) ∷ []
+own_limits d (pursue n xs) =
+    over d limit.variables (length (variable_names_of xs)) ∷ over d limit.goal_atoms (length xs) ∷ one_more_command d ∷ []
 own_limits d building = []
 own_limits d (robot r) = []
 own_limits d end = []

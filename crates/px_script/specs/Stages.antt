@@ -1,5 +1,5 @@
 -- How much of the language is built.
-use Rattle.std.specs.Prelude.{ℕ, Bool, List, [], ◌∷◌, ◌++◌, codes, not}
+use Rattle.std.specs.Prelude.{ℕ, Bool, List, [], ◌∷◌, ◌++◌, codes, not, ◌&&◌}
 use Rattle.px_script.specs.Common.{has_name}
 use Rattle.px_script.specs.Limits.{words, words_of_all}
 use Rattle.px_script.specs.Statements.{Statement, line_of}
@@ -16,8 +16,12 @@ whole_language = words 2
 abbrev pub stage_now : Stage
 stage_now = words_of_all ++ codes "sort" ∷ codes "param" ∷ codes "duo" ∷ []
 
+-- the words of commands that there aren't yet: they aren't built, whatever the stage
+abbrev pub words_to_come : List (List ℕ)
+words_to_come = codes "save" ∷ codes "certify" ∷ codes "edit" ∷ codes "pursue" ∷ []
+
 abbrev pub is_built : Stage → List ℕ → Bool
-is_built stage word = has_name word stage
+is_built stage word = not (has_name word words_to_come) && has_name word stage
 
 -- the word of the line isn't built
 abbrev pub is_unbuilt : Stage → Statement → Bool

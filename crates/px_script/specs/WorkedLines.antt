@@ -202,7 +202,7 @@ axioms n d = record d { axioms = replicate n (record { vars = 0; lits = [] }) }
 abbrev facts : ℕ → Declared → Declared
 facts n d = record d { facts = map (λ k. numbered 0 (Obj k ∷ [])) (range_with_len 0 n) }
 
-abbrev commands : ℕ → Declared → Declared
+abbrev pub commands : ℕ → Declared → Declared
 commands n d = record d { commands = replicate n Facts }
 
 abbrev disturbs : ℕ → Declared → Declared
@@ -290,7 +290,7 @@ pub record WorkedLimits : Type 0 where
   pub disturbs_first : RefuseWhere small (disturbs 64) 8 14 edits
 
 -- ---- commands
-abbrev learned : List ℕ
+abbrev pub learned : List ℕ
 learned = small ++ codes "\nplan N Q\nlearn M from N"
 
 pub record WorkedCommands : Type 0 where
@@ -340,7 +340,7 @@ pub record WorkedCommands : Type 0 where
       ∷ (16, closed_building, codes "disturb 10000 before robot R1") ∷ [])
 
 -- a plan N and a learned table M, in version 2
-abbrev learned_in_two : List ℕ
+abbrev pub learned_in_two : List ℕ
 learned_in_two = codes "script 2\n" ++ learned
 
 -- ---- lines of two executors, which version 2 has

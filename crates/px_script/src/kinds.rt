@@ -107,6 +107,8 @@ pub enum Last {
     Atoms,
     Bindings,
     RoomEdits,
+    /// Pairs of numbers, each N=N.
+    Pairs,
 }
 
 impl Block {

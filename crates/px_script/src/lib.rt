@@ -31,7 +31,8 @@
 //! - [`only_takes_away`]: where only some words are built, a line is refused as where all are, or as not built, and a
 //!   script is a script of the whole of it.
 //! - [`is_in_range`]: what a script is about is in range, and of the language as far as it is built (`IsOfStage`), so a caller may
-//!   hand its numbers on. What is built is one list of words, `stage_now`: the whole of version 1, and sorts; all laws hold of any list.
+//!   hand its numbers on. What is built is one list of words, `stage_now`: the whole of version 1, sorts, and `duo`; all laws hold
+//!   of any list.
 //! - [`worked_lines`] and [`worked_texts`]: what the definition says of small lines, and of small texts from their bytes, to be
 //!   compared with what a reader expects.
 //!
@@ -49,7 +50,7 @@ ghost use Rattle.px_script.specs.Statements.{Statement};
 ghost use Rattle.px_script.specs.Scripts.{ReadsOneWay, IsScript};
 ghost use Rattle.px_script.specs.Worked.{WorkedScripts, WorkedRefusals};
 ghost use Rattle.px_script.specs.WorkedLines.{WorkedBuildings, WorkedCommands, WorkedDomains, WorkedDuos, WorkedLimits, WorkedSorts, WorkedSpellings};
-ghost use Rattle.px_script.specs.WorkedLater.{WorkedLater};
+ghost use Rattle.px_script.specs.WorkedLater.{WorkedLater, WorkedUnbuilt};
 
 mod command;
 mod kinds;
@@ -59,8 +60,8 @@ mod script;
 pub use command::{Binding, Command};
 pub use kinds::{Block, Choice, Last, Manner, Named, One, Place, Sign};
 pub use limits::{
-    DEFAULT_HEIGHT, DEFAULT_NODES, DEFAULT_SHAPES, EXECUTORS, LAST_PARAMETER, LAST_TURN,
-    LAST_VERSION, Limit, MOST_SCRIPT_NODES, NAME_BYTES, NUMBER_OF_NUMBERS, greatest,
+    DEFAULT_HEIGHT, DEFAULT_NODES, DEFAULT_SHAPES, EXECUTORS, LAST_NUMBER, LAST_PARAMETER,
+    LAST_TURN, LAST_VERSION, Limit, MOST_SCRIPT_NODES, NAME_BYTES, NUMBER_OF_NUMBERS, greatest,
 };
 pub use script::Script;
 
@@ -74,6 +75,7 @@ pub fn worked_lines()
     ensures limits { WorkedLimits }
     ensures sorts { WorkedSorts }
     ensures duos { WorkedDuos }
+    ensures unbuilt { WorkedUnbuilt }
     ensures later { WorkedLater }
 {}
 

@@ -33,8 +33,10 @@ pub enum Limit {
     Edits,
     /// Sorts, which only version 2 has. The number before is that of the limit of numbers.
     Sorts = 17,
+    /// Pairs of an edit of a table.
+    Pairs = 21,
     /// Events of two executors in one world.
-    Events = 22,
+    Events,
 }
 
 // How many there may be of each, but for what each problem has limits of. Where version 2 allows more, it has a number of its own.
@@ -67,6 +69,8 @@ pub const DISTURBS: u32 = 64;
 pub const EDITS: u32 = 16;
 /// Sorts of the script.
 pub const SORTS: u32 = 32;
+/// Pairs of an edit of a table.
+pub const PAIRS: u32 = 16;
 /// Events of two executors in one world.
 pub const EVENTS: u32 = 256;
 
@@ -78,6 +82,8 @@ pub const NUMBER_OF_NUMBERS: u8 = 16;
 pub const MOST_SCRIPT_NODES: u32 = 50_000;
 /// The last turn that a disturbance may name.
 pub const LAST_TURN: u32 = 9999;
+/// The greatest number of an edit of a table.
+pub const LAST_NUMBER: u32 = 9999;
 /// How many executors share a world: they have the numbers from 1 on.
 pub const EXECUTORS: u32 = 2;
 /// The greatest number of a parameter.
@@ -119,6 +125,7 @@ pub fn greatest(version: u32, limit: Limit) -> u32
         Limit::Disturbs => DISTURBS,
         Limit::Edits => EDITS,
         Limit::Sorts => SORTS,
+        Limit::Pairs => PAIRS,
         Limit::Events => EVENTS,
     }
 }

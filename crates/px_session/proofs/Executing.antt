@@ -21,7 +21,7 @@ use Rattle.px_session.specs.KeptSessions.{AreEditsToNote, IsBindingToRun, IsKept
 use Rattle.px_session.specs.Lawful.{Lawful, recorded_for}
 use Rattle.px_session.specs.Named.{IsTellable}
 use Rattle.px_session.specs.Opened.{SessionValue, opened_session, tables_of}
-use Rattle.px_session.specs.OwnStates.{IsOwnEdit, edits_given}
+use Rattle.px_session.specs.OwnStates.{IsOwnEdit, IsOwnGoal, edits_given}
 use Rattle.px_session.specs.Places.{IsPlaced, TakeSame, Takes}
 use Rattle.px_session.specs.Sessions.{SessionState}
 use Rattle.px_session.proofs.GivenNames.{apart-range, names-next}
@@ -113,7 +113,7 @@ keeps-parts : (problem : Problem) (old : SessionState) (given : Command) (answer
     → Lawful problem old given answer new → KeepsParts (result_given given) old new
 keeps-parts problem old given answer new is =
     replied problem old given (KeepsParts (result_given given) old) (record { recorded = omega arith; learned = λ n has. inl has })
-    (λ name made plan. record { recorded = omega arith; learned = λ n has. inl has })
+    (λ name goal vars count steps new by is. record { recorded = omega arith; learned = λ n has. inl has })
     -- the name of the table is the last one
     (λ name source params steps new by is. subst (KeepsParts (result_given given) old) (sym is.learned)
     (record {
@@ -130,6 +130,23 @@ keeps-parts problem old given answer new is =
     (λ first second numbers lines new by is. subst (KeepsParts (result_given given) old) (sym is.changed)
     (record { recorded = omega arith; learned = λ n has. inl has }))
     answer new is
+
+-- the goal of a command that can be run is one of the problem
+pub own-goal : (problem : Problem) (building : Option RoomState) (given : Command) → IsRunnable problem building given
+    → IsOwnGoal problem given
+own-goal problem building (command.Plan name goal vars) runs = runs.0.atoms
+own-goal problem building (command.Learn name source) runs = tt
+own-goal problem building (command.Show name) runs = tt
+own-goal problem building (command.DisturbAtoms turn between edits) runs = tt
+own-goal problem building (command.DisturbRooms turn between edits) runs = tt
+own-goal problem building (command.Run name bound) runs = tt
+own-goal problem building (command.Duo first second numbers) runs = tt
+own-goal problem building command.Facts runs = tt
+
+-- so are those of a script
+pub own-goals : (script : ScriptValue) → IsInRange script → All (IsOwnGoal script.problem) script.commands
+own-goals script range k c below =
+    own-goal script.problem (at_first script.building) (get_or script.commands k c) (ready-at script range k c below).0
 
 -- the session after one command more
 abbrev pub after_command : SessionValue → SessionState → ℕ → SessionValue
@@ -155,7 +172,8 @@ kept-after building left session given answer new done kept more below is runs l
     record {
       problem = kept.problem;
       names = kept.names;
-      state = sessions_are_kept.kept session.problem session.state given answer new kept.state lawful;
+      state = sessions_are_kept.kept session.problem session.state given answer new kept.problem kept.state
+          (own-goal session.problem building given runs) lawful;
       own = sessions_are_kept.own session.problem session.state given answer new kept.problem kept.state kept.own runs.1.own lawful;
       placed = placed;
       commands = All-weaker (IsRunnable session.problem building) (IsRunnable session.problem left)
@@ -173,15 +191,16 @@ pub named-after : (building : Option RoomState) (session : SessionValue) (given 
     → IsTellable session.problem (length session.names.results) given → Lawful session.problem session.state given answer new
     → IsReplyNamed session.names answer
 named-after building session given answer new kept tellable lawful =
-    named-each session.problem session.names session.state given answer new kept.names kept.own.atoms kept.state.plans kept.state.learned
-    tellable lawful
+    named-each session.problem session.names session.state given answer new kept.problem kept.names kept.own.atoms kept.state tellable lawful
 
 -- the kernels of its tables carry
 pub kernels-after : (building : Option RoomState) (session : SessionValue) (given : Command) (answer : Reply) (new : SessionState)
-    → IsKeptSession building session
+    → IsKeptSession building session → IsRunnable session.problem building given
     → Lawful session.problem session.state given answer new → All (KernelsCarry session.problem) (tables_of new)
-kernels-after building session given answer new kept lawful =
-    sessions_are_kept.kernels session.problem new (sessions_are_kept.kept session.problem session.state given answer new kept.state lawful)
+kernels-after building session given answer new kept runs lawful =
+    sessions_are_kept.kernels session.problem new
+    (sessions_are_kept.kept session.problem session.state given answer new kept.problem kept.state
+    (own-goal session.problem building given runs) lawful)
 
 -- the command at the place
 pub command-at : (commands listed : List Command) (k : ℕ) (one : Command) → listed ≡ commands

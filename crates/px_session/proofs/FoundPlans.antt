@@ -96,20 +96,16 @@ built-moves task moves steps support taken rows =
 
 -- what is reported of a plan that is found, where its table is stored
 pub finds-plan : (task : Task) (name count : ℕ) (old new : SessionState) (plan : Found) (made : Table) → IsFoundPlan task plan
-    → made ≡ built plan.steps task.goal task.vars plan.support.items → IsTable task.problem made → count ≡ length plan.moves
+    → made ≡ built plan.steps task.goal task.vars plan.support.items → count ≡ length plan.moves
     → new ≡ record old { plans = with_table old.plans name made } → FindsPlan task name old count plan.steps new
-finds-plan task name count old new plan made is made_is table counted stored =
+finds-plan task name count old new plan made is made_is counted stored =
     record {
       moves = plan.moves;
       found = is.found;
       counted = counted;
       taken = is.steps;
-      carries = is.carries;
       made = made;
       table = subst (IsTableOfMoves task plan.moves) (sym made_is)
           (built-moves task plan.moves plan.steps plan.support.items is.steps is.rows);
-      plan = subst (IsPlanTable task.problem) (sym made_is)
-          (built-plan task.problem task.initial plan.steps task.goal task.vars plan.support.items is.instances is.supports is.of_problem
-          (subst (IsTable task.problem) made_is table));
       stored = stored;
     }

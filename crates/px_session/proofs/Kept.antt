@@ -7,19 +7,24 @@ use Rattle.px_base.specs.ListLaws.{All-at, All-each}
 use Rattle.px_terms.specs.declared.atom.Atom.{Atom}
 use Rattle.px_terms.specs.declared.problem.Problem.{Problem}
 use Rattle.px_terms.specs.AtomSets.{IsAtomSet}
+use Rattle.px_terms.specs.Validity.{IsValid}
 use Rattle.px_table.specs.Limits.{most_tables}
 use Rattle.px_table.specs.declared.table.Table.{Table}
 use Rattle.px_table.specs.KernelLaws.{kernels_carry}
 use Rattle.px_table.specs.Kernels.{KernelsCarry}
 use Rattle.px_general.specs.Limits.{IsTooDeep, IsTooLong, IsTooWide}
+use Rattle.px_ends.specs.Tasks.{task_of}
 use Rattle.px_printer.specs.declared.reply.Reply.{Reply}
 use Rattle.px_printer.specs.declared.reply.Why.TheVariants.{TooLong, TooDeep, TooWide, Full}
 use Rattle.px_script.specs.declared.command.Command.{Command}
 use Rattle.px_session.specs.Determined.{SessionsAreKept}
 use Rattle.px_session.specs.Lawful.{IsLearned, Lawful, turn_told}
+use Rattle.px_session.specs.OwnStates.{IsOwnGoal}
 use Rattle.px_session.specs.Sessions.{IsLearnedTable, IsPlanTable, IsSession, SessionState, opening}
 use Rattle.px_duo.specs.Duos.{both}
 use Rattle.px_session.proofs.Ascending.{duo-set, run-set}
+use Rattle.px_session.proofs.FoundTables.{found-carries, found-table}
+use Rattle.px_session.proofs.Learned.{are-learned}
 use Rattle.px_session.proofs.OneLearning.{plan-right}
 use Rattle.px_session.proofs.OwnKept.{own-kept}
 use Rattle.px_session.proofs.Replied.{replied}
@@ -60,13 +65,15 @@ learned-kept problem old session name source params steps new is =
       few = length-more old.learned.tables is.general (λ full. is.allowed Full (short, low, narrow, full));
     })
 
-kept : (problem : Problem) (old : SessionState) (given : Command) (answer : Reply) (new : SessionState) → IsSession problem old
-    → Lawful problem old given answer new → IsSession problem new
-kept problem old given answer new session is =
+kept : (problem : Problem) (old : SessionState) (given : Command) (answer : Reply) (new : SessionState) → IsValid problem
+    → IsSession problem old → IsOwnGoal problem given → Lawful problem old given answer new → IsSession problem new
+kept problem old given answer new valid session own is =
     replied problem old given (IsSession problem) session
-    (λ name made plan. record {
+    (λ name goal vars count steps new by is. record {
       atoms = session.atoms;
-      plans = one-more (IsPlanTable problem) old.plans.tables made session.plans plan;
+      plans = one-more (IsPlanTable problem) old.plans.tables is.made session.plans
+          (found-table (task_of problem old.learned.tables old.atoms goal vars) valid (subst (IsOwnGoal problem) by own)
+          (are-learned problem old session) name count old new steps is);
       learned = session.learned;
       few = session.few;
     })
@@ -103,5 +110,7 @@ sessions_are_kept = record {
   kept = kept;
   kernels = kernels;
   own = own-kept;
-  plans = λ problem old name goal vars given count steps new is. is.1.carries;
+  plans = λ problem old name goal vars given count steps new valid session own is.
+      found-carries (task_of problem old.learned.tables old.atoms goal vars) valid own (are-learned problem old session) name count old new
+      steps is.1;
 }

@@ -3,6 +3,7 @@ use Rattle.std.specs.Prelude.{◌≡◌, ℕ, Option, Some, IfSome, List, [], �
 use Rattle.std.proofs.Common.{refl, sym, ap, subst, get_or}
 use Rattle.std.proofs.lemmas.List.Elements.{All-head, All-nil, All-tail, All-take, All-weaker}
 use Rattle.px_terms.specs.declared.problem.Problem.{Problem}
+use Rattle.px_terms.specs.Validity.{IsValid}
 use Rattle.px_world.specs.declared.thing.Thing.{Thing}
 use Rattle.px_rooms.specs.States.{RoomState, first_state}
 use Rattle.px_planex.specs.Turns.{Recorded}
@@ -14,13 +15,13 @@ use Rattle.px_script.specs.declared.command.Command.TheVariants as command
 use Rattle.px_script.specs.Content.{ScriptValue}
 use Rattle.px_script.specs.Ranges.{IsBuildingOf, IsInRange}
 use Rattle.px_session.specs.Lawful.{Lawful, TellsDuo, TellsRun, turn_told}
-use Rattle.px_session.specs.OwnStates.{edits_given}
+use Rattle.px_session.specs.OwnStates.{IsOwnGoal, edits_given}
 use Rattle.px_session.specs.Places.{IsPlaced, Takes}
 use Rattle.px_session.specs.RoomRuns.{AreAnswersIn, HasTakenEdits, IsAnsweredInBuilding, IsInBuilding, LeavesRooms, RoomsAreKept}
 use Rattle.px_session.specs.Sessions.{Edit, IsSession, SessionState, opening}
 use Rattle.px_session.specs.Transcripts.{AreAnswers}
 use Rattle.px_session.proofs.DuoRooms.{duo-in}
-use Rattle.px_session.proofs.Executing.{ready-at}
+use Rattle.px_session.proofs.Executing.{own-goals, ready-at}
 use Rattle.px_session.proofs.Kept.{sessions_are_kept}
 use Rattle.px_session.proofs.OneLearning.{any-right}
 use Rattle.px_session.proofs.OwnDuos.{each_table}
@@ -122,26 +123,27 @@ module _ (problem : Problem) (old : SessionState) (building : RoomState) (sessio
 
 -- ---- all commands
 
-module _ (problem : Problem) where
+module _ (problem : Problem) (valid : IsValid problem) where
   abbrev AllAnswered : SessionState → RoomState → List Command → List Reply → SessionState → Type 0
   AllAnswered old building commands answers last =
       (end : RoomState) × AreAnswersIn problem old building commands answers last end × IsInBuilding problem end last
 
   all-answered : (commands : List Command) (answers : List Reply) (old : SessionState) (building : RoomState) (last : SessionState)
       → IsSession problem old → IsInBuilding problem building old → All (HasTakenEdits (Some building)) commands
-      → AreAnswers problem old commands answers last → AllAnswered old building commands answers last
-  all-answered [] [] old building last session inside taken is =
+      → All (IsOwnGoal problem) commands → AreAnswers problem old commands answers last → AllAnswered old building commands answers last
+  all-answered [] [] old building last session inside taken own is =
       (building, (is, refl), subst (IsInBuilding problem building) (sym is) inside)
-  all-answered [] (answer ∷ answers) old building last session inside taken is = absurd is
-  all-answered (first ∷ commands) [] old building last session inside taken is = absurd is
-  all-answered (first ∷ commands) (answer ∷ answers) old building last session inside taken (next, lawful, later) =
+  all-answered [] (answer ∷ answers) old building last session inside taken own is = absurd is
+  all-answered (first ∷ commands) [] old building last session inside taken own is = absurd is
+  all-answered (first ∷ commands) (answer ∷ answers) old building last session inside taken own (next, lawful, later) =
       let here = answered problem old building session inside first answer next
       (All-head (HasTakenEdits (Some building)) first commands taken) lawful in
       let rest = all-answered commands answers next here.0 last
-      (sessions_are_kept.kept problem old first answer next session lawful) here.1.inside
+      (sessions_are_kept.kept problem old first answer next valid session (All-head (IsOwnGoal problem) first commands own) lawful)
+      here.1.inside
       (All-weaker (HasTakenEdits (Some building)) (HasTakenEdits (Some here.0))
       (λ later taken. takes-later (Some building) (Some here.0) (edits_given later) here.1.same taken) commands
-      (All-tail (HasTakenEdits (Some building)) first commands taken)) later in
+      (All-tail (HasTakenEdits (Some building)) first commands taken)) (All-tail (IsOwnGoal problem) first commands own) later in
       (rest.0, (next, (here.0, here.1, rest.1)), rest.2)
 
 -- ---- scripts
@@ -170,7 +172,8 @@ rooms_are_kept = record {
   kept = λ problem old building given answer new session inside taken is. answered problem old building session inside given answer new
       taken is;
   answers = λ script things count answers last range has is.
-      all-answered script.problem (take count script.commands) answers (opening script.facts) (first_state things) last
+      all-answered script.problem range.problem.valid (take count script.commands) answers (opening script.facts) (first_state things) last
       (sessions_are_kept.opened script.problem script.facts range.facts.fact_set) (opens script things range has)
-      (All-take (HasTakenEdits (Some (first_state things))) count script.commands (takes-all script things range has)) is;
+      (All-take (HasTakenEdits (Some (first_state things))) count script.commands (takes-all script things range has))
+      (All-take (IsOwnGoal script.problem) count script.commands (own-goals script range)) is;
 }

@@ -3,6 +3,7 @@ pub mod OneSearch
 pub mod OneLearning
 pub mod OneRunning
 pub mod ToldRuns
+pub mod Undisturbed
 pub mod OneReply
 pub mod GivenNames
 pub mod Learned
@@ -22,6 +23,7 @@ pub mod Lifted
 pub mod InOrder
 pub mod WorkedAnswers
 pub mod FoundPlans
+pub mod FoundTables
 pub mod NamedReplies
 pub mod Executing
 pub mod Disturbed
@@ -37,3 +39,6 @@ pub mod Noting
 pub mod RoomRuns
 pub mod KeptRooms
 pub mod WorkedRoomRuns
+pub mod DuosEnd
+pub mod ExistingReplies
+pub mod WorkedBytes

@@ -10,7 +10,7 @@ use Rattle.px_terms.specs.declared.instance.OpInst.{OpInst}
 use Rattle.px_terms.specs.declared.problem.Problem.{Problem}
 use Rattle.px_terms.specs.declared.term.Term.{Term}
 use Rattle.px_terms.specs.declared.term.Term.TheVariants.{Obj, Var, Any}
-use Rattle.px_terms.specs.Validity.{IsAtomOf, IsTermOf}
+use Rattle.px_terms.specs.Validity.{IsAtomOf, IsTermOf, IsValid}
 use Rattle.px_table.specs.declared.mark.Mark.{Mark}
 use Rattle.px_table.specs.declared.table.Table.{Table}
 use Rattle.px_table.specs.Tables.{IsStepOf, IsTable}
@@ -29,7 +29,9 @@ use Rattle.px_script.specs.declared.command.Command.{Command}
 use Rattle.px_script.specs.declared.command.Command.TheVariants as command
 use Rattle.px_session.specs.Lawful.{FindsPlan, Lawful, Notes, TellsDuo, TellsFacts, TellsLearning, TellsRun, TellsSearch, TellsShow, recorded_for, turn_told}
 use Rattle.px_session.specs.Named.{AreNamesOfProblem, IsTellable, RepliesAreNamed}
-use Rattle.px_session.specs.Sessions.{Edit, IsLearnedTable, IsPlanTable, SessionState, any_table, of_atoms, of_rooms}
+use Rattle.px_session.specs.Sessions.{Edit, IsLearnedTable, IsPlanTable, IsSession, SessionState, any_table, of_atoms, of_rooms}
+use Rattle.px_session.proofs.FoundTables.{found-table}
+use Rattle.px_session.proofs.Learned.{are-learned}
 use Rattle.px_session.proofs.OneLearning.{any-right}
 use Rattle.px_session.proofs.OwnDuos.{duo-steps, each_table}
 use Rattle.px_session.proofs.OwnRuns.{IsOwnStep, run-steps}
@@ -109,24 +111,27 @@ module _ (problem : Problem) (names : NameLists) (all : AreNamesOfProblem proble
 
   -- ---- replies
 
-  -- the steps of a plan that is found are those of its table
-  named-plan : (task : Task) → task.problem ≡ problem → (name : ℕ) (old : SessionState) (count : ℕ) (steps : List OpInst)
-      (new : SessionState)
-      → FindsPlan task name old count steps new → All (IsNamedInstance names) steps
-  named-plan task of name old count steps new is =
-      let same : is.made.steps ≡ steps = is.table.steps ∙ sym is.taken in
-      let plan = subst (λ (p : Problem). IsPlanTable p is.made) of is.plan in
-      subst (All (IsNamedInstance names)) same (named-steps is.made.params is.made.steps plan.table.in_range.steps)
+  module _ (valid : IsValid problem) (old : SessionState) (session : IsSession problem old) (goal : List Atom) (vars : ℕ)
+      (own : All (IsAtomOf problem vars) goal) (name : ℕ) where
+    abbrev task : Task
+    task = task_of problem old.learned.tables old.atoms goal vars
 
-  named-search : (task : Task) → task.problem ≡ problem → (name : ℕ) (old : SessionState) (answer : Reply) (new : SessionState)
-      → name < length names.results → TellsSearch task name old answer new → IsReplyNamed names answer
-  named-search task of name old (reply.Plan given count steps) new below is =
-      (same-result given name (length names.results) is.0 below, named-plan task of name old count steps new is.1)
-  named-search task of name old (reply.Exhausted given) new below is = same-result given name (length names.results) is.0 below
-  named-search task of name old (reply.NodeLimit given nodes moves) new below is = same-result given name (length names.results) is.0 below
-  named-search task of name old (reply.ShapeLimit given node formula shapes) new below is =
-      same-result given name (length names.results) is.0 below
-  named-search task of name old answer new below is = absurd is
+    -- the steps of a plan that is found are those of its table
+    named-plan : (count : ℕ) (steps : List OpInst) (new : SessionState) → FindsPlan task name old count steps new
+        → All (IsNamedInstance names) steps
+    named-plan count steps new is =
+        let same : is.made.steps ≡ steps = is.table.steps ∙ sym is.taken in
+        let plan = found-table task valid own (are-learned problem old session) name count old new steps is in
+        subst (All (IsNamedInstance names)) same (named-steps is.made.params is.made.steps plan.table.in_range.steps)
+
+    named-search : (answer : Reply) (new : SessionState) → name < length names.results → TellsSearch task name old answer new
+        → IsReplyNamed names answer
+    named-search (reply.Plan given count steps) new below is =
+        (same-result given name (length names.results) is.0 below, named-plan count steps new is.1)
+    named-search (reply.Exhausted given) new below is = same-result given name (length names.results) is.0 below
+    named-search (reply.NodeLimit given nodes moves) new below is = same-result given name (length names.results) is.0 below
+    named-search (reply.ShapeLimit given node formula shapes) new below is = same-result given name (length names.results) is.0 below
+    named-search answer new below is = absurd is
 
   module _ (old : SessionState) (plans : All (IsPlanTable problem) old.plans.tables)
       (learned : All (IsLearnedTable problem) old.learned.tables) where
@@ -192,25 +197,24 @@ named-learning problem names old name source answer new below also is = absurd i
 -- for each command that is built
 pub named-each : (problem : Problem) (names : NameLists) (old : SessionState) (given : Command) (answer : Reply)
     (new : SessionState)
-    → AreNamesOfProblem problem names → All (IsAtomOf problem 0) old.atoms
-    → All (IsPlanTable problem) old.plans.tables → All (IsLearnedTable problem) old.learned.tables
+    → IsValid problem → AreNamesOfProblem problem names → All (IsAtomOf problem 0) old.atoms → IsSession problem old
     → IsTellable problem (length names.results) given → Lawful problem old given answer new → IsReplyNamed names answer
-named-each problem names old (command.Plan name goal vars) answer new all atoms plans learned tellable is =
-    named-search problem names all (task_of problem old.learned.tables old.atoms goal vars) refl name old answer new tellable.0 is
-named-each problem names old (command.Show name) answer new all atoms plans learned tellable is =
-    named-show problem names all old plans learned name answer new tellable is
-named-each problem names old (command.Duo first second numbers) answer new all atoms plans learned tellable is =
-    named-duo problem names all old plans learned first second numbers answer new tellable.0 tellable.1 is
-named-each problem names old command.Facts answer new all atoms plans learned tellable is =
-    named-facts problem names all old plans learned answer new atoms is
-named-each problem names old (command.Learn name source) answer new all atoms plans learned tellable is =
+named-each problem names old (command.Plan name goal vars) answer new valid all atoms session tellable is =
+    named-search problem names all valid old session goal vars tellable.1 name answer new tellable.0 is
+named-each problem names old (command.Show name) answer new valid all atoms session tellable is =
+    named-show problem names all old session.plans session.learned name answer new tellable is
+named-each problem names old (command.Duo first second numbers) answer new valid all atoms session tellable is =
+    named-duo problem names all old session.plans session.learned first second numbers answer new tellable.0 tellable.1 is
+named-each problem names old command.Facts answer new valid all atoms session tellable is =
+    named-facts problem names all old session.plans session.learned answer new atoms is
+named-each problem names old (command.Learn name source) answer new valid all atoms session tellable is =
     named-learning problem names old name source answer new tellable.0 tellable.1 is
-named-each problem names old (command.DisturbAtoms turn between edits) answer new all atoms plans learned tellable is =
+named-each problem names old (command.DisturbAtoms turn between edits) answer new valid all atoms session tellable is =
     named-noted names old (recorded_for turn between (map of_atoms edits)) answer new is
-named-each problem names old (command.DisturbRooms turn between edits) answer new all atoms plans learned tellable is =
+named-each problem names old (command.DisturbRooms turn between edits) answer new valid all atoms session tellable is =
     named-noted names old (recorded_for turn between (map of_rooms edits)) answer new is
-named-each problem names old (command.Run name bound) answer new all atoms plans learned tellable is =
-    named-run problem names all old plans learned name bound answer new tellable is
+named-each problem names old (command.Run name bound) answer new valid all atoms session tellable is =
+    named-run problem names all old session.plans session.learned name bound answer new tellable is
 
 pub replies_are_named : RepliesAreNamed
 replies_are_named = record { replies = named-each }

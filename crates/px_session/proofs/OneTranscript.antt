@@ -1,8 +1,9 @@
 -- A script has one list of lawful replies, and one text.
-use Rattle.std.specs.Prelude.{◌≡◌, ◌+◌, ◌++◌, ℕ, Bool, false, cond, List, [], ◌∷◌, codes, count_by, length, sum_by}
+use Rattle.std.specs.Prelude.{◌≡◌, ◌+◌, ◌++◌, ℕ, Bool, false, cond, List, [], ◌∷◌, codes, count_by, length, sum_by, All}
 use Rattle.std.proofs.Common.{refl, sym, ap, ◌∙◌, subst, inl, inr}
 use Rattle.std.specs.Fmt.{decimal}
 use Rattle.std.specs.List.{AllZip}
+use Rattle.std.proofs.lemmas.List.Elements.{All-head, All-tail}
 use Rattle.std.proofs.lemmas.List.Sums.{sum_by-cons}
 use Rattle.px_names.specs.Lists.{NameLists}
 use Rattle.px_terms.specs.declared.atom.Atom.{Atom}
@@ -23,36 +24,38 @@ use Rattle.px_script.proofs.Kept.{in-range}
 use Rattle.px_script.proofs.Law.{reads-one-way}
 use Rattle.px_session.specs.Demo.{Summary, is_plan, reaches_goal, step_count, summary_line}
 use Rattle.px_session.specs.Determined.{AnswersAreOne, SameReply, TranscriptsAreOne}
+use Rattle.px_session.specs.OwnStates.{IsOwnGoal}
 use Rattle.px_session.specs.Sessions.{IsSession, SessionState, opening}
 use Rattle.px_session.specs.Transcripts.{AreAnswers, AreAnswersTo, Transcript, texts}
+use Rattle.px_session.proofs.Executing.{own-goals}
 use Rattle.px_session.proofs.Kept.{sessions_are_kept}
 use Rattle.px_session.proofs.OneReply.{lawful_is_one}
 
 -- ---- the replies
 
 module _ (problem : Problem) (valid : IsValid problem) where
-  answers-one : (old : SessionState) → IsSession problem old → (commands : List Command) (answers others : List Reply)
-      (last later : SessionState)
+  answers-one : (old : SessionState) → IsSession problem old → (commands : List Command) → All (IsOwnGoal problem) commands
+      → (answers others : List Reply) (last later : SessionState)
       → AreAnswers problem old commands answers last → AreAnswers problem old commands others later
       → AllZip SameReply answers others × (last ≡ later)
-  answers-one old session [] [] [] last later p q = (tt, p ∙ sym q)
-  answers-one old session [] [] (b ∷ bs) last later p q = absurd q
-  answers-one old session [] (a ∷ answers) others last later p q = absurd p
-  answers-one old session (c ∷ commands) [] others last later p q = absurd p
-  answers-one old session (c ∷ commands) (a ∷ answers) [] last later p q = absurd q
-  answers-one old session (c ∷ commands) (a ∷ answers) (b ∷ others) last later p q =
+  answers-one old session [] own [] [] last later p q = (tt, p ∙ sym q)
+  answers-one old session [] own [] (b ∷ bs) last later p q = absurd q
+  answers-one old session [] own (a ∷ answers) others last later p q = absurd p
+  answers-one old session (c ∷ commands) own [] others last later p q = absurd p
+  answers-one old session (c ∷ commands) own (a ∷ answers) [] last later p q = absurd q
+  answers-one old session (c ∷ commands) own (a ∷ answers) (b ∷ others) last later p q =
       let same = lawful_is_one.replies problem old c a b p.0 q.0 valid session p.1 q.1 in
-      let next = sessions_are_kept.kept problem old c b q.0 session q.1 in
+      let next = sessions_are_kept.kept problem old c b q.0 valid session (All-head (IsOwnGoal problem) c commands own) q.1 in
       let here = subst (λ (s : SessionState). AreAnswers problem s commands answers last) same.1 p.2 in
-      let rest = answers-one q.0 next commands answers others last later here q.2 in
+      let rest = answers-one q.0 next commands (All-tail (IsOwnGoal problem) c commands own) answers others last later here q.2 in
       ((same.0, rest.0), rest.1)
 
 script-one : (script : ScriptValue) (answers others : List Reply) → IsValid script.problem → IsAtomSet script.facts
-    → (one : AreAnswersTo script answers) (other : AreAnswersTo script others) → AllZip SameReply answers others × (one.last ≡ other.last)
-script-one script answers others valid set one other =
+    → All (IsOwnGoal script.problem) script.commands → (one : AreAnswersTo script answers) (other : AreAnswersTo script others) → AllZip SameReply answers others × (one.last ≡ other.last)
+script-one script answers others valid set own one other =
     let session = sessions_are_kept.opened script.problem script.facts set in
     answers-one script.problem valid
-    (opening script.facts) session script.commands answers others one.last other.last one.lawful other.lawful
+    (opening script.facts) session script.commands own answers others one.last other.last one.lawful other.lawful
 
 -- ---- what is made of them
 
@@ -104,16 +107,17 @@ summary-line-one rooms seed commands answers others same =
 -- ---- from the bytes
 
 abbrev IsSettled : ScriptValue → Type 0
-IsSettled script = IsValid script.problem × IsAtomSet script.facts
+IsSettled script = IsValid script.problem × IsAtomSet script.facts × All (IsOwnGoal script.problem) script.commands
 
 settled-script : (bytes : List ℕ) (script : ScriptValue) → IsScript stage_now bytes script → IsSettled script
-settled-script bytes script is = let range = in-range stage_now bytes script is in (range.problem.valid, range.facts.fact_set)
+settled-script bytes script is = let range = in-range stage_now bytes script is in
+    (range.problem.valid, range.facts.fact_set, own-goals script range)
 
 -- replies to what is one script
 settled-one : (one other : ScriptValue) (answers others : List Reply) → one ≡ other → IsSettled other → AreAnswersTo one answers
     → AreAnswersTo other others → AllZip SameReply answers others
 settled-one one other answers others same settled p q =
-    (script-one other answers others settled.0 settled.1 (subst (λ (s : ScriptValue). AreAnswersTo s answers) same p) q).0
+    (script-one other answers others settled.0 settled.1 settled.2 (subst (λ (s : ScriptValue). AreAnswersTo s answers) same p) q).0
 
 same-script : (bytes : List ℕ) (one other : ScriptValue) → IsScript stage_now bytes one → IsScript stage_now bytes other → one ≡ other
 same-script bytes one other p q = (reads-one-way stage_now bytes).one_content one other p q

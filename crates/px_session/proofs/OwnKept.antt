@@ -24,7 +24,7 @@ pub own-kept : (problem : Problem) (old : SessionState) (given : Command) (answe
     → IsOwnState problem new
 own-kept problem old given answer new valid session own edits is =
     replied problem old given (IsOwnState problem) own
-    (λ name made plan. record { atoms = own.atoms; edits = own.edits })
+    (λ name goal vars count steps new by is. record { atoms = own.atoms; edits = own.edits })
     (λ name source params steps new by is. subst (IsOwnState problem) (sym is.learned) (record { atoms = own.atoms; edits = own.edits }))
     (λ turn between. record {
       atoms = own.atoms;

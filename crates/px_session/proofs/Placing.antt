@@ -60,7 +60,7 @@ pub placed-later : (problem : Problem) (building : Option RoomState) (old : Sess
     → IsPlaced problem building new
 placed-later problem building old placed given no_run taken answer new is =
     replied problem old given (IsPlaced problem building) placed
-    (λ name made plan. record { place = placed.place; edits = placed.edits })
+    (λ name goal vars count steps new by is. record { place = placed.place; edits = placed.edits })
     (λ name source params steps new by is. subst (IsPlaced problem building) (sym is.learned)
     (record { place = placed.place; edits = placed.edits }))
     (λ turn between. record {

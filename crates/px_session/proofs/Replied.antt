@@ -1,24 +1,27 @@
 -- What a lawful reply changes of a session's state.
 use Rattle.std.specs.Prelude.{◌≡◌, ◌++◌, ℕ, Bool, List, [], ◌∷◌, map}
 use Rattle.std.proofs.Common.{refl, sym, ap, subst}
+use Rattle.px_terms.specs.declared.atom.Atom.{Atom}
+use Rattle.px_terms.specs.declared.instance.OpInst.{OpInst}
 use Rattle.px_terms.specs.declared.problem.Problem.{Problem}
-use Rattle.px_table.specs.declared.table.Table.{Table}
 use Rattle.px_library.specs.Libraries.{with_table}
-use Rattle.px_ends.specs.Tasks.{Task, task_of}
+use Rattle.px_ends.specs.Tasks.{task_of}
 use Rattle.px_printer.specs.declared.duo_line.DuoLine.{DuoLine}
 use Rattle.px_printer.specs.declared.reply.Reply.{Reply}
 use Rattle.px_printer.specs.declared.reply.Reply.TheVariants as reply
 use Rattle.px_printer.specs.declared.turn.Turn.{Turn}
 use Rattle.px_script.specs.declared.command.Command.{Command}
 use Rattle.px_script.specs.declared.command.Command.TheVariants as command
-use Rattle.px_session.specs.Lawful.{IsDuoOf, IsLearned, IsRunOf, Lawful, Notes, TellsDuo, TellsFacts, TellsLearning, TellsRun, TellsSearch, TellsShow, recorded_for}
+use Rattle.px_session.specs.Lawful.{FindsPlan, IsDuoOf, IsLearned, IsRunOf, Lawful, Notes, TellsDuo, TellsFacts, TellsLearning, TellsRun, TellsSearch, TellsShow, recorded_for}
 use Rattle.px_session.specs.OwnStates.{edits_given}
-use Rattle.px_session.specs.Sessions.{Edit, IsPlanTable, SessionState, of_atoms, of_rooms}
+use Rattle.px_session.specs.Sessions.{Edit, SessionState, of_atoms, of_rooms}
 
 -- What holds of the state, and of each state that one more plan, one more learned table, one more disturbance, a run or two executors leave of it, holds
 -- of the state after each lawful reply.
 module _ (problem : Problem) (old : SessionState) (given : Command) (P : SessionState → Type 0) (same : P old)
-    (stored : (name : ℕ) (made : Table) → IsPlanTable problem made → P (record old { plans = with_table old.plans name made }))
+    (stored : (name : ℕ) (goal : List Atom) (vars count : ℕ) (steps : List OpInst) (new : SessionState) → given ≡ command.Plan name goal vars
+    → (is : FindsPlan (task_of problem old.learned.tables old.atoms goal vars) name old count steps new)
+    → P (record old { plans = with_table old.plans name is.made }))
     (learned : (name source params steps : ℕ) (new : SessionState) → given ≡ command.Learn name source
     → IsLearned problem name source old params steps new → P new)
     (noted : (turn : ℕ) (between : Bool) → P (record old { recorded = old.recorded ++ recorded_for turn between (edits_given given) ∷ [] }))
@@ -29,14 +32,14 @@ module _ (problem : Problem) (old : SessionState) (given : Command) (P : Session
   unchanged : (new : SessionState) → new ≡ old → P new
   unchanged new is = subst P (sym is) same
 
-  after-search : (goal : Task) → goal.problem ≡ problem → (name : ℕ) (answer : Reply) (new : SessionState)
-      → TellsSearch goal name old answer new → P new
-  after-search task of name (reply.Plan told count steps) new is =
-      subst P (sym is.1.stored) (stored name is.1.made (subst (λ (p : Problem). IsPlanTable p is.1.made) of is.1.plan))
-  after-search task of name (reply.Exhausted told) new is = unchanged new is.2
-  after-search task of name (reply.NodeLimit told nodes moves) new is = unchanged new is.2
-  after-search task of name (reply.ShapeLimit told node formula shapes) new is = unchanged new is.2
-  after-search task of name answer new is = absurd is
+  after-search : (name : ℕ) (goal : List Atom) (vars : ℕ) → given ≡ command.Plan name goal vars → (answer : Reply) (new : SessionState)
+      → TellsSearch (task_of problem old.learned.tables old.atoms goal vars) name old answer new → P new
+  after-search name goal vars by (reply.Plan told count steps) new is =
+      subst P (sym is.1.stored) (stored name goal vars count steps new by is.1)
+  after-search name goal vars by (reply.Exhausted told) new is = unchanged new is.2
+  after-search name goal vars by (reply.NodeLimit told nodes moves) new is = unchanged new is.2
+  after-search name goal vars by (reply.ShapeLimit told node formula shapes) new is = unchanged new is.2
+  after-search name goal vars by answer new is = absurd is
 
   after-learning : (name source : ℕ) → given ≡ command.Learn name source → (answer : Reply) (new : SessionState)
       → TellsLearning problem old name source answer new → P new
@@ -75,7 +78,7 @@ module _ (problem : Problem) (old : SessionState) (given : Command) (P : Session
 
   after-reply : (one : Command) → given ≡ one → (answer : Reply) (new : SessionState) → Lawful problem old one answer new → P new
   after-reply (command.Plan name goal vars) by answer new is =
-      after-search (task_of problem old.learned.tables old.atoms goal vars) refl name answer new is
+      after-search name goal vars by answer new is
   after-reply (command.Learn name source) by answer new is = after-learning name source by answer new is
   after-reply (command.Show name) by answer new is = after-show name answer new is
   after-reply (command.DisturbAtoms turn between edits) by answer new is =

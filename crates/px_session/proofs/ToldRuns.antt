@@ -19,7 +19,7 @@ use Rattle.px_session.proofs.OneLearning.{any-right, one_some}
 
 module _ (problem : Problem) (old : SessionState) (name : ℕ) (bound : List (ℕ × ℕ)) (told : List Turn) (new : SessionState) where
   -- the run is one of the table of the name
-  runs-of : (table : Table) → any_table old name ≡ Some table → (run : IsRunOf problem name bound old told new)
+  pub runs-of : (table : Table) → any_table old name ≡ Some table → (run : IsRunOf problem name bound old told new)
       → RunsTable leaves_edit problem table bound old.recorded old.atoms (map turn_told told) run.after
   runs-of table named run =
       subst (λ (t : Table). RunsTable leaves_edit problem t bound old.recorded old.atoms (map turn_told told) run.after)

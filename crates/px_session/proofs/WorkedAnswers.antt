@@ -13,13 +13,11 @@ use Rattle.px_terms.specs.declared.atom.Atom.{Atom}
 use Rattle.px_terms.specs.declared.instance.OpInst.{OpInst}
 use Rattle.px_terms.specs.AtomSets.{IsAtomSet}
 use Rattle.px_terms.specs.MergedNamesLaws.{one}
-use Rattle.px_terms.specs.Plans.{Carries}
 use Rattle.px_proof.specs.Derivation.{Derivation, fact}
 use Rattle.px_proof.specs.LayerLaws.{derivation_of-fact}
 use Rattle.px_proof.specs.declared.proof.Leaf.{Leaf}
 use Rattle.px_table.specs.declared.mark.Mark.{Mark}
 use Rattle.px_table.specs.Deciding.{is_table, rows_are_table}
-use Rattle.px_table.specs.KernelLaws.{kernels_carry}
 use Rattle.px_table.specs.Kernels.{IsProper, atom_under, kernel_under}
 use Rattle.px_table.specs.Marks.{IsKept, mark_eq, marks_from, step_at}
 use Rattle.px_table.specs.Tables.{IsTable, rows_of}
@@ -38,6 +36,7 @@ use Rattle.px_session.specs.Sessions.{Edit, SessionState, of_atoms, opening}
 use Rattle.px_session.specs.Transcripts.{AreAnswersTo}
 use Rattle.px_session.specs.WorkedDemo.{WorkedDemoLine}
 use Rattle.px_session.specs.WorkedSession.{WorkedSession, at_goal, at_nothing, idle_answers, idle_script}
+use Rattle.px_session.proofs.WorkedBytes.{idle_spelt}
 
 -- ---- the table of no steps
 
@@ -69,10 +68,6 @@ is-proper objects i = one (λ (mark : Mark). IsKept idle [] i
     (record { atom = atom_under objects mark.atom; row = mark.row; column = mark.column; index = mark.index })) p_mark
     (λ k inst low after before at deleted. no-step k inst at)
 
-carries : Carries idle (p ∷ []) [] 0 (p ∷ [])
-carries = (kernels_carry idle p_at_once is-table).carry [] (record { count = refl; objects = All-nil (λ n. n < 0) }) 1 (omega arith)
-    (omega arith) (is-proper [] 1)
-
 -- ---- the states
 
 abbrev gone : Recorded Edit
@@ -95,10 +90,8 @@ finds = record {
   found = end_facts.there;
   counted = refl;
   taken = refl;
-  carries = carries;
   made = p_at_once;
   table = end_facts.table_there;
-  plan = record { table = is-table; no_params = refl; proper = is-proper [] 1 };
   stored = refl;
 }
 
@@ -231,7 +224,11 @@ lawful = record {
 
 pub worked_session : WorkedSession
 unfolding digits
-worked_session = record { lawful = lawful; text = refl }
+worked_session = record {
+  lawful = lawful;
+  text = refl;
+  transcript = record { script = idle_script; spelt = idle_spelt; answers = idle_answers; lawful = lawful; text_is = refl };
+}
 
 pub worked_demo : WorkedDemoLine
 unfolding digits

@@ -7,7 +7,7 @@ use Rattle.px_terms.specs.declared.instance.OpInst.{OpInst}
 use Rattle.px_terms.specs.declared.problem.Problem.{Problem}
 use Rattle.px_terms.specs.AtomSets.{IsAtomSet}
 use Rattle.px_terms.specs.Plans.{Carries}
-use Rattle.px_terms.specs.Validity.{IsValid}
+use Rattle.px_terms.specs.Validity.{IsAtomOf, IsValid}
 use Rattle.px_proof.specs.declared.shape.Tick.{Tick}
 use Rattle.px_table.specs.declared.node.Node.{Node}
 use Rattle.px_table.specs.Kernels.{KernelsCarry}
@@ -19,7 +19,7 @@ use Rattle.px_script.specs.declared.command.Command.TheVariants.{Plan}
 use Rattle.px_script.specs.Content.{ScriptValue}
 use Rattle.px_session.specs.Demo.{Summary}
 use Rattle.px_session.specs.Lawful.{Lawful}
-use Rattle.px_session.specs.OwnStates.{HasOwnEdits, IsOwnState}
+use Rattle.px_session.specs.OwnStates.{HasOwnEdits, IsOwnGoal, IsOwnState}
 use Rattle.px_session.specs.Sessions.{IsSession, SessionState, opening}
 use Rattle.px_session.specs.Transcripts.{AreAnswersTo, Transcript, texts}
 
@@ -47,13 +47,14 @@ pub record LawfulIsOne : Type 0 where
       → SameReply one other × (new ≡ later)
   pub texts : (names : NameLists) (one other : Reply) → SameReply one other → reply_text names one ≡ reply_text names other
 
--- The opening state is one of a session, and each lawful reply leaves one. Where the world's atoms and all edits are of a valid problem,
--- they are so after it. Of the tables that a session has, each proper instance of each kernel carries the steps that are left to the goal;
+-- The opening state is one of a session. Where the problem is valid and a goal is one of the problem, each lawful reply leaves one; and
+-- where the world's atoms and all edits are of the problem, they are so after it. Of the tables that a session has, each proper instance of each kernel carries the steps that are left to the goal;
 -- and the world's atoms carry the steps of each plan that a reply prints.
 pub record SessionsAreKept : Type 0 where
   pub opened : (problem : Problem) (facts : List Atom) → IsAtomSet facts → IsSession problem (opening facts)
   pub kept : (problem : Problem) (old : SessionState) (command : Command) (answer : Reply) (new : SessionState)
-      → IsSession problem old → Lawful problem old command answer new → IsSession problem new
+      → IsValid problem → IsSession problem old → IsOwnGoal problem command → Lawful problem old command answer new
+      → IsSession problem new
   pub kernels : (problem : Problem) (state : SessionState) → IsSession problem state
       → All (KernelsCarry problem) (state.plans.tables ++ state.learned.tables)
   pub own : (problem : Problem) (old : SessionState) (command : Command) (answer : Reply) (new : SessionState)
@@ -61,11 +62,13 @@ pub record SessionsAreKept : Type 0 where
       → Lawful problem old command answer new → IsOwnState problem new
   pub plans : (problem : Problem) (old : SessionState) (name : ℕ) (goal : List Atom)
       (vars given count : ℕ) (steps : List OpInst) (new : SessionState)
+      → IsValid problem → IsSession problem old → All (IsAtomOf problem vars) goal
       → Lawful problem old (Plan name goal vars) (reply.Plan given count steps) new → Carries problem old.atoms steps vars goal
 
 -- A script has one list of lawful replies, apart from questions at limits of shapes; the state after them is one, and so is the text.
 pub record AnswersAreOne : Type 0 where
   pub answers : (script : ScriptValue) (answers others : List Reply) → IsValid script.problem → IsAtomSet script.facts
+      → All (IsOwnGoal script.problem) script.commands
       → (one : AreAnswersTo script answers) (other : AreAnswersTo script others) → AllZip SameReply answers others × (one.last ≡ other.last)
   pub texts : (names : NameLists) (answers others : List Reply) → AllZip SameReply answers others → texts names answers ≡ texts names others
 

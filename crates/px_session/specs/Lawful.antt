@@ -5,7 +5,6 @@ use Rattle.px_terms.specs.declared.atom.Atom.{Atom}
 use Rattle.px_terms.specs.declared.instance.OpInst.{OpInst}
 use Rattle.px_terms.specs.declared.problem.Problem.{Problem}
 use Rattle.px_terms.specs.AtomSets.{IsAtomSet}
-use Rattle.px_terms.specs.Plans.{Carries}
 use Rattle.px_table.specs.declared.entry.Move.{Move}
 use Rattle.px_table.specs.declared.table.Table.{Table}
 use Rattle.px_general.specs.General.{Generalises}
@@ -28,21 +27,19 @@ use Rattle.px_printer.specs.declared.turn.TurnEnd.TheVariants.{Acted, Slipped, G
 use Rattle.px_script.specs.declared.command.Command.{Command}
 use Rattle.px_script.specs.declared.command.Command.TheVariants as command
 use Rattle.px_session.specs.DuoRuns.{RunsDuo}
-use Rattle.px_session.specs.Sessions.{Edit, IsPlanTable, SessionState, any_table, leaves_edit, of_atoms, of_rooms}
+use Rattle.px_session.specs.Sessions.{Edit, SessionState, any_table, leaves_edit, of_atoms, of_rooms}
 
 -- ---- plan
 
--- The search found `count` moves, which take these steps. The table of the moves, which is like each plan's table, is stored under the
--- name, and the world's atoms carry the steps to the goal.
+-- The search found `count` moves, which take these steps, and the table of the moves is stored under the name. (So the world's atoms carry
+-- the steps to the goal, and the table is like each plan's: law `sessions_are_kept`.)
 pub record FindsPlan (task : Task) (name : ℕ) (old : SessionState) (count : ℕ) (steps : List OpInst) (new : SessionState) : Type 0 where
   pub moves : List Move
   pub found : IsFound task moves
   pub counted : count ≡ length moves
   pub taken : steps ≡ steps_of task.tables [] moves
-  pub carries : Carries task.problem task.initial steps task.vars task.goal
   pub made : Table
   pub table : IsTableOfMoves task moves made
-  pub plan : IsPlanTable task.problem made
   pub stored : new ≡ record old { plans = with_table old.plans name made }
 
 -- Each reply says how the search ended. Where no plan is found nothing changes.

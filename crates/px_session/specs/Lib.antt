@@ -7,6 +7,7 @@ pub mod Demo
 pub mod Runs
 pub mod ToldRuns
 pub mod ToldDuos
+pub mod Undisturbed
 pub mod Planning
 pub mod Learning
 pub mod Places
@@ -21,3 +22,4 @@ pub mod Causes
 pub mod WorkedSession
 pub mod WorkedDemo
 pub mod WorkedRooms
+pub mod Existing

@@ -2,13 +2,13 @@
 use Rattle.std.specs.Prelude.{◌≡◌, ◌<◌, ℕ, length, All}
 use Rattle.px_names.specs.Lists.{NameLists}
 use Rattle.px_terms.specs.declared.problem.Problem.{Problem}
-use Rattle.px_terms.specs.Validity.{IsAtomOf}
+use Rattle.px_terms.specs.Validity.{IsAtomOf, IsValid}
 use Rattle.px_printer.specs.Replies.{IsReplyNamed}
 use Rattle.px_printer.specs.declared.reply.Reply.{Reply}
 use Rattle.px_script.specs.declared.command.Command.{Command}
 use Rattle.px_script.specs.declared.command.Command.TheVariants.{Plan, Learn, Show, DisturbAtoms, DisturbRooms, Run, Duo, Facts}
 use Rattle.px_session.specs.Lawful.{Lawful}
-use Rattle.px_session.specs.Sessions.{IsLearnedTable, IsPlanTable, SessionState}
+use Rattle.px_session.specs.Sessions.{IsSession, SessionState}
 
 -- each number of the problem has a name
 pub record AreNamesOfProblem (problem : Problem) (names : NameLists) : Type 0 where
@@ -28,9 +28,8 @@ IsTellable problem results (Run name bindings) = name < results
 IsTellable problem results (Duo first second numbers) = (first < results) × (second < results)
 IsTellable problem results Facts = Unit {0}
 
--- In a state of atoms of the problem, with tables like a session's, each lawful reply has a name for each number that it prints as one.
+-- In a session's state with atoms of a valid problem, each lawful reply has a name for each number that it prints as one.
 pub record RepliesAreNamed : Type 0 where
   pub replies : (problem : Problem) (names : NameLists) (old : SessionState) (given : Command) (answer : Reply) (new : SessionState)
-      → AreNamesOfProblem problem names → All (IsAtomOf problem 0) old.atoms
-      → All (IsPlanTable problem) old.plans.tables → All (IsLearnedTable problem) old.learned.tables
+      → IsValid problem → AreNamesOfProblem problem names → All (IsAtomOf problem 0) old.atoms → IsSession problem old
       → IsTellable problem (length names.results) given → Lawful problem old given answer new → IsReplyNamed names answer

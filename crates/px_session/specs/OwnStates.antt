@@ -5,7 +5,7 @@ use Rattle.px_terms.specs.Validity.{IsAtomOf}
 use Rattle.px_rooms.specs.Changes.{edit_schema}
 use Rattle.px_planex.specs.Turns.{Recorded}
 use Rattle.px_script.specs.declared.command.Command.{Command}
-use Rattle.px_script.specs.declared.command.Command.TheVariants.{DisturbAtoms, DisturbRooms}
+use Rattle.px_script.specs.declared.command.Command.TheVariants.{DisturbAtoms, DisturbRooms, Plan}
 use Rattle.px_script.specs.Ranges.{IsEditOf}
 use Rattle.px_session.specs.Sessions.{Edit, SessionState, of_atoms, of_rooms}
 
@@ -27,6 +27,11 @@ edits_given _ = []
 -- the edits that a command gives to record are of the problem
 abbrev pub HasOwnEdits : Problem → Command → Type 0
 HasOwnEdits problem command = All (IsOwnEdit problem) (edits_given command)
+
+-- a goal is one of the problem
+abbrev pub IsOwnGoal : Problem → Command → Type 0
+IsOwnGoal problem (Plan name goal vars) = All (IsAtomOf problem vars) goal
+IsOwnGoal problem _ = Unit {0}
 
 -- the world's atoms, and the edits that are recorded for the next run, are of the problem
 pub record IsOwnState (problem : Problem) (state : SessionState) : Type 0 where

@@ -1,4 +1,4 @@
--- A worked script: one predicate without arguments, neither axioms nor operators, and most kinds of replies.
+-- A worked script: two predicates without arguments, of which one occurs, neither axioms nor operators, and most kinds of replies.
 use Rattle.std.specs.Prelude.{◌≡◌, ◌++◌, ℕ, false, None, List, [], ◌∷◌, codes}
 use Rattle.std.specs.List.{flat_map}
 use Rattle.px_names.specs.Lists.{NameLists}
@@ -10,11 +10,11 @@ use Rattle.px_printer.specs.declared.turn.Turn.{Turn}
 use Rattle.px_printer.specs.declared.turn.TurnEnd.TheVariants.{Goal, NoKernel}
 use Rattle.px_script.specs.declared.command.Command.TheVariants as command
 use Rattle.px_script.specs.Content.{ScriptValue}
-use Rattle.px_session.specs.Transcripts.{AreAnswersTo, texts}
+use Rattle.px_session.specs.Transcripts.{AreAnswersTo, Transcript, texts}
 
--- P, and the results N, O and M
+-- P and Q, and the results N, O and M
 abbrev pub idle_names : NameLists
-idle_names = record { objects = []; predicates = codes "P" ∷ []; operators = []; results = codes "N" ∷ codes "O" ∷ codes "M" ∷ [] }
+idle_names = record { objects = []; predicates = codes "P" ∷ codes "Q" ∷ []; operators = []; results = codes "N" ∷ codes "O" ∷ codes "M" ∷ [] }
 
 -- `fact P`, `plan N P`, `show N`, `disturb 1 before -P`, `run N`, `facts`, `plan O P`, `show O`, `disturb 1 before +P`, `run O`,
 -- `disturb 2 before -P`, `run N`, `facts`, `learn M from O`
@@ -92,8 +92,14 @@ idle_lines =
     ∷ codes "unknown O"
     ∷ []
 
--- These are lawful replies. Where P is gone nothing fits; a run of a name without a table keeps what is recorded; and the second
+-- the script's bytes
+abbrev pub idle_bytes : List ℕ
+idle_bytes = codes "predicate P 0\npredicate Q 0\nheight 1\nnodes 1\nshapes 2\nfact P\nplan N P\nshow N\ndisturb 1 before -P\nrun N\n"
+    ++ codes "facts\nplan O P\nshow O\ndisturb 1 before +P\nrun O\ndisturb 2 before -P\nrun N\nfacts\nlearn M from O\n"
+
+-- The text is the transcript of the bytes. These are lawful replies. Where P is gone nothing fits; a run of a name without a table keeps what is recorded; and the second
 -- disturbance is for a turn that isn't reached.
 pub record WorkedSession : Type 0 where
   pub lawful : AreAnswersTo idle_script idle_answers
   pub text : texts idle_names idle_answers ≡ in_lines idle_lines
+  pub transcript : Transcript idle_bytes (in_lines idle_lines)

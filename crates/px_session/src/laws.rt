@@ -1,14 +1,20 @@
 //! Laws about the definitions. The calls do nothing.
 ghost use Rattle.px_session.specs.Causes.{CausesInOrder, RefusedReplies};
 ghost use Rattle.px_session.specs.Determined.{AnswersAreOne, LawfulIsOne, SessionsAreKept, TranscriptsAreOne};
+ghost use Rattle.px_session.specs.Existing.{RepliesExist, TranscriptsExist};
 ghost use Rattle.px_session.specs.Named.{RepliesAreNamed};
 ghost use Rattle.px_session.specs.RoomRuns.{RoomsAreKept};
 ghost use Rattle.px_session.specs.Runs.{OneKindRuns};
 ghost use Rattle.px_session.specs.ToldDuos.{ToldDuos};
 ghost use Rattle.px_session.specs.ToldRuns.{ToldRuns};
+ghost use Rattle.px_session.specs.Undisturbed.{UndisturbedRuns};
 ghost use Rattle.px_session.specs.WorkedDemo.{WorkedDemoLine};
 ghost use Rattle.px_session.specs.WorkedRooms.{WorkedRooms};
 ghost use Rattle.px_session.specs.WorkedSession.{WorkedSession};
+
+use crate::place::Place;
+use px_duo::{duo_traces_exist, duos_stay_ready};
+use px_planex::traces_exist;
 
 /// A session's state and a command have at most one lawful reply and leave one state. Where a search met the limit of shapes, one
 /// of several questions may be reported, and the text is the same.
@@ -16,18 +22,38 @@ pub fn lawful_is_one()
     ensures { LawfulIsOne }
 {}
 
-/// The opening state is one of a session, and each lawful reply leaves one. Of the tables of a session, each proper instance of
-/// each kernel carries the steps that are left to the goal; and the world's atoms carry the steps of each plan that a reply prints.
+/// The opening state is one of a session, and each lawful reply leaves one, where a goal is one of the valid problem. Of the tables of a
+/// session, each proper instance of each kernel carries the steps that are left to the goal; and the world's atoms carry the steps of each
+/// plan that a reply prints.
 pub fn sessions_are_kept()
     ensures { SessionsAreKept }
 {}
+
+/// In a session's state each command has a lawful reply: for a plan it can't be that there is none, and for learning it can't be but for a
+/// plan without a general table.
+pub fn replies_exist()
+    ensures { RepliesExist }
+{
+    traces_exist::<Place<'_>>();
+    duo_traces_exist::<Place<'_>>();
+    duos_stay_ready::<Place<'_>>();
+}
+
+/// It can't be that bytes which are a script without learning have no transcript.
+pub fn transcripts_exist()
+    ensures { TranscriptsExist }
+{
+    traces_exist::<Place<'_>>();
+    duo_traces_exist::<Place<'_>>();
+    duos_stay_ready::<Place<'_>>();
+}
 
 /// Each lawful reply to a command that is built has a name for each number that it prints.
 pub fn replies_are_named()
     ensures { RepliesAreNamed }
 {}
 
-/// A script with a valid problem, whose facts are a set, has at most one list of lawful replies, apart from questions at limits of shapes,
+/// A script with a valid problem, whose facts are a set and whose goals are of the problem, has at most one list of lawful replies, apart from questions at limits of shapes,
 /// and one text.
 pub fn answers_are_one()
     ensures { AnswersAreOne }
@@ -62,6 +88,12 @@ pub fn told_runs()
 /// The lines that a reply prints of two executors are one for each number, and a trace: their events have the outcomes that they say.
 pub fn told_duos()
     ensures { ToldDuos }
+{}
+
+/// Where one of the turns that a reply prints has sensed kernel `i`, at least 1, of a table of `n` steps, and no edit comes after that
+/// sensing, the last turn is at the goal, and at most `n + 1 - i` turns come after that one.
+pub fn undisturbed_runs()
+    ensures { UndisturbedRuns }
 {}
 
 /// A script with a building begins in the building's first state, and each lawful reply leaves a state of it, whose facts are the

@@ -15,7 +15,7 @@
 //!   name in the order of learning, and the disturbances that are recorded for the next run. `opening` is the one before the
 //!   first command. An `Edit` is one of atoms or one of a building.
 //! - `Lawful` in `specs/Lawful` says which reply a command may have in a state, and which state it leaves: one relation for all
-//!   commands of version 1, a line for each. It stands on the ends of a search (`px_ends`), generalising (`px_general`), the
+//!   commands, a line for each. It stands on the ends of a search (`px_ends`), generalising (`px_general`), the
 //!   executor's runs (`px_planex`), two executors in one world (`px_duo`, `specs/DuoRuns`) and tables by name (`px_library`).
 //! - `IsSession` is what a session keeps: the world's atoms are a set; the table of each stored plan has no parameters, and its
 //!   own steps delete nothing that its later rows rest on; there are at most 32 learned tables, none of them too long or with a
@@ -33,7 +33,9 @@
 //!   [`replies_are_named`]).
 //! - A run by edits of atoms alone, or of rooms alone, is a session's run with the same disturbances (`specs/Runs`,
 //!   [`one_kind_runs`]). A run that a reply prints has few turns, and is a trace of its events (`specs/ToldRuns`,
-//!   [`told_runs`]). What two executors did, line by line, is a trace, too (`specs/ToldDuos`, [`told_duos`]).
+//!   [`told_runs`]). What two executors did, line by line, is a trace, too (`specs/ToldDuos`, [`told_duos`]). A
+//!   printed run that has sensed a kernel, and that nothing disturbs after that, reaches the goal (`specs/Undisturbed`,
+//!   [`undisturbed_runs`]).
 //! - A small script is worked out with its text ([`worked_session`]), and so are the demo's line for five replies ([`worked_demo`]),
 //!   and the states that the turns of a run in a building leave ([`worked_rooms`]).
 //! - The laws are calls that do nothing. No public clause cites `specs/Learning`, `specs/Planning` and `specs/Running`.
@@ -63,7 +65,8 @@ mod turns;
 
 pub use laws::{
     answers_are_one, causes_in_order, lawful_is_one, one_kind_runs, refused_replies,
-    replies_are_named, rooms_are_kept, sessions_are_kept, told_duos, told_runs,
-    transcripts_are_one, worked_demo, worked_rooms, worked_session,
+    replies_are_named, replies_exist, rooms_are_kept, sessions_are_kept, told_duos, told_runs,
+    transcripts_are_one, transcripts_exist, undisturbed_runs, worked_demo, worked_rooms,
+    worked_session,
 };
 pub use session::Session;

@@ -5,3 +5,4 @@ pub mod Going
 pub mod Grafted
 pub mod MacroSteps
 pub mod MadeSupports
+pub mod FoundMoves

@@ -1,4 +1,5 @@
-//! A law about the definitions. The call does nothing.
+//! Laws about the definitions. The calls do nothing.
+ghost use Rattle.px_support.specs.FoundMoves.{FoundWithWeight};
 ghost use Rattle.px_support.specs.MadeSupports.{MovesSupport};
 
 use px_entries::answers_support;
@@ -9,3 +10,9 @@ pub fn moves_have_supports()
 {
     answers_support();
 }
+
+/// The moves that a search with a weight found can be made, are fewer than the nodes that may be kept, and the prover finds what is needed
+/// to take them. No search goes by a weight yet.
+pub fn found_with_weight()
+    ensures { FoundWithWeight }
+{}

@@ -13,6 +13,7 @@
 //!   proved has an answer below the limit of shapes, which the search saw.
 //! - [`moves_have_supports`] is the law for definitions: whatever rows a list of moves has, they are a support of its steps
 //!   (`MovesSupport` of `specs/MadeSupports`). The call does nothing.
+//! - [`found_with_weight`] is the law that the moves of a search with a weight can be taken, too (`specs/FoundMoves`).
 //! - No public clause cites `specs/Going`, `specs/Grafted`, `specs/MacroSteps` and `specs/Sources`.
 #![tactic(auto)]
 
@@ -26,5 +27,5 @@ mod support;
 mod walk;
 
 pub use asked::Asked;
-pub use laws::moves_have_supports;
+pub use laws::{found_with_weight, moves_have_supports};
 pub use support::{Support, support_of};

@@ -73,6 +73,30 @@ returns-clause-duos c = record {
   commands_first = search (after-so, fit-so, refuse-so) depth 14;
 }
 
+pub returns-clause-unbuilt : goal.returns-clause-unbuilt
+unfolding lines_read scan_by unicode_ident encode all_within items_after with_item set_of digits
+returns-clause-unbuilt c = record {
+  saving = search spell;
+  certifying = search spell;
+  editing = search spell;
+  pursuing = search spell;
+  new = search (refuse-so) depth 14;
+  no_form = search (refuse-so) depth 14;
+  out_of_order = search (refuse-so) depth 14;
+  unbuilt = search (refuse-so) depth 14;
+  fit = search (after-so) depth 14;
+  unknown = search (after-so) depth 14;
+  known_result = search (after-so) depth 14;
+  arity = search (after-so) depth 14;
+  unbound = search (after-so) depth 14;
+  long_names = search (after-so) depth 14;
+  many_variables = search (after-so) depth 14;
+  many_atoms = search (after-so) depth 14;
+  many_commands = search (after-so) depth 14;
+  great_numbers = search (after-so) depth 14;
+  many_pairs = search (after-so) depth 14;
+}
+
 pub returns-clause-later : goal.returns-clause-later
 unfolding lines_read scan_by unicode_ident encode all_within items_after with_item set_of digits
 returns-clause-later c = search after-so depth 14

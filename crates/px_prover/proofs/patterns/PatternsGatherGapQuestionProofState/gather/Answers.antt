@@ -5,6 +5,8 @@ use Rattle.px_prover.specs.Asking.{setting_in, IsPossibleIn}
 use Rattle.px_prover.specs.GapAsking.{gap_setting}
 use Rattle.px_prover.specs.Standing.{ticks_in, IsStanding}
 use Rattle.px_prover.specs.declared.question.ProofQuestion.{ProofQuestion}
+use Rattle.px_prover.proofs.Moves.{standing-sound}
+use Rattle.px_prover.proofs.OtherPlaces.{nothing-more}
 use Rattle.px_prover.proofs.Passing.{left-falls}
 use Rattle.px_prover.proofs.PatternPassing.{HasPatterns, patterns-end, patterns-more, patterns-next}
 use Rattle.px_proof_walk.specs.Order.{IsAfter, TriesAfter}
@@ -72,3 +74,18 @@ returns-clause-more c =
     λ seen before. patterns-more s formula vars seen here c.args.self.now.found.items c.loop-self.self.found.items before
     (patterns-end s formula vars here c.args.self.now.found.items c.loop-self.self.found.items c.loop-self.last
     c.loop-self.invariant.gathered was c.loop-self.invariant.there (ticks_in now.choices) tried)
+
+pub are_two_open-requires-clause-arena : goal.are_two_open-requires-clause-arena
+are_two_open-requires-clause-arena c =
+    (standing-sound true (gap_setting c.args.question.now) c.args.question.now.formula.now c.args.question.now.vars c.args.walk.now
+    c.requires.stands).arena
+
+pub are_two_open-requires-clause-within : goal.are_two_open-requires-clause-within
+are_two_open-requires-clause-within c =
+    (standing-sound true (gap_setting c.args.question.now) c.args.question.now.formula.now c.args.question.now.vars c.args.walk.now
+    c.requires.stands).within
+
+pub returns-then-are_two_open-clause-more : goal.returns-then-are_two_open-clause-more
+returns-then-are_two_open-clause-more c = λ seen before.
+    nothing-more (gap_setting c.args.question.now) c.args.question.now.formula.now c.args.question.now.vars c.args.walk.now
+    c.requires.stands (c.are_two_open.ensures c.if-are_two_open.true) seen c.args.self.now.found.items before

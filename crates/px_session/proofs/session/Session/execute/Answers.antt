@@ -46,8 +46,12 @@ returns-clause-named c =
 
 pub returns-clause-kernels : goal.returns-clause-kernels
 returns-clause-kernels c =
+    let below = subst (λ (s : SessionValue). c.args.k < length s.commands) (sym c.self.view_is) c.requires.below in
+    let runs = at-place (IsRunnable c.self.inside.problem c.self.inside.building) c.self.inside.commands c.as_slice.result.now c.args.k
+    c.index-as_slice-k.result
+    c.self.invariant.commands c.as_slice.ensures below c.index-as_slice-k.is in
     kernels-after c.self.inside.building (held.the_view c.self.inside)
-    c.index-as_slice-k.result c.in_ok-reply.reply c.run_command.new.state c.self.invariant
+    c.index-as_slice-k.result c.in_ok-reply.reply c.run_command.new.state c.self.invariant runs
     c.in_ok-reply.ensures.lawful
 
 pub run_command-requires-clause-new_names : goal.run_command-requires-clause-new_names

@@ -26,7 +26,6 @@ returns-clause-told c =
     let put = ap (λ (plans : LibraryValue). record (held.the_view c.self.inside) { plans = plans }) c.in_ok-store.ensures.stored in
     let whole = ap (λ (s : SessionState). record s { plans = with_table s.plans c.args.name c.in_ok-table.table }) c.self.view_is in (
       refl,
-      finds-plan task c.args.name c.len.result c.args.self.now _ c.args.found c.in_ok-table.table c.requires.found value
-          c.in_ok-table.ensures.table
-          c.len.ensures (put ∙ whole),
+      finds-plan task c.args.name c.len.result c.args.self.now _ c.args.found c.in_ok-table.table c.requires.found value c.len.ensures
+          (put ∙ whole),
     )

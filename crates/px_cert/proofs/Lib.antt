@@ -1,0 +1,26 @@
+-- The files of lemmas.
+pub mod Certifying
+pub mod ClaimLaws
+pub mod DigitLoops
+pub mod Digits
+pub mod Drafting
+pub mod DueLines
+pub mod Exact
+pub mod Items
+pub mod Limited
+pub mod LineReading
+pub mod LineRooms
+pub mod Loop
+pub mod NextLine
+pub mod OneWay
+pub mod ProofItems
+pub mod ProofLevels
+pub mod Ranged
+pub mod Reaching
+pub mod ReadingEnds
+pub mod Sections
+pub mod SoundLines
+pub mod StepReading
+pub mod TextLines
+pub mod ValidDrafts
+pub mod Written

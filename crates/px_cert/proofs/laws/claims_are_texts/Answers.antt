@@ -1,0 +1,6 @@
+-- Proofs of the goals that `claims_are_texts` of src/laws.rt leaves open.
+use Rattle.px_cert.proofs.ClaimLaws.{claims_are_texts as law}
+use Rattle.px_cert.proofs.laws.claims_are_texts.Goals as goal
+
+pub returns : goal.returns
+returns c = law

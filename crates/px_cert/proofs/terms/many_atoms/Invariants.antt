@@ -1,0 +1,9 @@
+-- What the loops of `many_atoms` in src/terms.rt keep true.
+use Rattle.std.proofs.Common.{◌≡◌, ◌-◌}
+use Rattle.px_cert.specs.Reading.{atom_at, many_at}
+use Rattle.px_cert.proofs.Loop.{with_front}
+use Rattle.px_cert.proofs.terms.many_atoms.Given as goal
+
+abbrev pub invariant-loop : goal.invariant-loop
+invariant-loop l = with_front l.atoms.items (many_at (atom_at l.draft l.vars l.wild) (l.count - l.counter) l.rest)
+    ≡ many_at (atom_at l.draft l.vars l.wild) l.count l.bytes

@@ -1,0 +1,9 @@
+-- What the loops of `many_literals` in src/terms.rt keep true.
+use Rattle.std.proofs.Common.{◌≡◌, ◌-◌}
+use Rattle.px_cert.specs.Reading.{literal_at, many_at}
+use Rattle.px_cert.proofs.Loop.{with_front}
+use Rattle.px_cert.proofs.terms.many_literals.Given as goal
+
+abbrev pub invariant-loop : goal.invariant-loop
+invariant-loop l = with_front l.lits.items (many_at (literal_at l.draft l.vars) (l.count - l.counter) l.rest)
+    ≡ many_at (literal_at l.draft l.vars) l.count l.bytes

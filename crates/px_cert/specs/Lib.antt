@@ -1,0 +1,9 @@
+-- The files of definitions and laws.
+pub mod CertificateClaims
+pub mod Certificates
+pub mod Drafts
+pub mod Limits
+pub mod Lines
+pub mod Reading
+pub mod Sound
+pub mod Worked

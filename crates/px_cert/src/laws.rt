@@ -1,0 +1,18 @@
+//! Laws about the definitions. The calls do nothing.
+ghost use Rattle.std.specs.Prelude.{ℕ, List};
+ghost use Rattle.px_cert.specs.CertificateClaims.{ClaimsAreTexts, ReadsOneWay, TablesAreCertified};
+
+/// All bytes are the certificate of one claim, or have one first bad line.
+pub fn certificates_read_one_way()
+    ensures { (bytes : List ℕ) → ReadsOneWay bytes }
+{}
+
+/// Each claim has one text, and is of a valid problem.
+pub fn claims_are_texts()
+    ensures { ClaimsAreTexts }
+{}
+
+/// What may be certified has a certificate, which is right where the table is and worth the same.
+pub fn tables_are_certified()
+    ensures { TablesAreCertified }
+{}

@@ -1,0 +1,19 @@
+-- The files of lemmas.
+pub mod Counting
+pub mod EditLimits
+pub mod EditSteps
+pub mod Flags
+pub mod HighSteps
+pub mod InColumns
+pub mod KeptParts
+pub mod Lists
+pub mod Names
+pub mod NameSteps
+pub mod Needed
+pub mod OfParts
+pub mod PartSteps
+pub mod Replies
+pub mod Restricting
+pub mod Sound
+pub mod StepAtoms
+pub mod TableParts

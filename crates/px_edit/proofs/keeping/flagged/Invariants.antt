@@ -1,0 +1,6 @@
+-- What the loops of `flagged` in src/keeping.rt keep true.
+use Rattle.px_edit.specs.Keeping.{AreFlagged}
+use Rattle.px_edit.proofs.keeping.flagged.Given as goal
+
+abbrev pub invariant-loop-k : goal.invariant-loop-k
+invariant-loop-k l = AreFlagged l.flags l.k l.numbers.items

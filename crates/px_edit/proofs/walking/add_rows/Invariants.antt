@@ -1,0 +1,8 @@
+-- What the loops of `add_rows` in src/walking.rt keep true.
+use Rattle.std.proofs.Common.{◌≡◌, ◌++◌, take}
+use Rattle.std.specs.Prelude.{flat_map}
+use Rattle.px_edit.proofs.PartSteps.{row_terms_of}
+use Rattle.px_edit.proofs.walking.add_rows.Given as goal
+
+abbrev pub invariant-loop-row : goal.invariant-loop-row
+invariant-loop-row l = l.walked.items ≡ l.initial.walked.items ++ flat_map row_terms_of (take l.row-index l.rows)

@@ -1,0 +1,7 @@
+-- What the loops of `add_steps` in src/walking.rt keep true.
+use Rattle.std.proofs.Common.{◌≡◌, ◌++◌, take}
+use Rattle.px_table.specs.Parameters.{step_terms}
+use Rattle.px_edit.proofs.walking.add_steps.Given as goal
+
+abbrev pub invariant-loop-inst : goal.invariant-loop-inst
+invariant-loop-inst l = l.walked.items ≡ l.initial.walked.items ++ step_terms (take l.inst-index l.steps)

@@ -1,0 +1,6 @@
+-- Proofs of the goals that `exhausted_with_all` of src/laws.rt leaves open.
+use Rattle.px_ends.proofs.ByValueLaws.{exhausted_with_all}
+use Rattle.px_ends.proofs.laws.exhausted_with_all.Goals as goal
+
+pub returns : goal.returns
+returns c = exhausted_with_all

@@ -1,0 +1,6 @@
+-- Proofs of the goals that `blind_ends` of src/laws.rt leaves open.
+use Rattle.px_order.proofs.LawProofs.{blind_ends}
+use Rattle.px_order.proofs.laws.blind_ends.Goals as goal
+
+pub returns : goal.returns
+returns g c = blind_ends g.S.Search.space g.S.Search.aim

@@ -1,0 +1,6 @@
+-- Proofs of the goals that `one_stop` of src/laws.rt leaves open.
+use Rattle.px_order.proofs.LawProofs.{one_stop}
+use Rattle.px_order.proofs.laws.one_stop.Goals as goal
+
+pub returns : goal.returns
+returns g c = one_stop g.S.Search.space g.S.Search.aim

@@ -1,0 +1,24 @@
+-- The files of definitions and laws.
+pub mod Moves
+pub mod Spaces
+pub mod Runs
+pub mod Ends
+pub mod Places
+pub mod RunLaws
+pub mod RunOrigins
+pub mod AnyOrder
+pub mod EndLaws
+pub mod Asked
+pub mod Frontier
+pub mod Beginnings
+pub mod Breadth
+pub mod Shortlex
+pub mod AtZero
+pub mod Fronts
+pub mod BreadthEnds
+pub mod BlindEnds
+pub mod Agendas
+pub mod OpenPlaces
+pub mod AgendaLaws
+pub mod OrderLaws
+pub mod WorkedOrder

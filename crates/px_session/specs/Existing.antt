@@ -1,0 +1,54 @@
+-- That commands have lawful replies, and scripts transcripts.
+use Rattle.std.specs.Prelude.{◌≡◌, ◌⊎◌, ℕ, Some, List, All}
+use Rattle.px_terms.specs.declared.atom.Atom.{Atom}
+use Rattle.px_terms.specs.declared.problem.Problem.{Problem}
+use Rattle.px_terms.specs.Validity.{IsAtomOf, IsValid}
+use Rattle.px_table.specs.declared.table.Table.{Table}
+use Rattle.px_general.specs.General.{Generalises}
+use Rattle.px_library.specs.Libraries.{table_named}
+use Rattle.px_printer.specs.declared.reply.Reply.{Reply}
+use Rattle.px_printer.specs.declared.reply.Why.{Why}
+use Rattle.px_script.specs.declared.command.Command.{Command}
+use Rattle.px_script.specs.declared.command.Command.TheVariants.{Learn, Plan}
+use Rattle.px_script.specs.Content.{ScriptValue}
+use Rattle.px_script.specs.Scripts.{IsScript}
+use Rattle.px_script.specs.Stages.{stage_now}
+use Rattle.px_session.specs.Lawful.{Lawful, RefusesLearning}
+use Rattle.px_session.specs.Sessions.{IsSession, SessionState}
+use Rattle.px_session.specs.Transcripts.{Transcript}
+
+-- some reply is lawful, and leaves some state
+abbrev pub HasReply : Problem → SessionState → Command → Type 0
+HasReply problem old given = (answer : Reply) × ((new : SessionState) × Lawful problem old given answer new)
+
+-- the command searches for nothing, and learns nothing
+abbrev pub AsksNoSearch : Command → Type 0
+AsksNoSearch (Plan name goal vars) = ⊥
+AsksNoSearch (Learn name source) = ⊥
+AsksNoSearch _ = Unit {0}
+
+abbrev pub LearnsNothing : Command → Type 0
+LearnsNothing (Learn name source) = ⊥
+LearnsNothing _ = Unit {0}
+
+-- the source's plan may be learned, and has no general table
+pub record HasNoGeneral (problem : Problem) (old : SessionState) (source : ℕ) : Type 0 where
+  pub plan : Table
+  pub named : table_named old.plans source ≡ Some plan
+  pub allowed : (why : Why) → ¬ RefusesLearning old plan why
+  pub no_general : (general : Table) → ¬ Generalises problem plan general
+
+-- In a session's state each command has a lawful reply. For a plan this is a double negation, since which one it is takes a search to say;
+-- and for learning it is said but for plans without a general table.
+pub record RepliesExist : Type 0 where
+  pub others : (problem : Problem) (old : SessionState) (given : Command) → IsValid problem → IsSession problem old → AsksNoSearch given
+      → HasReply problem old given
+  pub plans : (problem : Problem) (old : SessionState) (name : ℕ) (goal : List Atom) (vars : ℕ) → IsValid problem → IsSession problem old
+      → All (IsAtomOf problem vars) goal → ¬ ¬ HasReply problem old (Plan name goal vars)
+  pub learned : (problem : Problem) (old : SessionState) (name source : ℕ)
+      → ¬ ¬ (HasReply problem old (Learn name source) ⊎ HasNoGeneral problem old source)
+
+-- there are no bytes that are a script, without learning, of which no text is the transcript
+abbrev pub TranscriptsExist : Type 0
+TranscriptsExist = (bytes : List ℕ) (script : ScriptValue) → IsScript stage_now bytes script → All LearnsNothing script.commands
+    → ¬ ¬ ((text : List ℕ) × Transcript bytes text)

@@ -1,0 +1,11 @@
+-- The files of lemmas.
+pub mod FiniteLaws
+pub mod Least
+pub mod NextList
+pub mod FiniteEntries
+pub mod SomeEnd
+pub mod AnswerRows
+pub mod Sources
+pub mod MacroRows
+pub mod MadeTables
+pub mod EndingRuns

@@ -1,0 +1,5 @@
+-- The files of definitions and laws.
+pub mod Finite
+pub mod SearchEnds
+pub mod FoundTables
+pub mod RunsEnd

@@ -1,0 +1,25 @@
+//! Laws about the definitions. The calls do nothing.
+ghost use Rattle.px_totality.specs.FoundTables.{FoundHaveTables};
+ghost use Rattle.px_totality.specs.RunsEnd.{RunsEnd};
+ghost use Rattle.px_totality.specs.SearchEnds.{SearchesEnd};
+
+use px_planex::traces_exist;
+use px_world::World;
+
+/// There is no task whose search has none of the four ends: moves are found, or it is exhausted, or it meets the limit of nodes or
+/// that of shapes.
+pub fn searches_end()
+    ensures { SearchesEnd }
+{}
+
+/// Each list of moves that a search found has a table.
+pub fn found_have_tables()
+    ensures { FoundHaveTables }
+{}
+
+/// Each run of a table ends, in whatever world: an executor has some turns, and leaves some atoms.
+pub fn runs_end<W: World>()
+    ensures { RunsEnd W.leaves }
+{
+    traces_exist::<W>();
+}

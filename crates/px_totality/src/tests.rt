@@ -1,0 +1,11 @@
+//! The laws are calls.
+use crate::{found_have_tables, runs_end, searches_end};
+use px_world::AtomWorld;
+use std::rt::HostRuntime;
+
+#[test]
+fn laws_are_calls(_rt: HostRuntime) {
+    searches_end();
+    found_have_tables();
+    runs_end::<AtomWorld<'_>>();
+}
