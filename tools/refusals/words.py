@@ -1,7 +1,7 @@
 """The tables of the language: its words, codes and limits. A new word, code or limit is a row here."""
 from typing import NamedTuple
 
-HEAD, DECLARATION, COMMAND, OPERATOR, BUILDING = 'head', 'declaration', 'command', 'operator', 'building'
+HEAD, DECLARATION, COMMAND, OPERATOR, BUILDING, TABLE = 'head', 'declaration', 'command', 'operator', 'building', 'table'
 
 
 class Word(NamedTuple):
@@ -39,13 +39,17 @@ WORDS = {
     'sort': Word('sort NAME OBJECT ..', (DECLARATION,)),
     'param': Word('param SORT PARAMETER ..', (OPERATOR,)),
     'duo': Word('duo NAME NAME NUMBER .., each number 1 or 2', (COMMAND,), 'a number of a duo line may be 1 or 2'),
+    'table': Word('table NAME NUMBER', (DECLARATION,)),
+    'step': Word('step OPERATOR, or step OPERATOR(ARGUMENT,..)', (TABLE,)),
+    'goal': Word('goal ATOM ..', (TABLE,)),
+    'proof': Word('proof PART .., each f NUMBER NUMBER ATOM, a NUMBER, or s NUMBER NUMBER NUMBER (TERM,..)', (TABLE,)),
     'save': Word('save NAME', (COMMAND,)),
     'certify': Word('certify NAME', (COMMAND,)),
     'edit': Word('edit NAME from NAME NUMBER STEP=PLACE ..', (COMMAND,)),
     'pursue': Word('pursue NAME ATOM ..', (COMMAND,)),
 }
 # The words that version 1 hasn't got.
-WORDS_OF_TWO = ('sort', 'param', 'duo', 'save', 'certify', 'edit', 'pursue')
+WORDS_OF_TWO = ('sort', 'param', 'duo', 'table', 'step', 'goal', 'proof', 'save', 'certify', 'edit', 'pursue')
 BUILDING_EDITS = 'disturb NUMBER before EDIT .., or between, each edit robot ROOM, box BOX ROOM, or door DOOR open, or closed'
 # The words that open a block, with the place of the lines inside.
 BLOCKS = {'operator': OPERATOR, 'building': BUILDING}

@@ -7,6 +7,7 @@ pub mod LineFronts
 -- lists of tokens
 pub mod Walks
 pub mod Parameters
+pub mod RowProofs
 -- lines by their rows
 pub mod Ones
 pub mod Views

@@ -3,7 +3,11 @@ use Rattle.px_lines.proofs.Common.{ℕ, Some, None, subst, get_or, Token, lexeme
 use Rattle.std.specs.List.{flat_map, list_any}
 use Rattle.std.specs.Prelude.{◌&&◌, ◌||◌}
 use Rattle.std.proofs.lemmas.List.Folds.{list_all-map, list_any-append}
-use Rattle.px_script.specs.Items.{Item, arguments_in, atoms_in, has_parameter, is_filled}
+use Rattle.px_script.specs.Items as items
+use Rattle.px_lines.specs.declared.items.SignedAtom.{SignedAtom}
+use Rattle.px_lines.specs.declared.parts.Part.{Part}
+use Rattle.px_lines.specs.ItemViews.{signed_view}
+use Rattle.px_script.specs.Items.{Item, arguments_in, atoms_in, has_parameter, is_filled, atoms_of_part, terms_of_part}
 use Rattle.px_script.proofs.Forms.{there}
 use Rattle.px_script.specs.Declarations.{Declared}
 use Rattle.px_script.specs.Forms.{begins_with_word}
@@ -12,10 +16,11 @@ use denote.Ref.{Bor}
 use Rattle.px_script.proofs.ReadRows.{has-row, has_word, row-is_word, row-word}
 use Rattle.px_script.proofs.Rows.{is_of, row_of}
 use Rattle.px_script.specs.Limits.{is_word}
-use Rattle.px_lines.specs.ItemViews.{rest_view, said_items, said_view}
+use Rattle.px_lines.specs.ItemViews.{rest_view, said_items, said_view, rest_atoms, rest_arguments, rest_parts, part_view}
 use Rattle.px_lines.specs.LineViews.{row_view}
 use Rattle.px_lines.specs.declared.rows.Row.{Row}
 use Rattle.px_lines.specs.declared.items.Rest.{Rest}
+use Rattle.px_lines.specs.declared.items.Rest.TheVariants as rest
 use Rattle.px_lines.specs.declared.items.Said.{Said}
 use Rattle.px_lines.specs.declared.items.Said.TheVariants as said
 
@@ -105,5 +110,55 @@ any-said f p [] last = refl
 any-said f p (x ∷ xs) last = list_any-append p (f (said_view x)) (flat_map f (said_items xs last))
     ∙ ap (λ b. list_any p (f (said_view x)) || b) (any-said f p xs last)
     ∙ or-group (list_any p (f (said_view x))) (list_any (λ x. list_any p (f (said_view x))) xs) (list_any p (flat_map f (rest_view last)))
+
+-- the atoms and the arguments of a line: those of proofs stand after the others
+pub atoms-of-line : (ones : List Said) (last : Rest)
+    → flat_map atoms_in (said_items ones last) ≡ rest_atoms last ++ flat_map atoms_of_part (rest_parts last)
+atoms-of-line ones last = atoms-items ones last ∙ apart last
+  where
+    apart : (last : Rest) → flat_map atoms_in (rest_view last) ≡ rest_atoms last ++ flat_map atoms_of_part (rest_parts last)
+    apart (rest.Atoms xs) = refl
+    apart (rest.Proofs parts) = append-nil _
+    apart _ = refl
+
+pub arguments-of-line : (ones : List Said) (last : Rest) → flat_map arguments_in (said_items ones last)
+    ≡ flat_map (λ x. x.atom.arguments) (rest_atoms last) ++ (rest_arguments last
+    ++ (flat_map (λ x. x.atom.arguments) (flat_map atoms_of_part (rest_parts last)) ++ flat_map terms_of_part (rest_parts last)))
+arguments-of-line ones last = arguments-items ones last ∙ apart last
+  where
+    apart : (last : Rest) → flat_map arguments_in (rest_view last) ≡ flat_map (λ x. x.atom.arguments) (rest_atoms last)
+        ++ (rest_arguments last ++ (flat_map (λ x. x.atom.arguments) (flat_map atoms_of_part (rest_parts last))
+        ++ flat_map terms_of_part (rest_parts last)))
+    apart (rest.Atoms xs) = refl
+    apart (rest.Arguments ts) = refl
+    apart (rest.Proofs parts) = append-nil _
+    apart _ = refl
+
+-- a test of all atoms of a line
+pub all-of-line : (test : items.SignedAtom → Bool) (ones : List Said) (last : Rest) (atoms : List SignedAtom) (parts : List Part)
+    → map signed_view atoms ≡ rest_atoms last → map part_view parts ≡ rest_parts last
+    → list_all test (flat_map atoms_in (said_items ones last))
+    ≡ (list_all test (map signed_view atoms) && list_all (λ part. list_all test (atoms_of_part (part_view part))) parts)
+all-of-line test ones last atoms parts atoms_are parts_are = ap (list_all test) (atoms-of-line ones last)
+    ∙ joined (rest_atoms last) (rest_parts last) atoms_are parts_are
+  where
+    each : (parts : List Part) → list_all test (flat_map atoms_of_part (map part_view parts))
+        ≡ list_all (λ part. list_all test (atoms_of_part (part_view part))) parts
+    each [] = refl
+    each (part ∷ more) = list_all-append test (atoms_of_part (part_view part)) (flat_map atoms_of_part (map part_view more))
+        ∙ ap (λ b. list_all test (atoms_of_part (part_view part)) && b) (each more)
+
+    joined : (xs : List items.SignedAtom) (ps : List items.Part) → map signed_view atoms ≡ xs → map part_view parts ≡ ps
+        → list_all test (xs ++ flat_map atoms_of_part ps)
+        ≡ (list_all test (map signed_view atoms) && list_all (λ part. list_all test (atoms_of_part (part_view part))) parts)
+    joined xs ps a b = rw (← a, ← b) (list_all-append test (map signed_view atoms) (flat_map atoms_of_part (map part_view parts))
+        ∙ ap (λ t. list_all test (map signed_view atoms) && t) (each parts))
+
+-- a test of which the first part is known
+pub and-then : (a b whole : Bool) → whole ≡ (a && b) → a ≡ true → b ≡ whole
+and-then a b whole is e = rw e at (sym is)
+
+pub and-else : (a b whole : Bool) → whole ≡ (a && b) → a ≡ false → false ≡ whole
+and-else a b whole is e = rw e at (sym is)
 
 pub ruleset of_line = (filled-items, atoms-items, arguments-items, parameters-items)

@@ -1,5 +1,5 @@
 -- Lists of tokens, read from left to right: things of one kind to the end of a line, and items in parentheses.
-use Rattle.px_lines.proofs.Common.{◌≡◌, ℕ, zero, suc, ◌+◌, ◌-◌, ◌≤◌, ◌<◌, Bool, true, false, ◌==◌, List, [], ◌∷◌, ◌++◌, map, take, drop, length, refl, sym, ap, ◌∙◌, subst, arith, append_assoc, append-nil, length-append, take_all, Option, None, Some, Result, Ok, Err, IfOk, IfSome, option_map, option_and_then, if◌then◌else◌, map-append, drop-drop, length-drop, length-map, drop_all, Lexeme, sign, ReadsBack, ReadsSpelled, atom-sound, atoms-back, binding-sound, bindings-back, pair-sound, pairs-back, room-edit-sound, room-edits-back, all_within, all_of, atom_at, room_edit_at, binding_at, pair_at, items_after, item_at, items_at, opens, at_end, lexemes_of, lexeme_of, Token}
+use Rattle.px_lines.proofs.Common.{◌≡◌, ℕ, zero, suc, ◌+◌, ◌-◌, ◌≤◌, ◌<◌, Bool, true, false, ◌==◌, List, [], ◌∷◌, ◌++◌, map, take, drop, length, refl, sym, ap, ◌∙◌, subst, arith, append_assoc, append-nil, length-append, take_all, Option, None, Some, Result, Ok, Err, IfOk, IfSome, option_map, option_and_then, if◌then◌else◌, map-append, drop-drop, length-drop, length-map, drop_all, Lexeme, sign, ReadsBack, ReadsSpelled, atom-sound, atoms-back, binding-sound, bindings-back, pair-sound, pairs-back, room-edit-sound, room-edits-back, all_within, all_of, atom_at, room_edit_at, binding_at, pair_at, items_after, item_at, items_at, opens, at_end, lexemes_of, lexeme_of, Token, parts-back, part-sound, part_at}
 
 -- ---- answers
 
@@ -41,6 +41,9 @@ room-edit-advances = advances-spelled _ room_edit_at _ room-edits-back room-edit
 
 pub binding-advances : Advances binding_at
 binding-advances = advances-spelled _ binding_at _ bindings-back binding-sound
+
+pub part-advances : Advances part_at
+part-advances = advances-spelled _ part_at _ parts-back part-sound
 
 pub pair-advances : Advances pair_at
 pair-advances = advances-spelled _ pair_at _ pairs-back pair-sound

@@ -17,6 +17,8 @@ use Rattle.px_lines.specs.declared.items.Said.{Said}
 use Rattle.px_lines.specs.declared.items.Said.TheVariants as said
 use Rattle.px_lines.specs.declared.items.Rest.{Rest}
 use Rattle.px_lines.specs.declared.items.Rest.TheVariants as rest
+use Rattle.px_lines.specs.declared.parts.Part.{Part}
+use Rattle.px_lines.specs.declared.parts.Part.TheVariants as part
 use denote.Ref.{Bor}
 
 abbrev pub lexemes_of : List Token → List Lexeme
@@ -50,6 +52,11 @@ said_view (said.Number n) = items.amount n
 said_view (said.New kind n) = items.new kind n.now
 said_view (said.Known kind n) = items.known kind n.now
 
+abbrev pub part_view : Part → items.Part
+part_view (part.Fact column index x) = items.a_fact column index (signed_view x)
+part_view (part.Ancestor k) = items.an_ancestor k
+part_view (part.Axiom k place count ts) = items.an_axiom k place count (map argument_view ts.items)
+
 abbrev pub rest_view : Rest → List items.Item
 rest_view rest.Nothing = []
 rest_view (rest.Declared kind ns) = items.declared kind (map text_of ns.items) ∷ []
@@ -60,6 +67,21 @@ rest_view (rest.Atoms xs) = items.atoms (map signed_view xs.items) ∷ []
 rest_view (rest.Bindings bs) = items.bindings (map binding_view bs.items) ∷ []
 rest_view (rest.RoomEdits es) = items.room_edits (map room_edit_view es.items) ∷ []
 rest_view (rest.Pairs ps) = items.pairs ps.items ∷ []
+rest_view (rest.Arguments ts) = items.arguments (map argument_view ts.items) ∷ []
+rest_view (rest.Proofs parts) = items.proofs (map part_view parts.items) ∷ []
+
+-- the atoms but for those of proofs, the arguments that stand in no atom and in no proof, and the parts of proofs
+abbrev pub rest_atoms : Rest → List items.SignedAtom
+rest_atoms (rest.Atoms xs) = map signed_view xs.items
+rest_atoms _ = []
+
+abbrev pub rest_arguments : Rest → List items.Argument
+rest_arguments (rest.Arguments ts) = map argument_view ts.items
+rest_arguments _ = []
+
+abbrev pub rest_parts : Rest → List items.Part
+rest_parts (rest.Proofs parts) = map part_view parts.items
+rest_parts _ = []
 
 -- the items of a line
 abbrev pub said_items : List Said → Rest → List items.Item

@@ -2,8 +2,9 @@
 ghost use Rattle.std.specs.Prelude.{◌≡◌, ◌++◌, ◌∷◌, [], map};
 ghost use Rattle.std.specs.List.{flat_map, list_all, list_any};
 ghost use Rattle.px_script.specs.Items.{arguments_in, atoms_in, has_parameter, is_filled, is_parameter_number, is_variable};
-ghost use Rattle.px_lines.specs.Common.{argument_view, atom_varies, rest_view, signed_view};
+ghost use Rattle.px_lines.specs.Common.{argument_view, atom_varies, part_view, rest_arguments, rest_atoms, rest_parts, rest_view, signed_view};
 
+use crate::parts::{Part, are_whole};
 use px_script::{LAST_PARAMETER, Named, Sign};
 
 /// An argument of an atom.
@@ -66,6 +67,10 @@ pub enum Rest<'a> {
     RoomEdits(Vec<WrittenRoomEdit<'a>>),
     /// Pairs of numbers.
     Pairs(Vec<(u32, u32)>),
+    /// Arguments in parentheses with commas, or no arguments.
+    Arguments(Vec<Argument<'a>>),
+    /// The proofs of one row of a table.
+    Proofs(Vec<Part<'a>>),
 }
 
 impl Argument<'_> {
@@ -107,7 +112,8 @@ impl<'a> Rest<'a> {
             Rest::RoomEdits(edits) => !edits.is_empty(),
             Rest::Pairs(pairs) => !pairs.is_empty(),
             Rest::Bindings(bindings) => are_numbered(bindings),
-            Rest::Nothing | Rest::Listed(_, _) => true,
+            Rest::Proofs(parts) => are_whole(parts),
+            Rest::Nothing | Rest::Listed(_, _) | Rest::Arguments(_) => true,
         }
     }
 
@@ -124,18 +130,39 @@ impl<'a> Rest<'a> {
             | Rest::Numbers(_)
             | Rest::Atoms(_)
             | Rest::RoomEdits(_)
-            | Rest::Pairs(_) => false,
+            | Rest::Pairs(_)
+            | Rest::Arguments(_)
+            | Rest::Proofs(_) => false,
         }
     }
 
-    /// Returns the atoms, without which there are no arguments. Does not allocate.
+    /// Returns the atoms, but for those of proofs. Does not allocate.
     #[tactic(auto, using(crate::proofs::Views::whole))]
     pub fn atoms(&self) -> &[SignedAtom<'a>]
-        ensures atoms { map signed_view result.now ≡ flat_map atoms_in (rest_view self.now) }
-        ensures arguments { flat_map (λ x. x.atom.arguments) (map signed_view result.now) ≡ flat_map arguments_in (rest_view self.now) }
+        ensures { map signed_view result.now ≡ rest_atoms self.now }
     {
         match self {
             Rest::Atoms(atoms) => atoms,
+            _ => &[],
+        }
+    }
+
+    /// Returns the arguments that stand in no atom and in no proof. Does not allocate.
+    pub fn arguments(&self) -> &[Argument<'a>]
+        ensures { map argument_view result.now ≡ rest_arguments self.now }
+    {
+        match self {
+            Rest::Arguments(arguments) => arguments,
+            _ => &[],
+        }
+    }
+
+    /// Returns the parts of proofs. Does not allocate.
+    pub fn parts(&self) -> &[Part<'a>]
+        ensures { map part_view result.now ≡ rest_parts self.now }
+    {
+        match self {
+            Rest::Proofs(parts) => parts,
             _ => &[],
         }
     }

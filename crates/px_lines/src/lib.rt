@@ -16,12 +16,14 @@
 
 mod items;
 mod lists;
+mod parts;
 mod reading;
 mod rows;
 mod series;
 mod token;
 
 pub use items::{Argument, Rest, Said, SignedAtom, WrittenBinding, WrittenRoomEdit};
+pub use parts::Part;
 pub use reading::{Line, formed_line};
 pub use rows::{Row, is_word};
 pub use series::open_of;

@@ -72,7 +72,7 @@ fn argument_at<'a>(tokens: &[Token<'a>], at: usize) -> Option<(Argument<'a>, cha
 }
 
 /// Returns the arguments from a place on, between commas and up to a closing parenthesis, and the place after it.
-fn arguments_after<'a>(
+pub fn arguments_after<'a>(
     alloc: Global,
     tokens: &[Token<'a>],
     start: usize,
@@ -111,6 +111,23 @@ pub fn arguments<'a>(
     } else {
         Ok(Some((Vec::new(alloc), 0)))
     }
+}
+
+/// Returns the arguments in parentheses, or no arguments, where the line ends after them.
+pub fn listed_arguments<'a>(
+    alloc: Global,
+    tokens: &[Token<'a>],
+) -> Result<Option<Vec<Argument<'a>>>, NoMemory>
+    ensures { IfOk result (λ found. list_view argument_view found
+        ≡ option_and_then at_end (items_at argument_of (lexemes_of tokens.now))) }
+{
+    let Some((arguments, count)) = arguments(alloc, tokens)? else {
+        return Ok(None);
+    };
+    if count < tokens.len() {
+        return Ok(None);
+    }
+    Ok(Some(arguments))
 }
 
 /// Returns the names that arguments are, where they are all names.

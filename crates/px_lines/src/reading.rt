@@ -3,14 +3,15 @@ ghost use Rattle.std.specs.Prelude.{◌≡◌, ◌≤◌, ◌++◌, true, length
 ghost use Rattle.std.specs.List.{flat_map, list_all, list_any};
 ghost use Rattle.px_script.proofs.Rows.{chosen, formed_line, last_at, line_at, one_of, ones_at, row_items};
 ghost use Rattle.px_script.specs.Declarations.{Declared, has_building};
-ghost use Rattle.px_script.specs.Forms.{arguments_of, begins_with_word, is_formed, is_signed, line_atoms};
-ghost use Rattle.px_script.specs.Items.{has_parameter, is_filled};
+ghost use Rattle.px_script.specs.Forms.{begins_with_word, is_formed, is_signed, line_atoms};
+ghost use Rattle.px_script.specs.Items.{atoms_of_part, has_parameter, is_filled};
 ghost use Rattle.px_script.specs.Limits.{is_word};
-ghost use Rattle.px_lines.specs.Common.{said_items, lexeme_of, lexemes_of, list_view, option_map, parts_view, rest_view, said_view, signed_view};
+ghost use Rattle.px_lines.specs.Common.{argument_view, said_items, lexeme_of, lexemes_of, list_view, option_map, part_view, parts_view, rest_arguments, rest_atoms, rest_parts, rest_view, said_view, signed_view};
 ghost use Rattle.px_lines.specs.LineViews.{IsShaped, line_view, row_view};
 
-use crate::items::{Rest, Said, SignedAtom};
-use crate::lists::{listed_names, names, numbers};
+use crate::items::{Argument, Rest, Said, SignedAtom};
+use crate::lists::{listed_arguments, listed_names, names, numbers};
+use crate::parts::{Part, proofs};
 use crate::rows::{Row, row_for};
 use crate::series::{atoms, bindings, pairs, room_edits};
 use crate::token::Token;
@@ -101,6 +102,10 @@ fn last_item<'a>(
         Last::Atoms => Ok(atoms(alloc, tokens)?.map(|atoms| Rest::Atoms(atoms))),
         Last::Bindings => Ok(bindings(alloc, tokens)?.map(|bindings| Rest::Bindings(bindings))),
         Last::Pairs => Ok(pairs(alloc, tokens)?.map(|pairs| Rest::Pairs(pairs))),
+        Last::Arguments => {
+            Ok(listed_arguments(alloc, tokens)?.map(|arguments| Rest::Arguments(arguments)))
+        }
+        Last::Proofs => Ok(proofs(alloc, tokens)?.map(|parts| Rest::Proofs(parts))),
         Last::RoomEdits => Ok(room_edits(alloc, tokens)?.map(|edits| Rest::RoomEdits(edits))),
     }
 }
@@ -189,9 +194,15 @@ impl<'a> Line<'a> {
             → result ≡ is_formed d (line_view self.now) }
     {
         let manner = self.row.manner;
-        self.last.is_filled()
-            && are_signed(manner, self.last.atoms())
-            && manner.is_of_script(with_building)
+        self.last.is_filled() && self.has_signs(manner) && manner.is_of_script(with_building)
+    }
+
+    /// Returns whether the signs of the line's atoms are those of the manner.
+    fn has_signs(&self, manner: Manner) -> bool
+        ensures { result ≡ list_all (λ x. is_signed manner x.sign) (line_atoms (line_view self.now)) }
+    {
+        let (atoms, parts) = (self.last.atoms(), self.last.parts());
+        are_signed(manner, atoms) && have_signs(manner, parts)
     }
 
     /// Returns whether the line has a parameter of an operator, or of a table in a binding. Does not allocate.
@@ -202,13 +213,25 @@ impl<'a> Line<'a> {
         self.last.has_parameter()
     }
 
-    /// Returns the atoms of the line, which has no arguments but theirs. Does not allocate.
-    #[tactic(auto, using(crate::proofs::Views::of_line))]
+    /// Returns the atoms of the line, but for those of proofs. Does not allocate.
     pub fn atoms(&self) -> &[SignedAtom<'a>]
-        ensures atoms { map signed_view result.now ≡ line_atoms (line_view self.now) }
-        ensures arguments { flat_map (λ x. x.atom.arguments) (map signed_view result.now) ≡ arguments_of (line_view self.now) }
+        ensures { map signed_view result.now ≡ rest_atoms self.now.last }
     {
         self.last.atoms()
+    }
+
+    /// Returns the arguments of the line that stand in no atom and in no proof. Does not allocate.
+    pub fn arguments(&self) -> &[Argument<'a>]
+        ensures { map argument_view result.now ≡ rest_arguments self.now.last }
+    {
+        self.last.arguments()
+    }
+
+    /// Returns the parts of proofs of the line. Does not allocate.
+    pub fn parts(&self) -> &[Part<'a>]
+        ensures { map part_view result.now ≡ rest_parts self.now.last }
+    {
+        self.last.parts()
     }
 }
 
@@ -223,4 +246,19 @@ fn each_signed(manner: Manner, atoms: &[SignedAtom<'_>]) -> bool
     ensures { result ≡ list_all (λ x. is_signed manner x.sign) atoms.now }
 {
     atoms.iter().all(|atom| manner.is_signed(atom.sign))
+}
+
+fn has_sign(manner: Manner, part: &Part<'_>) -> bool
+    ensures { result ≡ list_all (λ x. is_signed manner x.sign) (atoms_of_part (part_view part.now)) }
+{
+    match part {
+        Part::Fact(_, _, atom) => manner.is_signed(atom.sign),
+        Part::Ancestor(_) | Part::Axiom(_, _, _, _) => true,
+    }
+}
+
+fn have_signs(manner: Manner, parts: &[Part<'_>]) -> bool
+    ensures { result ≡ list_all (λ part. list_all (λ x. is_signed manner x.sign) (atoms_of_part (part_view part))) parts.now }
+{
+    parts.iter().all(|part| has_sign(manner, part))
 }

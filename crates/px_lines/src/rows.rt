@@ -1,7 +1,7 @@
 //! The table of the words.
 ghost use Rattle.std.specs.Prelude.{◌≡◌, IfSome};
 ghost use Rattle.std.specs.Option.{option_map};
-ghost use Rattle.px_script.proofs.Rows.{disturb_row, is_of, newer, row as spec_row, row_of};
+ghost use Rattle.px_script.proofs.Rows.{disturb_row, entries_of_two, is_of, newer, row_among, row as spec_row, row_of};
 ghost use Rattle.px_script.specs.Limits.{is_word};
 ghost use Rattle.px_lines.specs.LineViews.{row_view};
 
@@ -68,6 +68,10 @@ const EDIT: [One; 4] = [
     One::Number,
 ];
 
+const NEW_TABLE: [One; 2] = [One::New(Named::Table), One::Number];
+
+const STEP: [One; 1] = [One::Known(Named::Operator)];
+
 const RESULT: [One; 1] = [One::New(Named::Result)];
 
 const DISTURB: [One; 2] = [One::Number, One::Word(Choice::Time)];
@@ -133,6 +137,60 @@ fn disturbance(with_building: bool) -> Row
     }
 }
 
+/// Returns the row of a word that version 2 is the first to have.
+fn row_of_two(word: &str) -> Option<Row>
+    ensures { option_map row_view result ≡ row_among word.now entries_of_two }
+{
+    match word {
+        "sort" => Some(newer(plain("sort", Place::Domain, &SORT, Last::New(Named::Object)))),
+        "duo" => Some(newer(plain("duo", Place::Command, &DUO, Last::Numbers))),
+        "param" => Some(newer(plain(
+            "param",
+            Place::Inside(Block::Operator),
+            &PARAM,
+            Last::Known(Named::Parameter),
+        ))),
+        "table" => Some(newer(plain(
+            "table",
+            Place::Opens(Block::TableSteps),
+            &NEW_TABLE,
+            Last::Nothing,
+        ))),
+        "step" => Some(newer(described(
+            "step",
+            Place::Inside(Block::TableSteps),
+            Manner::TableTerms,
+            &STEP,
+            Last::Arguments,
+        ))),
+        "goal" => Some(newer(described(
+            "goal",
+            Place::Inside(Block::TableSteps),
+            Manner::TableGoals,
+            &NONE,
+            Last::Atoms,
+        ))),
+        "proof" => Some(newer(described(
+            "proof",
+            Place::Inside(Block::TableRows),
+            Manner::TableTerms,
+            &NONE,
+            Last::Proofs,
+        ))),
+        "save" => Some(newer(plain("save", Place::Command, &TABLE, Last::Nothing))),
+        "certify" => Some(newer(plain("certify", Place::Command, &TABLE, Last::Nothing))),
+        "edit" => Some(newer(plain("edit", Place::Command, &EDIT, Last::Pairs))),
+        "pursue" => Some(newer(described(
+            "pursue",
+            Place::Command,
+            Manner::Goals,
+            &RESULT,
+            Last::Atoms,
+        ))),
+        _ => None,
+    }
+}
+
 /// Returns the row of a word, in a script with or without a building so far. Does not allocate.
 pub fn row_for(with_building: bool, word: &str) -> Option<Row>
     ensures { option_map row_view result ≡ row_of with_building word.now }
@@ -183,25 +241,7 @@ pub fn row_for(with_building: bool, word: &str) -> Option<Row>
         "disturb" => Some(disturbance(with_building)),
         "run" => Some(plain("run", Place::Command, &TABLE, Last::Bindings)),
         "facts" => Some(plain("facts", Place::Command, &NONE, Last::Nothing)),
-        "sort" => Some(newer(plain("sort", Place::Domain, &SORT, Last::New(Named::Object)))),
-        "duo" => Some(newer(plain("duo", Place::Command, &DUO, Last::Numbers))),
-        "param" => Some(newer(plain(
-            "param",
-            Place::Inside(Block::Operator),
-            &PARAM,
-            Last::Known(Named::Parameter),
-        ))),
-        "save" => Some(newer(plain("save", Place::Command, &TABLE, Last::Nothing))),
-        "certify" => Some(newer(plain("certify", Place::Command, &TABLE, Last::Nothing))),
-        "edit" => Some(newer(plain("edit", Place::Command, &EDIT, Last::Pairs))),
-        "pursue" => Some(newer(described(
-            "pursue",
-            Place::Command,
-            Manner::Goals,
-            &RESULT,
-            Last::Atoms,
-        ))),
-        _ => None,
+        _ => row_of_two(word),
     }
 }
 

@@ -45,7 +45,7 @@ fn atom_after<'a>(
 }
 
 /// Returns the atom in front, with a sign or without, and how many tokens both take.
-fn atom<'a>(
+pub fn atom<'a>(
     alloc: Global,
     tokens: &[Token<'a>],
 ) -> Result<Option<(SignedAtom<'a>, usize)>, NoMemory>

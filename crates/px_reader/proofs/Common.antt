@@ -1,5 +1,5 @@
 -- What the proofs here cite of std, of the lower crates, and of the definitions of this one.
-pub use Rattle.px_script.proofs.Common.{codes, eqb-true, ◌≡◌, ◌∙◌, map, sym, ap, length, arith, [], refl, ◌++◌, ◌∷◌, List, take, ℕ, drop, true, subst, ◌≤◌, ◌<◌, ◌+◌, false, inr, append_assoc, get_or, Bool, inl, length-append, suc, ◌≢◌, None, Some, nat_lt, Option, ◌==◌, All, Contains, slice_index, if◌then◌else◌, IfSome, count_by, fold, set_of-is_sorted, set_of-members, has_name, NameLists, repeats, has_wrong_arity, stands_twice, ScriptValue, own_problem, content_of, Declared, atom_of, variable_names_of, literal_of, parameters_here, clause_of, nothing_declared, number_in, OpenBlock, OpenOperator, atom_edit_of, binding_of, operator_here, parameters_of, after_line, fault_at, first_of, passed, causes_with, own_limits, is_formed, SignedAtom, wanted_by_edit, Binding, Lexeme, greatest, lines_of, PassAll, IsScript, Stage, line_of, Statement, Line, fact, «axiom», atom_set, atom_cmp, Atom, Problem, Term, get_or-append_seam, and_parts, cases_lt, not-false, nat_tests, length-map, map-append, All-from_recursion, list_any-append, bytes_eq-Decides, AllByRecursion, list_any, flat_map, filter, option_map, bytes_eq, IsUtf8, both_answers, atom_cmp-total, atom_cmp-same, IsOfStage, Thing, IsInRange, first_state, rendering, standings}
+pub use Rattle.px_script.proofs.Common.{codes, eqb-true, ◌≡◌, ◌∙◌, map, sym, ap, length, arith, [], refl, ◌++◌, ◌∷◌, List, take, ℕ, drop, true, subst, ◌≤◌, ◌<◌, ◌+◌, false, inr, append_assoc, get_or, Bool, inl, length-append, suc, ◌≢◌, None, Some, nat_lt, Option, ◌==◌, All, Contains, slice_index, if◌then◌else◌, IfSome, count_by, fold, set_of-is_sorted, set_of-members, has_name, NameLists, repeats, has_wrong_arity, stands_twice, ScriptValue, own_problem, content_of, Declared, atom_of, variable_names_of, literal_of, parameters_here, clause_of, nothing_declared, number_in, OpenBlock, OpenOperator, atom_edit_of, binding_of, operator_here, parameters_of, after_line, fault_at, first_of, passed, causes_with, own_limits, is_formed, SignedAtom, wanted_by_edit, Binding, Lexeme, greatest, lines_of, PassAll, IsScript, Stage, line_of, Statement, Line, fact, «axiom», atom_set, atom_cmp, Atom, Problem, Term, get_or-append_seam, and_parts, cases_lt, not-false, nat_tests, length-map, map-append, All-from_recursion, list_any-append, bytes_eq-Decides, AllByRecursion, list_any, flat_map, filter, option_map, bytes_eq, IsUtf8, both_answers, atom_cmp-total, atom_cmp-same, IsOfStage, Thing, IsInRange, first_state, rendering, standings, is_bad_table, coded}
 pub use Rattle.px_script.specs.declared.kinds.Manner.TheVariants.{Plain as plain}
 pub use Rattle.px_reader.specs.Common.{time_of, with_name, AreOfKind, AreOfKinds, IsFresh, IsNameLexeme, AreReadable, lacks, lacks_argument, is_fact, early_fault, early_limits, stage_view, LinesFail, characters_of, HasFirstFault, IsRead, IsLineRefused, LineEnds, HasFault, content, declared_of, with_more, leaves, signed_view, text_of, argument_view, lexemes_of, statement_view, binding_view, room_edit_view, text_cmp, parse, AreInRange, is_known_argument, takes, facts_of, problem_of, term_of, with_command, with_names, with_variable, Refusal, binds_twice, arguments_of, begins_with_word, a_plan, is_variable, stage_now, spelling, slice_split, string_bytes, all_scalars, IsWelcome, names_in, script_of, refusal_told, OperatorsInRange, coded, limits, Forms, line_atoms, Argument, open_variable, Limit, most_objects, most_commands, most_facts, Manner}
 pub use Rattle.std.proofs.Common.{◌-◌, lit<, Bor}

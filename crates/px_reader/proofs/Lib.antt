@@ -3,6 +3,7 @@ pub mod Common
 -- tests of a line
 pub mod AtomTests
 pub mod LineTests
+pub mod PartTests
 pub mod TableVariables
 pub mod Times
 pub mod Variables

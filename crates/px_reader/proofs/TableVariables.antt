@@ -2,6 +2,8 @@
 use Rattle.px_reader.proofs.Common.{◌≡◌, ℕ, false, List, [], ◌∷◌, refl, ap, Option, None, Some, codes, has_name, option_map, Declared, Reader, declared_of}
 use Rattle.std.specs.Fmt.{digits}
 use Rattle.px_script.specs.Causes.{is_goal_variable, is_numbered_by, is_table_parameter}
+use Rattle.px_script.specs.Faults.{is_bad_table}
+use Rattle.px_script.specs.Statements.{Statement, end}
 use Rattle.px_script.specs.Declarations.{table_parameters, table_parameters_here}
 use Rattle.px_reader.specs.Readers.{kind_view, open_block_view}
 use Rattle.px_reader.specs.declared.blocks.BlockKind as block
@@ -19,6 +21,22 @@ pub no-table : (reader : Reader) → table_parameters_here (declared_of reader).
 no-table reader = block-has-none _ reader.block
 
 pub ruleset no_table = (no-table)
+
+-- nor is a block closed that is no table's
+module _ (reader : Reader) (number : ℕ) where
+  bad-kind : (line : ℕ) (kind : block.BlockKind)
+      → is_bad_table (record (declared_of reader) { block = Some (record { line = line; kind = kind_view number kind }) }) end ≡ false
+  bad-kind line (block.TheVariants.Operator o) = refl
+  bad-kind line block.TheVariants.Building = refl
+
+  bad-block : (opened : Option OpenBlock)
+      → is_bad_table (record (declared_of reader) { block = option_map (open_block_view number) opened }) end ≡ false
+  bad-block None = refl
+  bad-block (Some b) = bad-kind b.line b.kind
+
+pub no-bad-table : (reader : Reader) (s : Statement) → is_bad_table (declared_of reader) s ≡ false
+no-bad-table reader end = bad-block reader _ reader.block
+no-bad-table reader _ = refl
 
 pub no-parameter : (d : Declared) (v : List ℕ) → table_parameters_here d.block ≡ 0 → is_table_parameter d v ≡ false
 no-parameter d v none = ap (λ n. is_numbered_by 112 n v) none

@@ -21,6 +21,9 @@ use Rattle.px_reader.specs.FaultViews.{limit_refusal}
 use Rattle.px_lines.specs.ItemViews.{argument_view}
 use Rattle.px_reader.specs.declared.fault.PassedLimit.{PassedLimit}
 use Rattle.px_lines.specs.declared.items.SignedAtom.{SignedAtom}
+use Rattle.px_lines.specs.declared.parts.Part.{Part}
+use Rattle.px_lines.specs.declared.parts.Part.TheVariants as part
+use Rattle.px_script.specs.Items as items
 
 -- a lexeme that has to be a name is one
 abbrev pub IsNameLexeme : Lexeme → Type 0
@@ -50,6 +53,17 @@ lacks_argument d atom = list_any (λ a. not (is_known_argument d (argument_view 
 -- some argument of the atom may not stand in a line of the manner
 abbrev pub refuses : Declared → Manner → SignedAtom → Bool
 refuses d manner atom = list_any (λ a. not (takes d manner (argument_view a))) atom.arguments.items
+
+-- some argument of the part passes the test
+abbrev pub part_has : (items.Argument → Bool) → Part → Bool
+part_has test (part.Fact column index x) = list_any (λ a. test (argument_view a)) x.arguments.items
+part_has test (part.Ancestor k) = false
+part_has test (part.Axiom k place count ts) = list_any (λ a. test (argument_view a)) ts.items
+
+-- the atom of the part passes the test
+abbrev pub part_atom_has : (SignedAtom → Bool) → Part → Bool
+part_atom_has test (part.Fact column index x) = test x
+part_atom_has test _ = false
 
 -- a name that a line wants isn't declared in its kind
 abbrev pub lacks : Declared → Named × List ℕ → Bool

@@ -1,6 +1,6 @@
 -- What the contracts here cite of std, of the lower crates, and of the definitions of this one; the proofs here cite more of them.
 pub use Rattle.px_names.specs.Lists.{has_name, with_name, IsWelcome, names_of as names_in}
-pub use Rattle.px_reader.specs.Checks.{AreOfKind, AreOfKinds, AreReadable, IsFirstLimit, IsFresh, IsNameLexeme, early_fault, early_limits, early_own, group_is_long, group_repeats, grown_by, is_fact, lacks, lacks_argument, refuses}
+pub use Rattle.px_reader.specs.Checks.{AreOfKind, AreOfKinds, AreReadable, IsFirstLimit, IsFresh, IsNameLexeme, early_fault, early_limits, early_own, group_is_long, group_repeats, grown_by, is_fact, lacks, lacks_argument, refuses, part_has, part_atom_has}
 pub use Rattle.px_reader.specs.FaultViews.{limit_number, refusal_of}
 pub use Rattle.px_reader.specs.LineReads.{HasFirstFault, IsRead, IsLineRefused, LineEnds, LinesFail, HasFault, characters_of, stage_view, told, refusal_told}
 pub use Rattle.px_reader.specs.Readers.{declared_of, kind_view, leaves, operator_view, with_more}

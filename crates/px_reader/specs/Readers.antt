@@ -55,6 +55,7 @@ declared_of reader = record {
   height = reader.height;
   nodes = reader.nodes;
   shapes = reader.shapes;
+  tables = [];
   commands = reader.commands.items;
   disturbs = reader.disturbs;
   block = option_map (open_block_view (length reader.schemas.items)) reader.block;

@@ -5,7 +5,7 @@ use Rattle.std.specs.Ordering.{nat_cmp}
 use Rattle.std.specs.declared.cmp.Ordering.{Ordering}
 use Rattle.px_script.specs.Items as items
 use Rattle.px_script.specs.Statements as spec
-use Rattle.px_lines.specs.ItemViews.{binding_view, room_edit_view, signed_view, text_of}
+use Rattle.px_lines.specs.ItemViews.{binding_view, room_edit_view, signed_view, text_of, argument_view, part_view}
 use Rattle.px_reader.specs.declared.blocks.Role.{Role}
 use Rattle.px_reader.specs.declared.blocks.Role.TheVariants as role
 use Rattle.px_reader.specs.declared.statement.Statement.{Statement}
@@ -43,6 +43,10 @@ statement_view (statement.Run n bindings) = spec.run n.now (map binding_view bin
 statement_view (statement.Duo one other ns) = spec.duo one.now other.now ns.now
 statement_view statement.Facts = spec.facts
 statement_view (statement.Sort n ns) = spec.sort n.now (map text_of ns.now)
+statement_view (statement.Table n parameters) = spec.table n.now parameters
+statement_view (statement.Step o ts) = spec.step o.now (map argument_view ts.now)
+statement_view (statement.Goal atoms) = spec.goal (map signed_view atoms.now)
+statement_view (statement.Proof parts) = spec.proof (map part_view parts.now)
 statement_view (statement.Save n) = spec.save n.now
 statement_view (statement.Certify n) = spec.certify n.now
 statement_view (statement.Edit n source prefix ps) = spec.edit n.now source.now prefix ps.now

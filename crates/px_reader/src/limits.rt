@@ -1,14 +1,15 @@
 //! The limits of a script.
-ghost use Rattle.std.specs.Prelude.{◌≡◌, ◌<◌, ◌+◌, ◌^◌, ◌&&◌, ◌||◌, [], ◌∷◌, length, map, nat_lt, IfOk, if◌then◌else◌, Some, None, List, ℕ};
+ghost use Rattle.std.specs.Prelude.{◌≡◌, ◌<◌, ◌+◌, ◌^◌, ◌&&◌, ◌||◌, [], ◌∷◌, length, map, nat_lt, IfOk, if◌then◌else◌, Some, None, List, ℕ, false};
 ghost use Rattle.px_script.specs.Causes.{is_long, is_numbered};
 ghost use Rattle.px_script.specs.Items.{declared_in};
 ghost use Rattle.px_script.specs.declared.limits.Limit.TheVariants as limit;
 ghost use Rattle.px_script.specs.Faults.{any_outside, has_great_number};
 ghost use Rattle.px_script.specs.Limits.{greatest, of_executor};
+ghost use Rattle.px_script.specs.Stages.{words_to_come};
 ghost use Rattle.px_script.specs.Statements as spec;
 ghost use Rattle.px_lines.specs.ItemViews.{rest_view, said_view};
 ghost use Rattle.px_lines.specs.LineViews.{line_view};
-ghost use Rattle.px_reader.specs.Common.{IsFirstLimit, early_own, flat_map, group_is_long, list_any, has_long_name, Declared, operator_here, variable_names_of, passed, own_limits, over, outside, disturbance_limits, line_of, AreInRange, early_limits, grown_by, declared_of, signed_view, statement_view, string_bytes, text_of};
+ghost use Rattle.px_reader.specs.Common.{IsFirstLimit, early_own, flat_map, group_is_long, list_any, has_long_name, Declared, operator_here, variable_names_of, passed, own_limits, over, outside, disturbance_limits, line_of, AreInRange, early_limits, grown_by, declared_of, signed_view, statement_view, string_bytes, text_of, has_name};
 
 use crate::fault::PassedLimit;
 use crate::reader::Reader;
@@ -147,6 +148,7 @@ impl Reader {
     ) -> Result<Option<PassedLimit>, NoMemory>
         requires range { AreInRange (declared_of self.now) }
         requires same { line_of (statement_view statement) ≡ line_view line.now }
+        requires come { has_name (line_of (statement_view statement)).word words_to_come ≡ false }
         ensures { IfOk result (λ found. IsFirstLimit found (early_limits (declared_of self.now) (statement_view statement.entry))) }
     {
         if has_long_name(line) {
@@ -157,7 +159,8 @@ impl Reader {
 
     /// Returns the least number of the limits that the line passes, but for those of long names and of facts.
     fn own_limit(&self, statement: Statement<'_, '_>) -> Result<Option<PassedLimit>, NoMemory>
-        requires { AreInRange (declared_of self.now) }
+        requires range { AreInRange (declared_of self.now) }
+        requires come { has_name (line_of (statement_view statement)).word words_to_come ≡ false }
         ensures { IfOk result (λ found. IsFirstLimit found (early_own (declared_of self.now) (statement_view statement.entry))) }
     {
         let limit = match statement {
@@ -180,6 +183,8 @@ impl Reader {
             Statement::DisturbRooms(turn, _, edits) => self.disturbance_limit(turn, edits.len()),
             Statement::Learn(_, _) | Statement::Show(_) | Statement::Run(_, _) | Statement::Facts =>
                 { self.commands_limit() }
+            Statement::Table(_, _) | Statement::Step(_, _) => unreachable!(),
+            Statement::Goal(_) | Statement::Proof(_) => unreachable!(),
             Statement::Save(_) | Statement::Certify(_) => self.commands_limit(),
             Statement::Edit(_, _, prefix, pairs) => self.edit_limit(prefix, pairs),
             Statement::Duo(_, _, numbers) => self.duo_limit(numbers),

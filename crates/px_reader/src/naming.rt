@@ -3,15 +3,16 @@ ghost use Rattle.std.specs.Prelude.{◌≡◌, ◌==◌, ◌||◌, ◌<◌, leng
 ghost use Rattle.px_names.specs.Lists.{names_of};
 ghost use Rattle.px_script.specs.Causes.{is_goal_variable};
 ghost use Rattle.px_script.specs.Declarations.{Declared, table_parameters_here};
+ghost use Rattle.px_script.specs.Forms.{arguments_of, line_atoms};
 ghost use Rattle.px_script.specs.Items.{open_variable, wanted_in};
 ghost use Rattle.px_lines.specs.ItemViews.{rest_view, said_view};
 ghost use Rattle.px_lines.specs.LineViews.{line_view};
-ghost use Rattle.px_reader.specs.Common.{flat_map, list_any, bytes_eq, string_bytes, has_name, has_unknown_name, has_wrong_arity, is_known_argument, is_unbound, takes, wanted_by, operator_here, parameters_here, number_in, an_object, wanted_by_edit, lacks, lacks_argument, refuses, declared_of, operator_view, argument_view, room_edit_view};
+ghost use Rattle.px_reader.specs.Common.{flat_map, list_any, bytes_eq, string_bytes, has_name, has_unknown_name, has_wrong_arity, is_known_argument, is_unbound, takes, wanted_by, operator_here, parameters_here, number_in, an_object, wanted_by_edit, lacks, lacks_argument, part_atom_has, part_has, refuses, declared_of, operator_view, argument_view, room_edit_view};
 
 use crate::blocks::{BlockKind, OpenOperator};
 use crate::reader::Reader;
 use crate::terms::is_one_of;
-use px_lines::{Argument, Line, Rest, Said, SignedAtom, WrittenBinding, WrittenRoomEdit};
+use px_lines::{Argument, Line, Part, Rest, Said, SignedAtom, WrittenBinding, WrittenRoomEdit};
 use px_names::Kind;
 use px_script::{Manner, Named};
 
@@ -94,14 +95,65 @@ impl Reader {
     pub fn has_unknown_name(&self, line: &Line<'_>) -> bool
         ensures { result ≡ has_unknown_name (declared_of self.now) (line_view line.now) }
     {
-        self.lack_names(line.atoms()) || self.lacks_name(line)
+        self.lacks_predicate(line) || self.lacks_argument(line) || self.lacks_name(line)
     }
 
-    fn lack_names(&self, atoms: &[SignedAtom<'_>]) -> bool
-        ensures { result ≡ (list_any (λ atom. not (has_name atom.predicate.now self.now.names.predicates)) atoms.now
-            || list_any (lacks_argument (declared_of self.now)) atoms.now) }
+    fn lacks_predicate(&self, line: &Line<'_>) -> bool
+        ensures { result ≡ list_any (λ x. not (has_name x.atom.predicate self.now.names.predicates)) (line_atoms (line_view line.now)) }
     {
-        self.lack_predicates(atoms) || self.lack_arguments(atoms)
+        let (atoms, parts) = (line.atoms(), line.parts());
+        self.lack_predicates(atoms) || self.parts_lack_predicates(parts)
+    }
+
+    fn lacks_argument(&self, line: &Line<'_>) -> bool
+        ensures { result ≡ list_any (λ a. not (is_known_argument (declared_of self.now) a)) (arguments_of (line_view line.now)) }
+    {
+        let (atoms, others, parts) = (line.atoms(), line.arguments(), line.parts());
+        self.lack_arguments(atoms) || self.others_lack(others, parts)
+    }
+
+    fn others_lack(&self, others: &[Argument<'_>], parts: &[Part<'_>]) -> bool
+        ensures { result ≡ (list_any (λ a. not (is_known_argument (declared_of self.now) (argument_view a))) others.now
+            || list_any (part_has (λ a. not (is_known_argument (declared_of self.now) a))) parts.now) }
+    {
+        self.are_unknown(others) || self.parts_lack_arguments(parts)
+    }
+
+    fn are_unknown(&self, arguments: &[Argument<'_>]) -> bool
+        ensures { result ≡ list_any (λ a. not (is_known_argument (declared_of self.now) (argument_view a))) arguments.now }
+    {
+        arguments.iter().any(|x| !self.is_known(x))
+    }
+
+    fn parts_lack_predicates(&self, parts: &[Part<'_>]) -> bool
+        ensures { result ≡ list_any (part_atom_has (λ atom. not (has_name atom.predicate.now self.now.names.predicates))) parts.now }
+    {
+        parts.iter().any(|part| self.part_lacks_predicate(part))
+    }
+
+    fn part_lacks_predicate(&self, part: &Part<'_>) -> bool
+        ensures { result ≡ part_atom_has (λ atom. not (has_name atom.predicate.now self.now.names.predicates)) part.now }
+    {
+        match part {
+            Part::Fact(_, _, atom) => !self.has(Kind::Predicate, atom.predicate),
+            Part::Ancestor(_) | Part::Axiom(_, _, _, _) => false,
+        }
+    }
+
+    fn parts_lack_arguments(&self, parts: &[Part<'_>]) -> bool
+        ensures { result ≡ list_any (part_has (λ a. not (is_known_argument (declared_of self.now) a))) parts.now }
+    {
+        parts.iter().any(|part| self.part_lacks_argument(part))
+    }
+
+    fn part_lacks_argument(&self, part: &Part<'_>) -> bool
+        ensures { result ≡ part_has (λ a. not (is_known_argument (declared_of self.now) a)) part.now }
+    {
+        match part {
+            Part::Fact(_, _, atom) => self.has_unknown_argument(atom),
+            Part::Ancestor(_) => false,
+            Part::Axiom(_, _, _, terms) => self.are_unknown(terms),
+        }
     }
 
     fn lack_predicates(&self, atoms: &[SignedAtom<'_>]) -> bool
@@ -225,7 +277,27 @@ impl Reader {
     pub fn has_wrong_arity(&self, line: &Line<'_>) -> bool
         ensures { result ≡ has_wrong_arity (declared_of self.now) (line_view line.now) }
     {
-        self.differ_in_arity(line.atoms())
+        let (atoms, parts) = (line.atoms(), line.parts());
+        self.differ_in_arity(atoms) || self.parts_differ(parts)
+    }
+
+    fn parts_differ(&self, parts: &[Part<'_>]) -> bool
+        ensures { result ≡ list_any (part_atom_has (λ atom. not
+            (length atom.arguments.items == slice_index self.now.arities.items
+            (number_in atom.predicate.now self.now.names.predicates)))) parts.now }
+    {
+        parts.iter().any(|part| self.part_differs(part))
+    }
+
+    fn part_differs(&self, part: &Part<'_>) -> bool
+        ensures { result ≡ part_atom_has (λ atom. not
+            (length atom.arguments.items == slice_index self.now.arities.items
+            (number_in atom.predicate.now self.now.names.predicates))) part.now }
+    {
+        match part {
+            Part::Fact(_, _, atom) => atom.arguments.len() != self.arity(atom.predicate),
+            Part::Ancestor(_) | Part::Axiom(_, _, _, _) => false,
+        }
     }
 
     fn differ_in_arity(&self, atoms: &[SignedAtom<'_>]) -> bool
@@ -252,7 +324,43 @@ impl Reader {
     pub fn is_unbound(&self, line: &Line<'_>) -> bool
         ensures { result ≡ is_unbound (declared_of self.now) (line_view line.now) }
     {
-        self.have_unbound(line.row.manner, line.atoms())
+        let (atoms, others, parts) = (line.atoms(), line.arguments(), line.parts());
+        self.have_unbound(line.row.manner, atoms)
+            || self.others_unbound(line.row.manner, others, parts)
+    }
+
+    fn others_unbound(
+        &self,
+        manner: Manner,
+        others: &[Argument<'_>],
+        parts: &[Part<'_>],
+    ) -> bool
+        ensures { result ≡ (list_any (λ a. not (takes (declared_of self.now) manner (argument_view a))) others.now
+            || list_any (part_has (λ a. not (takes (declared_of self.now) manner a))) parts.now) }
+    {
+        self.are_unbound(manner, others) || self.parts_unbound(manner, parts)
+    }
+
+    fn are_unbound(&self, manner: Manner, arguments: &[Argument<'_>]) -> bool
+        ensures { result ≡ list_any (λ a. not (takes (declared_of self.now) manner (argument_view a))) arguments.now }
+    {
+        arguments.iter().any(|x| !self.takes(manner, x))
+    }
+
+    fn parts_unbound(&self, manner: Manner, parts: &[Part<'_>]) -> bool
+        ensures { result ≡ list_any (part_has (λ a. not (takes (declared_of self.now) manner a))) parts.now }
+    {
+        parts.iter().any(|part| self.part_is_unbound(manner, part))
+    }
+
+    fn part_is_unbound(&self, manner: Manner, part: &Part<'_>) -> bool
+        ensures { result ≡ part_has (λ a. not (takes (declared_of self.now) manner a)) part.now }
+    {
+        match part {
+            Part::Fact(_, _, atom) => self.has_unbound(manner, atom),
+            Part::Ancestor(_) => false,
+            Part::Axiom(_, _, _, terms) => self.are_unbound(manner, terms),
+        }
     }
 
     fn have_unbound(&self, manner: Manner, atoms: &[SignedAtom<'_>]) -> bool

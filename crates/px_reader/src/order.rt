@@ -1,13 +1,15 @@
 //! Lines that stand where they may not, or that aren't built.
 ghost use Rattle.std.specs.Prelude.{◌≡◌, ◌||◌, not};
 ghost use Rattle.px_script.specs.Stages.{is_built};
-ghost use Rattle.px_lines.specs.ItemViews.{atom_varies};
+ghost use Rattle.px_lines.specs.ItemViews.{argument_view, atom_varies};
+ghost use Rattle.px_script.specs.Forms.{arguments_of};
+ghost use Rattle.px_script.specs.Items.{is_variable};
 ghost use Rattle.px_lines.specs.LineViews.{line_view};
-ghost use Rattle.px_reader.specs.Common.{list_any, option_map, is_out_of_order, may_stand, has_two_domains, varies, varies_too_early, is_robot, has_robot, lacks_robot, has_building, block_here, stage_view, declared_of};
+ghost use Rattle.px_reader.specs.Common.{list_any, part_has, option_map, is_out_of_order, may_stand, has_two_domains, varies, varies_too_early, is_robot, has_robot, lacks_robot, has_building, block_here, stage_view, declared_of};
 
 use crate::reader::Reader;
 use crate::terms::is_one_of;
-use px_lines::{Line, SignedAtom};
+use px_lines::{Argument, Line, Part, SignedAtom};
 use px_names::Kind;
 use px_script::{Block, Place};
 use px_world::Thing;
@@ -16,6 +18,28 @@ fn any_varies(atoms: &[SignedAtom<'_>]) -> bool
     ensures { result ≡ list_any atom_varies atoms.now }
 {
     atoms.iter().any(|atom| atom.has_variable())
+}
+
+fn any_variable(arguments: &[Argument<'_>]) -> bool
+    ensures { result ≡ list_any (λ a. is_variable (argument_view a)) arguments.now }
+{
+    arguments.iter().any(|argument| argument.is_variable())
+}
+
+fn part_varies(part: &Part<'_>) -> bool
+    ensures { result ≡ part_has is_variable part.now }
+{
+    match part {
+        Part::Fact(_, _, atom) => atom.has_variable(),
+        Part::Ancestor(_) => false,
+        Part::Axiom(_, _, _, terms) => any_variable(terms),
+    }
+}
+
+fn any_part_varies(parts: &[Part<'_>]) -> bool
+    ensures { result ≡ list_any (part_has is_variable) parts.now }
+{
+    parts.iter().any(|part| part_varies(part))
 }
 
 fn any_robot(things: &[Thing]) -> bool
@@ -28,11 +52,26 @@ fn any_robot(things: &[Thing]) -> bool
 fn varies(line: &Line<'_>) -> bool
     ensures { result ≡ varies (line_view line.now) }
 {
-    any_varies(line.atoms()) || line.has_parameter()
+    has_variable(line) || line.has_parameter()
 }
 
-/// The words of commands that there aren't yet.
-const TO_COME: [&str; 4] = ["save", "certify", "edit", "pursue"];
+fn has_variable(line: &Line<'_>) -> bool
+    ensures { result ≡ list_any is_variable (arguments_of (line_view line.now)) }
+{
+    let (atoms, others, parts) = (line.atoms(), line.arguments(), line.parts());
+    any_varies(atoms) || others_vary(others, parts)
+}
+
+fn others_vary(others: &[Argument<'_>], parts: &[Part<'_>]) -> bool
+    ensures { result ≡ (list_any (λ a. is_variable (argument_view a)) others.now || list_any (part_has is_variable) parts.now) }
+{
+    any_variable(others) || any_part_varies(parts)
+}
+
+/// The words of tables in scripts and of commands that there aren't yet.
+const TO_COME: [&str; 8] = [
+    "table", "step", "goal", "proof", "save", "certify", "edit", "pursue",
+];
 
 /// Returns whether the line's word isn't built.
 pub fn is_unbuilt(stage: &[&str], line: &Line<'_>) -> bool

@@ -2,7 +2,7 @@
 ghost use Rattle.std.specs.Prelude.{◌≡◌};
 ghost use Rattle.px_reader.specs.Common.{is_fact, statement_view};
 
-use px_lines::{SignedAtom, WrittenBinding, WrittenRoomEdit};
+use px_lines::{Argument, Part, SignedAtom, WrittenBinding, WrittenRoomEdit};
 
 /// What a line says. It borrows the line's lists.
 #[derive(Clone, Copy)]
@@ -40,7 +40,12 @@ pub enum Statement<'line, 'text> {
     Sort(&'text str, &'line [&'text str]),
     /// A sort, and the parameters of the open operator that have it.
     Param(&'text str, &'line [&'text str]),
-    // No command serves these yet, so each is refused as not built.
+    // None of these is built yet, so each is refused as not built.
+    /// The name of a table and how many parameters it has; then the lines of its block.
+    Table(&'text str, u32),
+    Step(&'text str, &'line [Argument<'text>]),
+    Goal(&'line [SignedAtom<'text>]),
+    Proof(&'line [Part<'text>]),
     Save(&'text str),
     Certify(&'text str),
     /// The name of an edited table, the table that it is made from, how many of its steps, and the wanted adds.

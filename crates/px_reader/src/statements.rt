@@ -3,7 +3,7 @@ ghost use Rattle.std.specs.Prelude.{◌≡◌, ℕ, List, ◌∷◌, Some, None,
 ghost use Rattle.px_script.specs.Items as items;
 ghost use Rattle.px_script.specs.Statements as spec;
 ghost use Rattle.px_script.specs.Statements.{time_word};
-ghost use Rattle.px_script.proofs.Rows.{entry_of, make_atoms, make_box, make_disturb, make_door, make_duo, make_edit, make_learn, make_nothing, make_number, make_object, make_of_table, make_operator, make_param, make_plan, make_predicate, make_pursue, make_robot, make_room, make_run, make_show, make_sort, row_of, statement_of};
+ghost use Rattle.px_script.proofs.Rows.{entry_of, make_atoms, make_box, make_disturb, make_door, make_duo, make_edit, make_learn, make_nothing, make_number, make_object, make_of_table, make_operator, make_param, make_plan, make_predicate, make_proof, make_pursue, make_robot, make_room, make_run, make_show, make_sort, make_step, make_table, row_of, statement_of};
 ghost use Rattle.px_lines.specs.ItemViews.{rest_view, said_items};
 ghost use Rattle.px_lines.specs.LineViews.{line_view, IsShaped};
 ghost use Rattle.px_reader.specs.Common.{bytes_eq, option_and_then, option_map, time_of, signed_view, statement_view};
@@ -496,6 +496,64 @@ fn param<'line, 'text>(
     }
 }
 
+fn table_begun<'line, 'text>(
+    ones: &[Said<'text>],
+    last: &Rest<'_>,
+) -> Option<Statement<'line, 'text>>
+    requires { length ones.now ≡ 2 }
+    ensures { option_map statement_view result ≡ make_table (said_items ones.now last.now) }
+{
+    match ones {
+        [Said::New(Named::Table, name), Said::Number(parameters)] => match last {
+            Rest::Nothing => Some(Statement::Table(name, *parameters)),
+            _ => None,
+        },
+        _ => None,
+    }
+}
+
+fn step<'line, 'text>(
+    ones: &[Said<'text>],
+    last: &'line Rest<'text>,
+) -> Option<Statement<'line, 'text>>
+    requires { length ones.now ≡ 1 }
+    ensures { option_map statement_view result ≡ make_step (said_items ones.now last.now) }
+{
+    match ones {
+        [Said::Known(Named::Operator, operator)] => match last {
+            Rest::Arguments(arguments) => Some(Statement::Step(operator, arguments.as_slice())),
+            _ => None,
+        },
+        _ => None,
+    }
+}
+
+fn goal<'line, 'text>(
+    ones: &[Said<'text>],
+    last: &'line Rest<'text>,
+) -> Option<Statement<'line, 'text>>
+    requires { length ones.now ≡ 0 }
+    ensures { option_map statement_view result ≡ make_atoms spec.goal (said_items ones.now last.now) }
+{
+    Some(Statement::Goal(atoms(ones, last)?))
+}
+
+fn proof<'line, 'text>(
+    ones: &[Said<'text>],
+    last: &'line Rest<'text>,
+) -> Option<Statement<'line, 'text>>
+    requires { length ones.now ≡ 0 }
+    ensures { option_map statement_view result ≡ make_proof (said_items ones.now last.now) }
+{
+    match ones {
+        [] => match last {
+            Rest::Proofs(parts) => Some(Statement::Proof(parts.as_slice())),
+            _ => None,
+        },
+        _ => None,
+    }
+}
+
 /// Returns the name of the table that a line names alone.
 fn table<'text>(ones: &[Said<'text>], last: &Rest<'_>) -> Option<&'text str>
     requires { length ones.now ≡ 1 }
@@ -623,6 +681,10 @@ fn made<'line, 'text>(
         "duo" => duo(ones, last),
         "sort" => sort(ones, last),
         "param" => param(ones, last),
+        "table" => table_begun(ones, last),
+        "step" => step(ones, last),
+        "goal" => goal(ones, last),
+        "proof" => proof(ones, last),
         "save" => save(ones, last),
         "certify" => certify(ones, last),
         "edit" => edit(ones, last),

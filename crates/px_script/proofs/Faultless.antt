@@ -1,6 +1,6 @@
 -- A line without a fault: what each cause says where it isn't there.
 use Rattle.px_script.specs.Faults as faults
-use Rattle.px_script.proofs.Common.{◌≡◌, ℕ, Bool, true, false, not, ◌&&◌, List, [], ◌∷◌, map, refl, sym, ◌∙◌, inl, inr, Option, None, Some, AllByRecursion, list_any, option_map, not-false, or_parts, both_answers, has_name, Statement, Line, Block, line_of, save, certify, edit, pursue, words_to_come, Declared, OpenBlock, block_here, declared_by, names_here, kind_of_block, Stage, whole_language, is_unbuilt, is_out_of_order, declares_after_command, may_stand, is_late, has_two_domains, varies_too_early, lacks_robot, has_unknown_name, wanted_by, repeats, repeats_name, taken_here, has_wrong_arity, is_unbound, has_long_name, is_long, is_numbered, causes_with, fault_at, first_of, passed, own_limits, has_duplicate, repeats_itself, OnlyTakesAway}
+use Rattle.px_script.proofs.Common.{◌≡◌, ℕ, Bool, true, false, not, ◌&&◌, List, [], ◌∷◌, map, refl, sym, ◌∙◌, inl, inr, Option, None, Some, AllByRecursion, list_any, option_map, not-false, or_parts, both_answers, has_name, Statement, Line, Block, line_of, save, certify, edit, pursue, words_to_come, Declared, OpenBlock, block_here, declared_by, names_here, kind_of_block, Stage, whole_language, is_unbuilt, is_out_of_order, declares_after_command, may_stand, is_late, has_two_domains, varies_too_early, lacks_robot, has_unknown_name, wanted_by, repeats, repeats_name, taken_here, has_wrong_arity, is_unbound, has_long_name, is_long, is_numbered, causes_with, fault_at, first_of, passed, own_limits, has_duplicate, repeats_itself, OnlyTakesAway, ◌++◌, Refusal, table, step, goal, proof}
 use Rattle.px_script.proofs.Lists.{by_test, none-passes, passes-test}
 
 -- No cause to refuse the line is there but for limits and for what isn't built.
@@ -54,9 +54,16 @@ pub only-limits : (stage : Stage) (d : Declared) (s : Statement) (last : List (B
     → first_of (causes_with stage d s last) ≡ first_of (map passed last)
 only-limits stage d s last built r = rw (r.order, built, r.known, r.single, r.arity, r.bound) refl
 
+-- none of the first causes is there, nor of those after them
+pub none-first : (xs ys : List (Bool × Refusal)) → first_of (xs ++ ys) ≡ None → (first_of xs ≡ None) × (first_of ys ≡ None)
+none-first [] ys none = (refl, none)
+none-first (x ∷ xs) ys none = let both = passes-test x.0 _ _ none in let more = none-first xs ys both.1 in
+    (rw (both.0, more.0) refl, more.1)
+
 -- the line is built, and has no fault in the whole language
 pub no-fault : (stage : Stage) (d : Declared) (s : Statement) → fault_at stage d s ≡ None → (is_unbuilt stage s ≡ false) × IsFaultless d s
-no-fault stage d s e = let l = line_of s in let none = no-cause stage d s (faults.limits d s) e in let r : IsRight d s = none.1 in
+no-fault stage d s e = let l = line_of s in let first = none-first (causes_with stage d s (faults.limits d s)) _ e in
+    let none = no-cause stage d s (faults.limits d s) first.0 in let r : IsRight d s = none.1 in
     let k = passes-test (has_long_name d l) _ _ none.2 in let twice = or_parts (repeats_name d l) (repeats_itself d s) r.single in
     let is : IsFaultless d s = record {
       has_come = come (has_name l.word words_to_come) (has_name l.word stage) none.0;
@@ -75,6 +82,10 @@ no-fault stage d s e = let l = line_of s in let none = no-cause stage d s (fault
 
 -- each line that is built somewhere is built in the whole language
 whole-built : (stage : Stage) (s : Statement) → is_unbuilt stage s ≡ false → is_unbuilt whole_language s ≡ false
+whole-built stage (table n parameters) built = cc
+whole-built stage (step o ts) built = cc
+whole-built stage (goal xs) built = cc
+whole-built stage (proof parts) built = cc
 whole-built stage (save n) built = cc
 whole-built stage (certify n) built = cc
 whole-built stage (edit n source prefix ps) built = cc

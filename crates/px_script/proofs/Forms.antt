@@ -1,10 +1,10 @@
 -- The parser reads what stands in lines exactly: each spelling back, and nothing else. What a line in its form has.
-use Rattle.px_script.proofs.Common.{Binding, decimal, Lexeme, name, number, sign, Argument, Sign, WrittenAtom, SignedAtom, WrittenRoomEdit, named, bare, robot_to, door_to, spell, spell_argument, spell_sign, spell_atom, spell_room_edit, spell_binding, is_filled, is_parameter_number, parameter_name, open_word, with_commas, parenthesised, Statement, Line, line_of, is_word, Declared, Forms, begins_with_word, is_formed, is_signed, is_of_script, ◌≡◌, ℕ, zero, suc, ◌<◌, ◌≤◌, Bool, true, false, cond, not, ◌==◌, List, [], ◌∷◌, ◌++◌, map, length, drop, refl, ap, ◌∙◌, subst, arith, append_assoc, append-nil, eqb-true, length-append, ltb-true, nat_lt, Option, None, Some, codes, list_all, flat_map, option_map, option_and_then, IfSome, bytes_eq, digits_value, and_parts, not-true, bytes_eq-Decides, spell_pair}
+use Rattle.px_script.proofs.Common.{Binding, decimal, Lexeme, name, number, sign, Argument, Sign, WrittenAtom, SignedAtom, WrittenRoomEdit, named, bare, robot_to, door_to, spell, spell_argument, spell_sign, spell_atom, spell_room_edit, spell_binding, is_filled, is_parameter_number, parameter_name, open_word, with_commas, parenthesised, Statement, Line, line_of, is_word, Declared, Forms, begins_with_word, is_formed, is_signed, is_of_script, ◌≡◌, ℕ, zero, suc, ◌<◌, ◌≤◌, Bool, true, false, cond, not, ◌==◌, List, [], ◌∷◌, ◌++◌, map, length, drop, refl, ap, ◌∙◌, subst, arith, append_assoc, append-nil, eqb-true, length-append, ltb-true, nat_lt, Option, None, Some, codes, list_all, flat_map, option_map, option_and_then, IfSome, bytes_eq, digits_value, and_parts, not-true, bytes_eq-Decides, spell_pair, Part, a_fact, an_ancestor, an_axiom, spell_part, spell_terms, open_variable, anything}
 use Rattle.std.proofs.lemmas.Fmt.{decimal_is_IsNumeral}
 use Rattle.std.proofs.lemmas.Option.{IfSome_then}
 use Rattle.px_script.specs.Forms as spec
 use Rattle.px_script.proofs.Lists.{by_test}
-use Rattle.px_script.proofs.Parsing.{argument_of, items_after, items_at, all_within, all_of, atom_after, atom_at, sign_of, which, open_of, room_edit_at, parameter_of, binding_at, names_of, names_among, names_at, numbers_of, pair_at}
+use Rattle.px_script.proofs.Parsing.{argument_of, items_after, items_at, all_within, all_of, atom_after, atom_at, sign_of, which, open_of, room_edit_at, parameter_of, binding_at, names_of, names_among, names_at, numbers_of, pair_at, part_at, terms_at, terms_after, fact_at, ancestor_at, axiom_at, at_end}
 
 -- ---- what is said of an answer, if there is one
 
@@ -135,6 +135,27 @@ arguments-sound (sign s ∷ rest) = if-there _ _ _ (s == 40)
     opened e (b ∷ more) after read = rw (eqb-true s 40 e, read, append_assoc) refl
 arguments-sound _ = refl
 
+-- terms that were read, after their opening parenthesis
+opened : (lexemes : List Lexeme) (items : List Argument) (after : List Lexeme) → AreRead lexemes items after
+    → sign 40 ∷ lexemes ≡ spell_terms items ++ after
+opened lexemes [] after read = absurd read
+opened lexemes (b ∷ more) after read = rw (read, append_assoc) refl
+
+-- arguments to the end of a line
+pub arguments-all-again : (ts : List Argument)
+    → option_and_then at_end (items_at argument_of (parenthesised (map spell_argument ts) ++ [])) ≡ Some ts
+arguments-all-again ts = rw (arguments-again ts [] refl) refl
+
+pub arguments-all-sound : (lexemes : List Lexeme)
+    → IfSome (option_and_then at_end (items_at argument_of lexemes)) (λ ts. lexemes ≡ parenthesised (map spell_argument ts) ++ [])
+arguments-all-sound lexemes =
+    then-there _ at_end (items_at argument_of lexemes) (arguments-sound lexemes) (λ r is. ends r.0 r.1 is)
+  where
+    ends : (ts : List Argument) (after : List Lexeme) → lexemes ≡ parenthesised (map spell_argument ts) ++ after
+        → IfSome (at_end (ts, after)) (λ ts. lexemes ≡ parenthesised (map spell_argument ts) ++ [])
+    ends ts [] is = is
+    ends ts (y ∷ ys) is = tt
+
 names-spelled : (ns : List (List ℕ)) → (map spell_argument (map named ns) ≡ map name ns) × (names_among (map named ns) ≡ Some ns)
 names-spelled [] = (refl, refl)
 names-spelled (n ∷ ns) = let more = names-spelled ns in (ap (λ t. name n ∷ t) more.0, rw more.1 refl)
@@ -219,6 +240,34 @@ bindings-back =
 pub pairs-back : ReadsBack each pair_at spell_pair
 pairs-back = record { again = λ p rest good shut. refl; closed = λ p rest. refl; long = λ p. omega arith }
 
+terms-again : (ts : List Argument) (rest : List Lexeme) → terms_at (spell_terms ts ++ rest) ≡ Some (ts, rest)
+terms-again [] rest = refl
+terms-again (a ∷ more) rest = rw append_assoc (begun a more (items-again a more rest))
+  where
+    -- what begins with an argument doesn't begin with a closing parenthesis
+    begun : (a : Argument) (more : List Argument) {answer : Option (List Argument × List Lexeme)}
+        → items_after argument_of (with_commas (map spell_argument (a ∷ more)) ++ sign 41 ∷ rest) ≡ answer
+        → terms_after (with_commas (map spell_argument (a ∷ more)) ++ sign 41 ∷ rest) ≡ answer
+    begun (named n) [] e = e
+    begun (named n) (b ∷ more) e = e
+    begun (open_variable v) [] e = e
+    begun (open_variable v) (b ∷ more) e = e
+    begun anything [] e = e
+    begun anything (b ∷ more) e = e
+
+pub parts-back : ReadsBack each part_at spell_part
+parts-back = record { again = λ p rest good shut. again p rest shut; closed = λ p rest. (begins p rest).0; long = λ p. (begins p []).1 }
+  where
+    again : (p : Part) (rest : List Lexeme) → not_open rest ≡ true → part_at (spell_part p ++ rest) ≡ Some (p, rest)
+    again (a_fact j k x) rest shut = rw (atoms-back.again x rest refl shut) refl
+    again (an_ancestor k) rest shut = refl
+    again (an_axiom k place count ts) rest shut = rw (terms-again ts rest) refl
+
+    begins : (p : Part) (rest : List Lexeme) → (not_open (spell_part p ++ rest) ≡ true) × (0 < length (spell_part p))
+    begins (a_fact j k x) rest = (refl, omega arith)
+    begins (an_ancestor k) rest = (refl, omega arith)
+    begins (an_axiom k place count ts) rest = (refl, omega arith)
+
 -- ---- what is read is spelled so
 
 pub pair-sound : ReadsSpelled pair_at spell_pair
@@ -267,6 +316,42 @@ binding-sound (name p ∷ sign s ∷ name o ∷ rest) = if-there _ _ _ (s == 61)
 binding-sound (name p ∷ sign s ∷ rest) = if-there _ _ _ (s == 61) (λ e. tt) (λ e. tt)
 binding-sound _ = tt
 
+terms-after-sound : (lexemes : List Lexeme)
+    → IfSome (terms_after lexemes) (λ r. sign 40 ∷ lexemes ≡ spell_terms r.0 ++ r.1)
+terms-after-sound (sign s ∷ rest) = if-there _ _ _ (s == 41) (λ e. rw (eqb-true s 41 e) refl)
+    (λ e. IfSome_then (items_after argument_of (sign s ∷ rest)) (items-sound (sign s ∷ rest)) (λ r read. opened (sign s ∷ rest) r.0 r.1 read))
+terms-after-sound lexemes = IfSome_then (items_after argument_of lexemes) (items-sound lexemes) (λ r read. opened lexemes r.0 r.1 read)
+
+terms-sound : (lexemes : List Lexeme) → IfSome (terms_at lexemes) (λ r. lexemes ≡ spell_terms r.0 ++ r.1)
+terms-sound (sign s ∷ rest) = if-there _ _ _ (s == 40) (λ e. IfSome_then (terms_after rest) (terms-after-sound rest)
+    (λ r is. ap (λ t. sign t ∷ rest) (eqb-true s 40 e) ∙ is)) (λ e. tt)
+terms-sound _ = tt
+
+fact-sound : (lexemes : List Lexeme) → IfSome (fact_at lexemes) (λ front. name (codes "f") ∷ lexemes ≡ spell_part front.0 ++ front.1)
+fact-sound (number j ∷ number k ∷ rest) =
+    map-there _ _ (atom_at rest) (atom-sound rest) (λ front is. ap (λ t. name (codes "f") ∷ number j ∷ number k ∷ t) is)
+fact-sound (number j ∷ _) = tt
+fact-sound _ = tt
+
+ancestor-sound : (lexemes : List Lexeme)
+    → IfSome (ancestor_at lexemes) (λ front. name (codes "a") ∷ lexemes ≡ spell_part front.0 ++ front.1)
+ancestor-sound (number k ∷ rest) = refl
+ancestor-sound _ = tt
+
+axiom-sound : (lexemes : List Lexeme) → IfSome (axiom_at lexemes) (λ front. name (codes "s") ∷ lexemes ≡ spell_part front.0 ++ front.1)
+axiom-sound (number k ∷ number place ∷ number count ∷ rest) = map-there _ _ (terms_at rest) (terms-sound rest)
+    (λ front is. ap (λ t. name (codes "s") ∷ number k ∷ number place ∷ number count ∷ t) is)
+axiom-sound (number k ∷ number place ∷ _) = tt
+axiom-sound (number k ∷ _) = tt
+axiom-sound _ = tt
+
+pub part-sound : ReadsSpelled part_at spell_part
+part-sound (name w ∷ rest) =
+    if-there _ _ _ (bytes_eq w (codes "f")) (λ e. rw (same_word w (codes "f") e) (fact-sound rest))
+    (λ e. if-there _ _ _ (bytes_eq w (codes "a")) (λ e. rw (same_word w (codes "a") e) (ancestor-sound rest))
+    (λ e. if-there _ _ _ (bytes_eq w (codes "s")) (λ e. rw (same_word w (codes "s") e) (axiom-sound rest)) (λ e. tt)))
+part-sound _ = tt
+
 -- ---- the whole line
 
 -- what a line in its form has, one by one
@@ -291,6 +376,9 @@ atoms-again xs = all-again each atom_at spell_atom atoms-back xs (all-each xs)
 
 pub edits-again : (es : List WrittenRoomEdit) → all_of room_edit_at (flat_map spell_room_edit es ++ []) ≡ Some es
 edits-again es = all-again each room_edit_at spell_room_edit room-edits-back es (all-each es)
+
+pub parts-again : (parts : List Part) → all_of part_at (flat_map spell_part parts ++ []) ≡ Some parts
+parts-again parts = all-again each part_at spell_part parts-back parts (all-each parts)
 
 pub pairs-again : (ps : List (ℕ × ℕ)) → all_of pair_at (flat_map spell_pair ps ++ []) ≡ Some ps
 pairs-again ps = all-again each pair_at spell_pair pairs-back ps (all-each ps)

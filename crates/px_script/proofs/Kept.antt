@@ -5,7 +5,7 @@ use Rattle.std.specs.List.Sorted.{IsStrictlySortedBy}
 use Rattle.px_base.specs.Bounds.{u32_max}
 use Rattle.px_rooms.proofs.Valid.{buildings_are_valid}
 use Rattle.px_rooms.proofs.Belonging.{facts-are-atoms}
-use Rattle.px_script.proofs.Common.{both_ways, building_problem, robot_name, room_schemas, building_rules, thing_at, no_schema, ◌≡◌, ◌≢◌, ℕ, suc, ◌+◌, ◌<◌, ◌≤◌, ◌==◌, Bool, true, false, not, ◌||◌, List, [], ◌∷◌, ◌++◌, map, length, refl, sym, ap, ◌∙◌, subst, arith, leb-true, append-nil, length-append, nat_lt, Option, None, Some, is_some, IfSome, All, slice_index_or, list_any, option_map, not-false, not-true, length-map, All-append, All-map, All-from_recursion, All-nil, cases_lt, inl, inr, range_with_len, slice_index, if◌then◌else◌, both_answers, has_name, bytes_eq, bytes_eq-itself, Standing, a_room, a_door, a_box, IsBoxAt, IsDoorAt, IsRoomAt, first_state, rendering, robot_rooms, standings, standings-more, Atom, Problem, IsAtomOf, IsPatternOf, Thing, codes, All-push, NameLists, IsSchemaOf, Lexeme, lines_of, SignedAtom, is_empty, Statement, Block, plain, inside, operator_block, building_block, line_of, script, object, predicate, «axiom», operator, pre, delete, add, building, room, door, box, robot, end, fact, height, nodes, shapes, plan, learn, show, disturb_atoms, disturb_rooms, run, sort, param, filled_up, with_sort, greatest, of_height, of_nodes, of_shapes, of_version, Command, Declared, OpenBlock, BlockKind, OpenOperator, of_operator, of_building, kind_of_block, number_in, atom_of, nothing_declared, after_line, predicate_names, predicate_arities, operator_names, ScriptValue, own_problem, content_of, is_robot, may_stand, is_long, repeats, same_block, has_two_domains, fault_at, is_formed, AreNamesOf, AreNumbered, HasShortLists, IsInRange, IsThingAfter, PassesLexemes, PassAll, IsScript, IsBuiltCommand, IsOfStage, Stage, whole_language, is_built, facts, get_or-append, duo, save, certify, edit, pursue}
+use Rattle.px_script.proofs.Common.{both_ways, building_problem, robot_name, room_schemas, building_rules, thing_at, no_schema, ◌≡◌, ◌≢◌, ℕ, suc, ◌+◌, ◌<◌, ◌≤◌, ◌==◌, Bool, true, false, not, ◌||◌, List, [], ◌∷◌, ◌++◌, map, length, refl, sym, ap, ◌∙◌, subst, arith, leb-true, append-nil, length-append, nat_lt, Option, None, Some, is_some, IfSome, All, slice_index_or, list_any, option_map, not-false, not-true, length-map, All-append, All-map, All-from_recursion, All-nil, cases_lt, inl, inr, range_with_len, slice_index, if◌then◌else◌, both_answers, has_name, bytes_eq, bytes_eq-itself, Standing, a_room, a_door, a_box, IsBoxAt, IsDoorAt, IsRoomAt, first_state, rendering, robot_rooms, standings, standings-more, Atom, Problem, IsAtomOf, IsPatternOf, Thing, codes, All-push, NameLists, IsSchemaOf, Lexeme, lines_of, SignedAtom, is_empty, Statement, Block, plain, inside, operator_block, building_block, line_of, script, object, predicate, «axiom», operator, pre, delete, add, building, room, door, box, robot, end, fact, height, nodes, shapes, plan, learn, show, disturb_atoms, disturb_rooms, run, sort, param, filled_up, with_sort, greatest, of_height, of_nodes, of_shapes, of_version, Command, Declared, OpenBlock, BlockKind, OpenOperator, of_operator, of_building, kind_of_block, number_in, atom_of, nothing_declared, after_line, predicate_names, predicate_arities, operator_names, ScriptValue, own_problem, content_of, is_robot, may_stand, is_long, repeats, same_block, has_two_domains, fault_at, is_formed, AreNamesOf, AreNumbered, HasShortLists, IsInRange, IsThingAfter, PassesLexemes, PassAll, IsScript, IsBuiltCommand, IsOfStage, Stage, whole_language, is_built, facts, get_or-append, duo, save, certify, edit, pursue, table, step, goal, proof, WrittenTable, table_closed, table_in}
 use Rattle.px_world.specs.declared.thing.Thing.TheVariants as thing
 use Rattle.px_script.specs.Limits as limit
 use Rattle.px_script.proofs.Atoms.{atoms-right, atoms-with, patterns-with, AreRight}
@@ -98,11 +98,11 @@ module _ (n : ℕ) (d : Declared) (line : ℕ) (o : OpenOperator) where
       assumption (still-none c r, in-version c r, old, each, shorts, operators-named d.version d.names q d.things counts)
 
 -- another block than an operator's is closed
-end-other : (d : Declared) (line : ℕ) (kind : BlockKind) → AreInRange (record d { block = Some (record { line = line; kind = kind }) })
+end-other : (d : Declared) (line : ℕ) (kind : BlockKind) (tables : List WrittenTable) → AreInRange (record d { block = Some (record { line = line; kind = kind }) })
     → OperatorsInRange d.version d.names (own_problem d) d.things None → IfSome d.things (λ things. list_any is_robot things ≡ true)
-    → AreInRange (record d { schemas = d.schemas ++ []; block = None; own_domain = d.own_domain || false; begun = true })
-end-other d line kind r operators has_robot =
-    let closed = record d { block = None; own_domain = d.own_domain || false; begun = true } in
+    → AreInRange (record d { schemas = d.schemas ++ []; tables = tables; block = None; own_domain = d.own_domain || false; begun = true })
+end-other d line kind tables r operators has_robot =
+    let closed = record d { tables = tables; block = None; own_domain = d.own_domain || false; begun = true } in
     subst (λ schemas. AreInRange (record closed { schemas = schemas })) (sym (append-nil d.schemas))
     (assumption (
       still-none (record d { block = Some (record { line = line; kind = kind }) }) r,
@@ -300,9 +300,10 @@ end-kept n d (Some block) things = by_kind block.line block.kind things
         → IsKept n d end (Some (record { line = line; kind = kind })) things
     by_kind line (of_operator o) things = end-operator n (record d { things = things }) line o
     by_kind line of_building (Some things) =
-        λ r f. end-other (record d { things = Some things }) line of_building r tt (not-false _ f.order.robot)
+        λ r f. end-other (record d { things = Some things }) line of_building (d.tables ++ []) r tt (not-false _ f.order.robot)
     by_kind line of_building None = λ r f. let no = r.block in cc
-    by_kind line kind things = λ r f. end-other (record d { things = things }) line kind r r.operators r.block
+    by_kind line kind things = λ r f.
+        end-other (record d { things = things }) line kind (d.tables ++ table_closed (table_in kind)) r r.operators r.block
 
 -- ---- all lines
 
@@ -361,6 +362,10 @@ module _ (n : ℕ) (d : Declared) where
   line-kept r (run name bs) w = outside _ (λ b. refl) d.block d.things (λ r. run-kept n d r name bs w.filled) r
   line-kept r (duo one other ns) w = outside _ (λ b. refl) d.block d.things (λ r. duo-kept n d r one other ns w.filled) r
   line-kept r facts w = outside _ (λ b. refl) d.block d.things (λ r. facts-kept n d r) r
+  line-kept r (table name parameters) w = λ f. let no = f.has_come in cc
+  line-kept r (step o ts) w = λ f. let no = f.has_come in cc
+  line-kept r (goal xs) w = λ f. let no = f.has_come in cc
+  line-kept r (proof parts) w = λ f. let no = f.has_come in cc
   line-kept r (save name) w = λ f. let no = f.has_come in cc
   line-kept r (certify name) w = λ f. let no = f.has_come in cc
   line-kept r (edit name source prefix ps) w = λ f. let no = f.has_come in cc

@@ -1,5 +1,5 @@
 -- A plain parser of what stands in lines.
-use Rattle.px_script.proofs.Common.{ℕ, Bool, true, false, List, [], ◌∷◌, length, drop, Option, None, Some, codes, if◌then◌else◌, ◌==◌, zero, suc, option_map, option_and_then, bytes_eq, digits_value, Lexeme, name, variable, number, sign, Argument, Sign, SignedAtom, WrittenRoomEdit, Binding, named, open_variable, anything, bare, negated, added, removed, robot_to, box_to, door_to, parameter_name, is_parameter_number}
+use Rattle.px_script.proofs.Common.{ℕ, Bool, true, false, List, [], ◌∷◌, length, drop, Option, None, Some, codes, if◌then◌else◌, ◌==◌, zero, suc, option_map, option_and_then, bytes_eq, digits_value, Lexeme, name, variable, number, sign, Argument, Sign, SignedAtom, WrittenRoomEdit, Binding, named, open_variable, anything, bare, negated, added, removed, robot_to, box_to, door_to, parameter_name, is_parameter_number, Part, a_fact, an_ancestor, an_axiom}
 
 abbrev pub argument_of : Lexeme → Option Argument
 argument_of (name n) = Some (named n)
@@ -109,6 +109,33 @@ binding_at =
 -- N=N
 abbrev pub pair_at : List Lexeme → Option ((ℕ × ℕ) × List Lexeme)
 pair_at = after_number (λ n. after_sign 61 (after_number (λ m rest. Some ((n, m), rest))))
+
+-- terms up to a closing parenthesis, and what follows it
+abbrev pub terms_after : List Lexeme → Option (List Argument × List Lexeme)
+terms_after (sign s ∷ rest) = if s == 41 then Some ([], rest) else items_after argument_of (sign s ∷ rest)
+terms_after rest = items_after argument_of rest
+
+-- terms in parentheses, and what follows
+abbrev pub terms_at : List Lexeme → Option (List Argument × List Lexeme)
+terms_at = after_sign 40 terms_after
+
+abbrev pub fact_at : List Lexeme → Option (Part × List Lexeme)
+fact_at = after_number (λ j. after_number (λ k rest. option_map (λ front. (a_fact j k front.0, front.1)) (atom_at rest)))
+
+abbrev pub ancestor_at : List Lexeme → Option (Part × List Lexeme)
+ancestor_at = after_number (λ k rest. Some (an_ancestor k, rest))
+
+abbrev pub axiom_at : List Lexeme → Option (Part × List Lexeme)
+axiom_at = after_number (λ k. after_number (λ place. after_number (λ count rest.
+    option_map (λ front. (an_axiom k place count front.0, front.1)) (terms_at rest))))
+
+abbrev pub part_for : List ℕ → List Lexeme → Option (Part × List Lexeme)
+part_for w rest = if bytes_eq w (codes "f") then fact_at rest
+    else (if bytes_eq w (codes "a") then ancestor_at rest else (if bytes_eq w (codes "s") then axiom_at rest else None))
+
+-- what a proof begins with
+abbrev pub part_at : List Lexeme → Option (Part × List Lexeme)
+part_at = after_name part_for
 
 abbrev pub names_of : List Lexeme → Option (List (List ℕ))
 names_of [] = Some []

@@ -1,15 +1,15 @@
 -- The reader by the table reads exactly the forms of lines: each spelling back, and nothing else.
-use Rattle.px_script.proofs.Common.{◌≡◌, ℕ, Bool, true, false, List, [], ◌∷◌, ◌++◌, map, length, drop, refl, sym, ap, ◌∙◌, subst, append_assoc, append-nil, flat_map-append, Option, None, Some, is_some, codes, AllByRecursion, list_any, flat_map, option_map, option_and_then, IfSome, bytes_eq, if◌then◌else◌, ◌||◌, ◌==◌, not-true, and_parts, Lexeme, name, number, SignedAtom, spell, spell_atom, spell_binding, spell_room_edit, open_word, time_word, is_word, Line, line_of, spelling, Declared, has_building, Forms, is_formed, Statement, inside, plain, goals, atom_changes, operator_block, building_block, script, «axiom», pre, delete, add, building, door, end, fact, height, nodes, shapes, disturb_atoms, disturb_rooms, run, facts, duo, spell_pair, save, certify, edit}
-use Rattle.px_script.specs.Items.{Item, the, amount, amounts, new, declared, listed, known, wanted, atoms, bindings, room_edits, an_object, a_predicate, an_operator, a_parameter, a_sort, a_room as room_name, a_door as door_name, a_box as box_name, a_plan, a_table, pairs, a_result}
+use Rattle.px_script.proofs.Common.{◌≡◌, ℕ, Bool, true, false, List, [], ◌∷◌, ◌++◌, map, length, drop, refl, sym, ap, ◌∙◌, subst, append_assoc, append-nil, flat_map-append, Option, None, Some, is_some, codes, AllByRecursion, list_any, flat_map, option_map, option_and_then, IfSome, bytes_eq, if◌then◌else◌, ◌||◌, ◌==◌, not-true, and_parts, Lexeme, name, number, SignedAtom, spell, spell_atom, spell_binding, spell_room_edit, open_word, time_word, is_word, Line, line_of, spelling, Declared, has_building, Forms, is_formed, Statement, inside, plain, goals, atom_changes, operator_block, building_block, script, «axiom», pre, delete, add, building, door, end, fact, height, nodes, shapes, disturb_atoms, disturb_rooms, run, facts, duo, spell_pair, save, certify, edit, table, step, goal, proof, spell_part, table_terms, table_goals, table_steps, table_rows}
+use Rattle.px_script.specs.Items.{Item, the, amount, amounts, new, declared, listed, known, wanted, atoms, bindings, room_edits, an_object, a_predicate, an_operator, a_parameter, a_sort, a_room as room_name, a_door as door_name, a_box as box_name, a_plan, a_table, pairs, a_result, arguments, proofs}
 use Rattle.px_script.specs.Statements.{room_changes, line, spelling_of, domain, opens, command}
 use Rattle.px_script.specs.declared.kinds.One.{One}
 use Rattle.px_script.specs.declared.kinds.One.TheVariants as one
 use Rattle.px_script.specs.declared.kinds.Last.{Last}
 use Rattle.px_script.specs.declared.kinds.Last.TheVariants as last
 use Rattle.px_script.proofs.Lists.{by_test}
-use Rattle.px_script.proofs.Parsing.{names_of, names_at, at_end, all_of, atom_at, binding_at, room_edit_at, which, numbers_of, pair_at}
-use Rattle.px_script.proofs.Rows.{Row, Entry, chosen, one_of, ones_at, last_at, row_items, entries, entries_of_all, entries_of_two, is_of, entry_among, entry_of, row_of, filled, make_number, make_object, make_predicate, make_operator, make_atoms, make_nothing, make_room, make_door, make_box, make_robot, make_plan, make_learn, make_show, make_disturb, make_run, make_sort, make_param, line_by, line_at, formed_only, formed_line, statement_of, parse, disturb_row, make_duo, make_of_table, make_edit, make_pursue}
-use Rattle.px_script.proofs.Forms.{IsWellFormed, well-formed, then-there, map-there, if-there, same_word, there, all-sound, names-again, names-sound, names-at-sound, parameters-again, which-sound, atoms-again, edits-again, bindings-again, atom-sound, binding-sound, room-edit-sound, numbers-again, numbers-sound, pairs-again, pair-sound}
+use Rattle.px_script.proofs.Parsing.{names_of, names_at, at_end, all_of, atom_at, binding_at, room_edit_at, which, numbers_of, pair_at, items_at, argument_of, part_at}
+use Rattle.px_script.proofs.Rows.{Row, Entry, chosen, one_of, ones_at, last_at, row_items, entries, entries_of_all, entries_of_two, is_of, entry_among, entry_of, row_of, filled, make_number, make_object, make_predicate, make_operator, make_atoms, make_nothing, make_room, make_door, make_box, make_robot, make_plan, make_learn, make_show, make_disturb, make_run, make_sort, make_param, line_by, line_at, formed_only, formed_line, statement_of, parse, disturb_row, make_duo, make_of_table, make_edit, make_pursue, make_table, make_step, make_proof}
+use Rattle.px_script.proofs.Forms.{IsWellFormed, well-formed, then-there, map-there, if-there, same_word, there, all-sound, names-again, names-sound, names-at-sound, parameters-again, which-sound, atoms-again, edits-again, bindings-again, atom-sound, binding-sound, room-edit-sound, numbers-again, numbers-sound, pairs-again, pair-sound, part-sound, parts-again, arguments-all-sound, arguments-all-again}
 
 -- ---- what is read by a row is spelled so: once for all words
 
@@ -49,6 +49,10 @@ last-sound last.Bindings xs = map-there _ _ (all_of binding_at xs) (all-sound bi
     (λ items is. is ∙ sym (append-nil (flat_map spell_binding items)))
 last-sound last.Pairs xs = map-there _ _ (all_of pair_at xs) (all-sound pair_at spell_pair pair-sound (length xs) xs)
     (λ items is. is ∙ sym (append-nil (flat_map spell_pair items)))
+last-sound last.Arguments xs = map-there _ _ (option_and_then at_end (items_at argument_of xs)) (arguments-all-sound xs)
+    (λ items is. is)
+last-sound last.Proofs xs = map-there _ _ (all_of part_at xs) (all-sound part_at spell_part part-sound (length xs) xs)
+    (λ items is. is ∙ sym (append-nil (flat_map spell_part items)))
 last-sound last.RoomEdits xs =
     map-there _ _ (all_of room_edit_at xs) (all-sound room_edit_at spell_room_edit room-edit-sound (length xs) xs)
     (λ items is. is ∙ sym (append-nil (flat_map spell_room_edit items)))
@@ -215,6 +219,18 @@ made-duo : Makes make_duo (line (codes "duo") command plain)
 made-duo (wanted a_table (one ∷ []) ∷ wanted a_table (other ∷ []) ∷ amounts ns ∷ []) = refl
 made-duo _ = tt
 
+made-table : Makes make_table (line (codes "table") (opens table_steps) plain)
+made-table (declared a_table (n ∷ []) ∷ amounts (parameters ∷ []) ∷ []) = refl
+made-table _ = tt
+
+made-step : Makes make_step (line (codes "step") (inside table_steps) table_terms)
+made-step (wanted an_operator (o ∷ []) ∷ arguments ts ∷ []) = refl
+made-step _ = tt
+
+made-proof : Makes make_proof (line (codes "proof") (inside table_rows) table_terms)
+made-proof (proofs parts ∷ []) = refl
+made-proof _ = tt
+
 made-of-table : (f : List ℕ → Statement) (l : List Item → Line) → ((n : List ℕ) → line_of (f n) ≡ l (known a_table n ∷ []))
     → Makes (make_of_table f) l
 made-of-table f l is (wanted a_table (n ∷ []) ∷ []) = is n
@@ -238,8 +254,9 @@ all-made b = also (made-number script _ (λ n. refl)) (also made-object (also ma
     (also (made-nothing building _ refl) (also made-room (also made-door (also made-box (also made-robot (also (made-nothing end _ refl)
     (also (made-atoms fact _ (λ xs. refl)) (also (made-number height _ (λ n. refl)) (also (made-number nodes _ (λ n. refl)) (also
     (made-number shapes _ (λ n. refl)) (also made-plan (also made-learn (also made-show (also (made-disturb b) (also made-run (also
-    (made-nothing facts _ refl) (also made-sort (also made-param (also (made-of-table save _ (λ n. refl))
-    (also (made-of-table certify _ (λ n. refl)) (also made-edit (also made-duo (also made-pursue tt))))))))))))))))))))))))))))))
+    (made-nothing facts _ refl) (also made-sort (also made-param (also made-table (also made-step
+    (also (made-atoms goal _ (λ xs. refl)) (also made-proof (also (made-of-table save _ (λ n. refl)) (also (made-of-table certify _ (λ n. refl))
+    (also made-edit (also made-duo (also made-pursue tt))))))))))))))))))))))))))))))))))
 
 -- the row of a word is the row of its own word
 pub has-row : (b : Bool) (w : List ℕ) → IfSome (row_of b w) (λ r. row_of b r.word ≡ Some r)
@@ -267,6 +284,8 @@ line-again d (disturb_rooms turn true es) formed = rw (formed.of_script, edits-a
 line-again d (disturb_rooms turn false es) formed = rw (formed.of_script, edits-again es) refl
 line-again d (duo one other ns) formed = rw (numbers-again ns) refl
 line-again d (run n bs) formed = rw (bindings-again bs (and_parts _ true formed.filled).0) refl
+line-again d (step o ts) formed = rw (arguments-all-again ts) refl
+line-again d (proof parts) formed = rw (parts-again parts) refl
 line-again d (edit n source prefix ps) formed = rw (pairs-again ps) refl
 line-again d _ formed = search (names-again, atoms-again, parameters-again)
 

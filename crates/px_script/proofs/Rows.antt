@@ -1,6 +1,6 @@
 -- The table of the words: what each line has in which order; a plain reader by the table, and the statement that items are.
-use Rattle.px_script.proofs.Common.{SignedAtom, ℕ, Bool, true, false, List, [], ◌∷◌, ◌++◌, length, drop, Option, None, Some, codes, if◌then◌else◌, ◌||◌, ◌==◌, bytes_eq, option_map, option_and_then, Lexeme, name, number, Manner, Place, Line, Declared, has_building, is_formed, Statement, inside, plain, patterns, literals, goals, atom_changes, operator_block, building_block, script, object, predicate, «axiom», operator, pre, delete, add, building, room, door, box, robot, end, fact, height, nodes, shapes, plan, learn, show, disturb_atoms, disturb_rooms, run, facts, sort, param, duo, save, certify, edit, pursue}
-use Rattle.px_script.specs.Items.{Item, the, amount, amounts, new, declared, listed, known, wanted, atoms, bindings, room_edits, an_object, a_predicate, an_operator, a_parameter, a_sort, a_room as room_name, a_door as door_name, a_box as box_name, a_plan, a_table, pairs, a_result}
+use Rattle.px_script.proofs.Common.{SignedAtom, ℕ, Bool, true, false, List, [], ◌∷◌, ◌++◌, length, drop, Option, None, Some, codes, if◌then◌else◌, ◌||◌, ◌==◌, bytes_eq, option_map, option_and_then, Lexeme, name, number, Manner, Place, Line, Declared, has_building, is_formed, Statement, inside, plain, patterns, literals, goals, atom_changes, operator_block, building_block, script, object, predicate, «axiom», operator, pre, delete, add, building, room, door, box, robot, end, fact, height, nodes, shapes, plan, learn, show, disturb_atoms, disturb_rooms, run, facts, sort, param, duo, save, certify, edit, pursue, table, step, goal, proof, table_terms, table_goals, table_steps, table_rows}
+use Rattle.px_script.specs.Items.{Item, the, amount, amounts, new, declared, listed, known, wanted, atoms, bindings, room_edits, an_object, a_predicate, an_operator, a_parameter, a_sort, a_room as room_name, a_door as door_name, a_box as box_name, a_plan, a_table, pairs, a_result, arguments, proofs}
 use Rattle.px_script.specs.Statements.{room_changes, line, first, domain, setting, opens, closes, command}
 use Rattle.px_script.specs.declared.kinds.Choice.{Choice}
 use Rattle.px_script.specs.declared.kinds.Choice.TheVariants as choice
@@ -8,7 +8,7 @@ use Rattle.px_script.specs.declared.kinds.One.{One}
 use Rattle.px_script.specs.declared.kinds.One.TheVariants as one
 use Rattle.px_script.specs.declared.kinds.Last.{Last}
 use Rattle.px_script.specs.declared.kinds.Last.TheVariants as last
-use Rattle.px_script.proofs.Parsing.{names_of, names_at, at_end, all_of, atom_at, binding_at, room_edit_at, open_of, time_of, nothing_form, numbers_of, pair_at}
+use Rattle.px_script.proofs.Parsing.{names_of, names_at, at_end, all_of, atom_at, binding_at, room_edit_at, open_of, time_of, nothing_form, numbers_of, pair_at, items_at, argument_of, part_at}
 
 pub record Row : Type 0 where
   pub word : List ℕ
@@ -61,6 +61,8 @@ last_at last.Numbers lexemes = option_map (λ ns. amounts ns ∷ []) (numbers_of
 last_at last.Atoms lexemes = option_map (λ xs. atoms xs ∷ []) (all_of atom_at lexemes)
 last_at last.Bindings lexemes = option_map (λ bs. bindings bs ∷ []) (all_of binding_at lexemes)
 last_at last.Pairs lexemes = option_map (λ ps. pairs ps ∷ []) (all_of pair_at lexemes)
+last_at last.Arguments lexemes = option_map (λ ts. arguments ts ∷ []) (option_and_then at_end (items_at argument_of lexemes))
+last_at last.Proofs lexemes = option_map (λ parts. proofs parts ∷ []) (all_of part_at lexemes)
 last_at last.RoomEdits lexemes = option_map (λ es. room_edits es ∷ []) (all_of room_edit_at lexemes)
 
 abbrev pub row_items : Row → List Lexeme → Option (List Item)
@@ -152,6 +154,18 @@ abbrev pub make_duo : List Item → Option Statement
 make_duo (wanted a_table (one ∷ []) ∷ wanted a_table (other ∷ []) ∷ amounts ns ∷ []) = Some (duo one other ns)
 make_duo _ = None
 
+abbrev pub make_table : List Item → Option Statement
+make_table (declared a_table (n ∷ []) ∷ amounts (parameters ∷ []) ∷ []) = Some (table n parameters)
+make_table _ = None
+
+abbrev pub make_step : List Item → Option Statement
+make_step (wanted an_operator (o ∷ []) ∷ arguments ts ∷ []) = Some (step o ts)
+make_step _ = None
+
+abbrev pub make_proof : List Item → Option Statement
+make_proof (proofs parts ∷ []) = Some (proof parts)
+make_proof _ = None
+
 -- what names a table alone
 abbrev pub make_of_table : (List ℕ → Statement) → List Item → Option Statement
 make_of_table f (wanted a_table (n ∷ []) ∷ []) = Some (f n)
@@ -212,6 +226,10 @@ entries_of_all b =
 abbrev pub entries_of_two : List Entry
 entries_of_two = entry (newer (row (codes "sort") domain plain (one.New a_sort ∷ []) (last.New an_object))) make_sort
     ∷ entry (newer (row (codes "param") (inside operator_block) plain (one.Known a_sort ∷ []) (last.Known a_parameter))) make_param
+    ∷ entry (newer (row (codes "table") (opens table_steps) plain (one.New a_table ∷ one.Number ∷ []) last.Nothing)) make_table
+    ∷ entry (newer (row (codes "step") (inside table_steps) table_terms (one.Known an_operator ∷ []) last.Arguments)) make_step
+    ∷ entry (newer (row (codes "goal") (inside table_steps) table_goals [] last.Atoms)) (make_atoms goal)
+    ∷ entry (newer (row (codes "proof") (inside table_rows) table_terms [] last.Proofs)) make_proof
     ∷ entry (newer (row (codes "save") command plain (one.Known a_table ∷ []) last.Nothing)) (make_of_table save)
     ∷ entry (newer (row (codes "certify") command plain (one.Known a_table ∷ []) last.Nothing)) (make_of_table certify)
     ∷ entry (newer (row (codes "edit") command plain
@@ -226,6 +244,9 @@ entries b = entries_of_all b ++ entries_of_two
 abbrev pub entry_among : List ℕ → List Entry → Option Entry
 entry_among w [] = None
 entry_among w (e ∷ more) = if bytes_eq w e.row.word then Some e else entry_among w more
+
+abbrev pub row_among : List ℕ → List Entry → Option Row
+row_among w es = option_map (λ e. e.row) (entry_among w es)
 
 abbrev pub entry_of : Bool → List ℕ → Option Entry
 entry_of b w = entry_among w (entries b)

@@ -8,6 +8,7 @@ pub use Rattle.px_terms.specs.Validity.{IsTermOf, IsPatternTermOf, IsAtomOf, IsV
 pub use Rattle.px_terms.specs.declared.atom.Atom.{Atom}
 pub use Rattle.px_terms.specs.declared.clause.Clause.{Clause}
 pub use Rattle.px_terms.specs.declared.clause.Lit.{Lit}
+pub use Rattle.px_terms.specs.declared.instance.OpInst.{OpInst}
 pub use Rattle.px_terms.specs.declared.problem.Problem.{Problem}
 pub use Rattle.px_terms.specs.declared.problem.Schema.{Schema}
 pub use Rattle.px_terms.specs.declared.term.Term.{Term}

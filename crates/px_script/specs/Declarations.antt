@@ -1,15 +1,20 @@
 -- What the lines so far have declared, and what a line adds.
-use Rattle.std.specs.Prelude.{ℕ, ◌+◌, ◌-◌, Bool, true, false, List, [], ◌∷◌, ◌++◌, map, length, replicate, Option, None, Some, is_some, position, unwrap_or, if◌then◌else◌, fold, ◌||◌, slice_index, slice_index_or}
+use Rattle.std.specs.Prelude.{ℕ, ◌+◌, ◌-◌, Bool, true, false, List, [], ◌∷◌, ◌++◌, map, length, replicate, Option, None, Some, is_some, position, unwrap_or, if◌then◌else◌, fold, ◌||◌, slice_index, slice_index_or, take, drop, max}
+use Rattle.std.specs.Fmt.{decimal}
 use Rattle.std.specs.List.{flat_map, range_with_len}
 use Rattle.std.specs.Option.{option_map}
 use Rattle.std.specs.Str.{bytes_eq}
 use Rattle.px_terms.specs.Problems.{schema_without_sorts}
-use Rattle.px_script.specs.Common.{Clause, NameLists, no_names, has_name, RoomOperator, RoomPredicate, robot_name, room_operators, room_predicates, Atom, Lit, Schema, Term, Obj, Var, Any, atom_set, AtomEdit, RoomEdit, Thing}
+use Rattle.px_script.specs.Common.{Clause, NameLists, no_names, has_name, RoomOperator, RoomPredicate, robot_name, room_operators, room_predicates, Atom, Lit, Schema, Term, Obj, Var, Any, atom_set, AtomEdit, RoomEdit, Thing, OpInst}
+use Rattle.px_proof.specs.Derivation as derivation
+use Rattle.px_proof.specs.Derivation.{Derivation, derivations}
 use Rattle.px_world.specs.declared.edits.AtomEdit.TheVariants as atom_edit
 use Rattle.px_world.specs.declared.edits.RoomEdit.TheVariants as room_edit
 use Rattle.px_world.specs.declared.thing.Thing.TheVariants as thing
-use Rattle.px_script.specs.Items.{Named, Argument, SignedAtom, Sign, WrittenRoomEdit, Binding, named, open_variable, anything, bare, added, robot_to, box_to, door_to, declared_in, an_object, a_predicate, an_operator, a_result, a_parameter, a_sort, a_room, a_door, a_box, a_plan, a_table}
-use Rattle.px_script.specs.Statements.{Statement, Line, Place, Block, line_of, domain, opens, operator_block, building_block, table_steps, table_rows, script, object, predicate, «axiom», operator, pre, delete, add, building, room, door, box, robot, end, fact, height, nodes, shapes, plan, learn, show, disturb_atoms, disturb_rooms, run, facts, sort, param, duo, save, certify, edit, pursue}
+use Rattle.px_script.specs.Items.{Named, Argument, SignedAtom, Sign, WrittenRoomEdit, Binding, named, open_variable, anything, bare, added, robot_to, box_to, door_to, declared_in, an_object, a_predicate, an_operator, a_result, a_parameter, a_sort, a_room, a_door, a_box, a_plan, a_table, Part, a_fact, an_ancestor, an_axiom}
+use Rattle.px_script.specs.Statements.{Statement, Line, Place, Block, line_of, domain, opens, operator_block, building_block, table_steps, table_rows, script, object, predicate, «axiom», operator, pre, delete, add, building, room, door, box, robot, end, fact, height, nodes, shapes, plan, learn, show, disturb_atoms, disturb_rooms, run, facts, sort, param, duo, save, certify, edit, pursue, table, step, goal, proof}
+use Rattle.px_script.specs.Limits as limit
+use Rattle.px_script.specs.Limits.{greatest}
 use Rattle.px_script.specs.Commands.{Command, Plan, Learn, Show, DisturbAtoms, DisturbRooms, Run, Facts, Duo}
 
 -- the operator whose block is open: its parameters' names, and its schema so far
@@ -17,15 +22,21 @@ pub record OpenOperator : Type 0 where
   pub parameters : List (List ℕ)
   pub schema : Schema
 
--- the table whose block is open: how many parameters it has
-pub record OpenTable : Type 0 where
+-- a table of the script, as far as its lines stood: the number of its name, how many parameters it has, its steps, its goal with the
+-- greatest number of a variable of it, and the proofs of its rows
+pub record WrittenTable : Type 0 where
+  pub name : ℕ
   pub parameters : ℕ
+  pub steps : List OpInst
+  pub goal : List Atom
+  pub goal_vars : ℕ
+  pub rows : List (List Derivation)
 
 -- A table's block, of version 2, is one of steps up to its goal, and one of rows after it.
 pub data BlockKind : Type 0 where
   of_operator : OpenOperator → BlockKind
   of_building : BlockKind
-  of_table_steps of_table_rows : OpenTable → BlockKind
+  of_table_steps of_table_rows : WrittenTable → BlockKind
 
 -- a block that isn't closed, and the line that opened it
 pub record OpenBlock : Type 0 where
@@ -57,6 +68,8 @@ pub record Declared : Type 0 where
   pub height : Option ℕ
   pub nodes : Option ℕ
   pub shapes : Option ℕ
+  -- the tables of the blocks that are closed
+  pub tables : List WrittenTable
   pub commands : List Command
   -- how many lines `disturb` stood since the last `run`
   pub disturbs : ℕ
@@ -81,6 +94,7 @@ nothing_declared = record {
   height = None;
   nodes = None;
   shapes = None;
+  tables = [];
   commands = [];
   disturbs = 0;
   block = None;
@@ -234,13 +248,31 @@ abbrev pub in_schema : (Schema → Schema) → Declared → Declared
 in_schema change d =
     record d { block = option_map {T = OpenBlock} (λ block. record block { kind = change_schema change block.kind }) d.block }
 
--- the block closed: from its `end` on an operator's schema is the script's
+-- the table whose block is open
+abbrev pub table_in : BlockKind → Option WrittenTable
+table_in (of_table_steps t) = Some t
+table_in (of_table_rows t) = Some t
+table_in _ = None
+
+abbrev pub table_here : Option OpenBlock → Option WrittenTable
+table_here None = None
+table_here (Some block) = table_in block.kind
+
+-- the block closed: from its `end` on an operator's schema is the script's, and a table
 abbrev pub schema_closed : Option OpenOperator → List Schema
 schema_closed None = []
 schema_closed (Some o) = o.schema ∷ []
 
+abbrev pub table_closed : Option WrittenTable → List WrittenTable
+table_closed None = []
+table_closed (Some t) = t ∷ []
+
 abbrev pub close_block : Declared → Declared
-close_block d = record d { schemas = d.schemas ++ schema_closed (operator_here d.block); block = None }
+close_block d = record d {
+  schemas = d.schemas ++ schema_closed (operator_here d.block);
+  tables = d.tables ++ table_closed (table_here d.block);
+  block = None;
+}
 
 abbrev pub open_block : ℕ → BlockKind → Declared → Declared
 open_block n kind d = record d { block = Some (record { line = n; kind = kind }) }
@@ -262,6 +294,53 @@ abbrev pub give_sort : ℕ → List (List ℕ) → BlockKind → BlockKind
 give_sort s ps (of_operator o) =
     of_operator (record o { schema = record o.schema { param_sorts = with_sort s ps o.parameters o.schema.param_sorts } })
 give_sort s ps kind = kind
+
+-- ---- the lines of a table's block
+
+-- ?p1, ?p2 and so on are the parameters of the table whose block is open; then ?g1, ?g2 and so on are the variables of its goal
+abbrev pub letter_numbers : ℕ → ℕ → List (List ℕ)
+letter_numbers letter most = map (λ k. letter ∷ decimal k) (range_with_len 1 most)
+
+abbrev pub table_variables : Declared → List (List ℕ)
+table_variables d = letter_numbers 112 (table_parameters_here d.block) ++ letter_numbers 103 (greatest d.version limit.variables)
+
+abbrev pub table_term : Declared → Argument → Term
+table_term d = term_of (parameters_here d) (table_variables d) d.names.objects
+
+abbrev pub instance_of_step : Declared → List ℕ → List Argument → OpInst
+instance_of_step d o ts = record { op = number_in o d.names.operators; args = map (table_term d) ts }
+
+-- the proofs that parts are: a step takes as many of the proofs after it as it says
+abbrev pub proofs_read : Declared → List Part → List Derivation
+proofs_read d [] = []
+proofs_read d (a_fact column index x ∷ more) =
+    derivation.fact (record { column = column; index = index; atom = atom_of d (table_variables d) x }) ∷ proofs_read d more
+proofs_read d (an_ancestor k ∷ more) = derivation.ancestor k ∷ proofs_read d more
+proofs_read d (an_axiom k place count ts ∷ more) = let after = proofs_read d more in
+    derivation.step k (map (table_term d) ts) place (derivations (take count after)) ∷ drop count after
+
+-- the number of a variable of the goal, and 0 for what is none
+abbrev pub goal_number : Declared → Argument → ℕ
+goal_number d (open_variable v) = elim (position (bytes_eq v) (letter_numbers 103 (greatest d.version limit.variables)))
+    [ None ↦ 0 | Some k ↦ k + 1 ]
+goal_number d _ = 0
+
+-- the greatest number of a variable of the goal, and 0 where there is none
+abbrev pub goal_variables : Declared → List SignedAtom → ℕ
+goal_variables d xs = fold max 0 (map (goal_number d) (flat_map (λ x. x.atom.arguments) xs))
+
+-- the table whose block is open, changed; and its block, from the goal on
+abbrev pub change_table : (WrittenTable → WrittenTable) → BlockKind → BlockKind
+change_table change (of_table_steps t) = of_table_steps (change t)
+change_table change (of_table_rows t) = of_table_rows (change t)
+change_table change kind = kind
+
+abbrev pub after_goal : BlockKind → BlockKind
+after_goal (of_table_steps t) = of_table_rows t
+after_goal kind = kind
+
+abbrev pub in_block : (BlockKind → BlockKind) → Declared → Declared
+in_block change d = record d { block = option_map {T = OpenBlock} (λ block. record block { kind = change block.kind }) d.block }
 
 -- the building with one more thing
 abbrev pub with_thing : Thing → Declared → Declared
@@ -320,6 +399,18 @@ declares n d (run m bs) = record (with_command (Run (number_in m d.names.results
 declares n d (duo one other ns) = with_command (Duo (number_in one d.names.results) (number_in other d.names.results) ns) d
 declares n d facts = with_command Facts d
 declares n d (sort m ns) = record d { object_sorts = object_sorts_here d ++ replicate (length ns) (length d.sorts + 1) }
+declares n d (table m parameters) = open_block n (of_table_steps (record {
+  name = length d.names.results;
+  parameters = parameters;
+  steps = [];
+  goal = [];
+  goal_vars = 0;
+  rows = [];
+})) d
+declares n d (step o ts) = in_block (change_table (λ t. record t { steps = t.steps ++ instance_of_step d o ts ∷ [] })) d
+declares n d (goal xs) = in_block (λ kind. after_goal (change_table
+    (λ t. record t { goal = map (atom_of d (table_variables d)) xs; goal_vars = goal_variables d xs }) kind)) d
+declares n d (proof parts) = in_block (change_table (λ t. record t { rows = t.rows ++ proofs_read d parts ∷ [] })) d
 declares n d (save m) = d
 declares n d (certify m) = d
 declares n d (edit m source prefix ps) = d

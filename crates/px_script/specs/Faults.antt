@@ -1,13 +1,16 @@
 -- Which lines are refused, and why: the causes of all lines, in their order.
-use Rattle.std.specs.Prelude.{◌≡◌, ◌⊎◌, ℕ, ◌+◌, Bool, false, List, [], ◌∷◌, ◌++◌, map, length, Option, None, Some, is_some, if◌then◌else◌, ◌||◌, ◌==◌, nat_lt, not, slice_index}
+use Rattle.std.specs.Prelude.{◌≡◌, ◌⊎◌, ℕ, ◌+◌, Bool, false, List, [], ◌∷◌, ◌++◌, map, length, Option, None, Some, is_some, if◌then◌else◌, ◌||◌, ◌==◌, nat_lt, not, slice_index, max, fold, take, drop, true}
 use Rattle.std.specs.List.{list_any, filter, flat_map}
 use Rattle.std.specs.Str.{bytes_eq}
-use Rattle.px_script.specs.Common.{Schema, atom_set}
-use Rattle.px_script.specs.Items.{SignedAtom, Binding}
-use Rattle.px_script.specs.Statements.{Statement, line_of, script, object, predicate, «axiom», operator, pre, delete, add, building, room, door, box, robot, end, fact, height, nodes, shapes, plan, learn, show, disturb_atoms, disturb_rooms, run, facts, sort, param, duo, save, certify, edit, pursue}
+use Rattle.px_script.specs.Common.{Schema, atom_set, Problem}
+use Rattle.px_script.specs.Items.{SignedAtom, Binding, Part, a_fact, an_ancestor, an_axiom}
+use Rattle.px_script.specs.Statements.{Statement, line_of, script, object, predicate, «axiom», operator, pre, delete, add, building, room, door, box, robot, end, fact, height, nodes, shapes, plan, learn, show, disturb_atoms, disturb_rooms, run, facts, sort, param, duo, save, certify, edit, pursue, table, step, goal, proof}
 use Rattle.px_script.specs.Limits as limit
 use Rattle.px_script.specs.Limits.{Limit, Bounds, greatest, number_of, number_of_numbers, of_version, of_height, of_nodes, of_shapes, of_turn, of_executor, last_number}
-use Rattle.px_script.specs.Declarations.{Declared, OpenOperator, operator_here, has_building, number_in, variable_names_of, atom_of}
+use Rattle.px_script.specs.Declarations.{Declared, OpenOperator, operator_here, has_building, number_in, variable_names_of, atom_of, WrittenTable, BlockKind, of_table_steps, of_table_rows, table_here, OpenBlock}
+use Rattle.px_script.specs.Content.{own_problem, problem_of}
+use Rattle.px_table.specs.Deciding.{rows_are_table}
+use Rattle.px_table.specs.WellSorted.{sorts_by_places}
 use Rattle.px_script.specs.Stages.{Stage, whole_language, is_unbuilt}
 use Rattle.px_script.specs.Causes.{is_out_of_order, has_unknown_name, repeats_name, has_wrong_arity, is_unbound, has_long_name, has_robot, repeats}
 
@@ -59,9 +62,28 @@ outside bounds n = (nat_lt n bounds.least || nat_lt bounds.most n, number_of_num
 abbrev pub any_outside : Bounds → List ℕ → Bool × ℕ
 any_outside bounds ns = (list_any (λ n. (outside bounds n).0) ns, number_of_numbers)
 
--- some of the numbers is greater than an edit's may be
+-- some of the numbers is greater than one of a table's block or of an edit may be
 abbrev pub has_great_number : List ℕ → Bool × ℕ
 has_great_number ns = (list_any (nat_lt last_number) ns, number_of_numbers)
+
+-- the steps of the table whose block is open
+abbrev pub steps_here : Option OpenBlock → ℕ
+steps_here block = elim (table_here block) [ None ↦ 0 | Some t ↦ length t.steps ]
+
+abbrev pub numbers_of_part : Part → List ℕ
+numbers_of_part (a_fact column index x) = column ∷ index ∷ []
+numbers_of_part (an_ancestor k) = k ∷ []
+numbers_of_part (an_axiom k place count ts) = k ∷ place ∷ count ∷ []
+
+abbrev pub highest : List ℕ → ℕ
+highest heights = fold max 0 heights
+
+-- the heights of the proofs that parts are: a step is one higher than the highest of the proofs that it takes
+abbrev pub heights_of : List Part → List ℕ
+heights_of [] = []
+heights_of (an_axiom k place count ts ∷ more) = let after = heights_of more in
+    (1 + highest (take count after)) ∷ drop count after
+heights_of (part ∷ more) = 1 ∷ heights_of more
 
 abbrev pub one_more_object : Declared → Bool × ℕ
 one_more_object d = over d limit.objects (length d.names.objects + 1)
@@ -103,6 +125,10 @@ own_limits d (duo one other ns) = one_more_command d ∷ any_outside of_executor
 own_limits d facts = one_more_command d ∷ []
 own_limits d (sort n ns) = over d limit.objects (length d.names.objects + length ns) ∷ over d limit.sorts (length d.sorts + 1) ∷ []
 own_limits d (param n ps) = []
+own_limits d (table n parameters) = has_great_number (parameters ∷ []) ∷ over d limit.tables (length d.tables + 1) ∷ []
+own_limits d (step o ts) = over d limit.table_steps (steps_here d.block + 1) ∷ []
+own_limits d (goal xs) = over d limit.goal_atoms (length xs) ∷ []
+own_limits d (proof parts) = has_great_number (flat_map numbers_of_part parts) ∷ over d limit.proof_height (highest (heights_of parts)) ∷ []
 own_limits d (save n) = one_more_command d ∷ []
 own_limits d (certify n) = one_more_command d ∷ []
 own_limits d (edit n source prefix ps) = one_more_command d ∷ has_great_number (prefix ∷ flat_map (λ p. p.0 ∷ p.1 ∷ []) ps)
@@ -122,6 +148,24 @@ coded code = record { code = code; limit = 0 }
 abbrev pub passed : Bool × ℕ → Bool × Refusal
 passed test = (test.0, record { code = 8; limit = test.1 })
 
+-- ---- a table's block that is no table's
+
+-- the problem that the lines so far give
+abbrev pub problem_here : Declared → Problem
+problem_here d = problem_of (own_problem d) d.things
+
+-- The block is a table's, and has no goal, or its parts make no table of the problem with the sorts that their places have.
+abbrev pub is_bad_block : Problem → BlockKind → Bool
+is_bad_block problem (of_table_steps t) = true
+is_bad_block problem (of_table_rows t) =
+    not (rows_are_table problem t.parameters (sorts_by_places problem t.steps t.parameters) t.steps t.goal t.goal_vars t.rows)
+is_bad_block problem kind = false
+
+-- the line closes such a block
+abbrev pub is_bad_table : Declared → Statement → Bool
+is_bad_table d end = elim d.block [ None ↦ false | Some block ↦ is_bad_block (problem_here d) block.kind ]
+is_bad_table d _ = false
+
 -- the causes to refuse a line for what it says, in their order, and whether they are there, where this much is built; then these limits
 abbrev pub causes_with : Stage → Declared → Statement → List (Bool × ℕ) → List (Bool × Refusal)
 causes_with stage d s last = let l = line_of s in
@@ -129,7 +173,7 @@ causes_with stage d s last = let l = line_of s in
     ∷ (has_duplicate d s, coded 5) ∷ (has_wrong_arity d l, coded 6) ∷ (is_unbound d l, coded 7) ∷ map passed last
 
 abbrev pub causes : Stage → Declared → Statement → List (Bool × Refusal)
-causes stage d s = causes_with stage d s (limits d s)
+causes stage d s = causes_with stage d s (limits d s) ++ (is_bad_table d s, coded 12) ∷ []
 
 -- the first cause that is there
 abbrev pub first_of : List (Bool × Refusal) → Option Refusal

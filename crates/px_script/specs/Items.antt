@@ -1,5 +1,5 @@
 -- What may stand in a line after its word, how it is spelled, and what it is there for.
-use Rattle.std.specs.Prelude.{ℕ, ◌+◌, Bool, true, false, List, [], ◌∷◌, ◌++◌, map, codes, not, nat_lt, ◌&&◌}
+use Rattle.std.specs.Prelude.{ℕ, ◌+◌, Bool, true, false, List, [], ◌∷◌, ◌++◌, map, codes, not, nat_lt, ◌&&◌, ◌-◌, ◌==◌, fold}
 use Rattle.std.specs.List.{flat_map, list_all}
 use Rattle.std.specs.Fmt.{decimal}
 use Rattle.px_script.specs.Lexemes.{Lexeme, name, variable, number, sign}
@@ -39,6 +39,13 @@ pub record Binding : Type 0 where
   pub parameter : ℕ
   pub object : List ℕ
 
+-- What a proof begins with: a fact with its column and its index, an ancestor by its number, or a step of an axiom at a place, with its
+-- terms, which this many proofs follow.
+pub data Part : Type 0 where
+  a_fact : ℕ → ℕ → SignedAtom → Part
+  an_ancestor : ℕ → Part
+  an_axiom : ℕ → ℕ → ℕ → List Argument → Part
+
 pub data Item : Type 0 where
   -- this word
   the : List ℕ → Item
@@ -56,10 +63,10 @@ pub data Item : Type 0 where
   bindings : List Binding → Item
   -- one or more edits of a building
   room_edits : List WrittenRoomEdit → Item
-  -- These stand only in lines of version 2: arguments in parentheses with commas, nothing where there are none; terms in parentheses
-  -- with commas, () for none; one or more pairs of numbers.
+  -- These stand only in lines of version 2: arguments in parentheses with commas, nothing where there are none; the proofs of one row, or
+  -- none; one or more pairs of numbers.
   arguments : List Argument → Item
-  terms : List Argument → Item
+  proofs : List Part → Item
   pairs : List (ℕ × ℕ) → Item
 
 abbrev pub amount : ℕ → Item
@@ -117,6 +124,16 @@ spell_binding binding = name (parameter_name binding.parameter) ∷ sign 61 ∷ 
 abbrev pub spell_pair : ℕ × ℕ → List Lexeme
 spell_pair pair = number pair.0 ∷ sign 61 ∷ number pair.1 ∷ []
 
+-- terms in parentheses with commas, () for none
+abbrev pub spell_terms : List Argument → List Lexeme
+spell_terms ts = sign 40 ∷ (with_commas (map spell_argument ts) ++ sign 41 ∷ [])
+
+-- f J K ATOM, a N, or s C L M (TERMS)
+abbrev pub spell_part : Part → List Lexeme
+spell_part (a_fact column index x) = name (codes "f") ∷ number column ∷ number index ∷ spell_atom x
+spell_part (an_ancestor k) = name (codes "a") ∷ number k ∷ []
+spell_part (an_axiom k place count ts) = name (codes "s") ∷ number k ∷ number place ∷ number count ∷ spell_terms ts
+
 -- how an item is spelled
 abbrev pub spell : Item → List Lexeme
 spell (the word) = name word ∷ []
@@ -128,7 +145,7 @@ spell (atoms xs) = flat_map spell_atom xs
 spell (bindings bs) = flat_map spell_binding bs
 spell (room_edits es) = flat_map spell_room_edit es
 spell (arguments ts) = parenthesised (map spell_argument ts)
-spell (terms ts) = sign 40 ∷ (with_commas (map spell_argument ts) ++ sign 41 ∷ [])
+spell (proofs parts) = flat_map spell_part parts
 spell (pairs ps) = flat_map spell_pair ps
 
 abbrev pub is_empty : {A : Type 0} → List A → Bool
@@ -138,7 +155,17 @@ is_empty (x ∷ xs) = false
 abbrev pub is_parameter_number : ℕ → Bool
 is_parameter_number k = nat_lt 0 k && nat_lt k (last_parameter + 1)
 
--- Where an item is one or more things, there is one, and parameters have numbers from 1 to the last.
+-- how many proofs are still owed after the part, where `n` were owed before it; where none was, it begins one
+abbrev pub owed : ℕ → Part → ℕ
+owed n (an_axiom k place count ts) = n - 1 + count
+owed n _ = n - 1
+
+-- the parts are whole proofs
+abbrev pub are_proofs : List Part → Bool
+are_proofs parts = fold owed 0 parts == 0
+
+-- Where an item is one or more things, there is one, parameters have numbers from 1 to the last, and
+-- proofs are whole.
 abbrev pub is_filled : Item → Bool
 is_filled (amounts ns) = not (is_empty ns)
 is_filled (declared kind ns) = not (is_empty ns)
@@ -147,18 +174,29 @@ is_filled (atoms xs) = not (is_empty xs)
 is_filled (bindings bs) = list_all (λ b. is_parameter_number b.parameter) bs
 is_filled (room_edits es) = not (is_empty es)
 is_filled (pairs ps) = not (is_empty ps)
+is_filled (proofs parts) = are_proofs parts
 is_filled _ = true
 
 -- what each item is there for
 
+abbrev pub atoms_of_part : Part → List SignedAtom
+atoms_of_part (a_fact column index x) = x ∷ []
+atoms_of_part _ = []
+
+abbrev pub terms_of_part : Part → List Argument
+terms_of_part (an_axiom k place count ts) = ts
+terms_of_part _ = []
+
 abbrev pub atoms_in : Item → List SignedAtom
 atoms_in (atoms xs) = xs
+atoms_in (proofs parts) = flat_map atoms_of_part parts
 atoms_in _ = []
 
 abbrev pub arguments_in : Item → List Argument
 arguments_in (atoms xs) = flat_map (λ signed. signed.atom.arguments) xs
 arguments_in (arguments ts) = ts
-arguments_in (terms ts) = ts
+arguments_in (proofs parts) =
+    flat_map (λ signed. signed.atom.arguments) (flat_map atoms_of_part parts) ++ flat_map terms_of_part parts
 arguments_in _ = []
 
 -- the names that it declares, by their kind

@@ -3,12 +3,12 @@ use Rattle.std.specs.Prelude.{ℕ, Bool, List, [], ◌∷◌, ◌++◌, codes, i
 use Rattle.std.specs.List.{list_any}
 use Rattle.std.specs.Str.{bytes_eq}
 use Rattle.px_terms.specs.Limits.{most_arguments, most_clauses, most_formula_variables, most_height, most_literals, most_parameters, most_shapes}
-use Rattle.px_script.specs.declared.limits.TheConstants.{NAME_BYTES, OBJECTS, OBJECTS_OF_TWO, PREDICATES, OPERATORS, OPERATOR_ATOMS, FACTS, FACTS_OF_TWO, GOAL_ATOMS, COMMANDS, COMMANDS_OF_TWO, DISTURBS, EDITS, SORTS, LAST_VERSION, EVENTS, PAIRS}
+use Rattle.px_script.specs.declared.limits.TheConstants.{NAME_BYTES, OBJECTS, OBJECTS_OF_TWO, PREDICATES, OPERATORS, OPERATOR_ATOMS, FACTS, FACTS_OF_TWO, GOAL_ATOMS, COMMANDS, COMMANDS_OF_TWO, DISTURBS, EDITS, SORTS, LAST_VERSION, EVENTS, PAIRS, TABLES, TABLE_STEPS, PROOF_HEIGHT}
 -- what a script has limits of; the number of the limit of numbers, those that a script may give; the most nodes that a script may ask for,
--- which are fewer than a problem may, the last turn that a disturbance may name, the greatest number of an edit, and how many executors share a world; the height, the nodes
+-- which are fewer than a problem may, the last turn that a disturbance may name, the greatest number of a table's block and of an edit, and how many executors share a world; the height, the nodes
 -- and the shapes of a script whose lines give none
 pub use Rattle.px_script.specs.declared.limits.Limit.{Limit}
-pub use Rattle.px_script.specs.declared.limits.Limit.TheVariants.{NameBytes as name_bytes, Objects as objects, Predicates as predicates, Arity as arity, Axioms as axioms, Literals as literals, Variables as variables, Operators as operators, Parameters as parameters, OperatorAtoms as operator_atoms, Facts as facts, GoalAtoms as goal_atoms, Commands as commands, Disturbs as disturbs, Edits as edits, Sorts as sorts, Pairs as pairs, Events as events}
+pub use Rattle.px_script.specs.declared.limits.Limit.TheVariants.{NameBytes as name_bytes, Objects as objects, Predicates as predicates, Arity as arity, Axioms as axioms, Literals as literals, Variables as variables, Operators as operators, Parameters as parameters, OperatorAtoms as operator_atoms, Facts as facts, GoalAtoms as goal_atoms, Commands as commands, Disturbs as disturbs, Edits as edits, Sorts as sorts, Tables as tables, TableSteps as table_steps, ProofHeight as proof_height, Pairs as pairs, Events as events}
 pub use Rattle.px_script.specs.declared.limits.TheConstants.{NUMBER_OF_NUMBERS as number_of_numbers, MOST_SCRIPT_NODES as most_script_nodes, LAST_TURN as last_turn, LAST_NUMBER as last_number, DEFAULT_HEIGHT as default_height, DEFAULT_NODES as default_nodes, DEFAULT_SHAPES as default_shapes, EXECUTORS as executors}
 
 -- the words that may begin a line in every version
@@ -21,7 +21,8 @@ words_of_all =
 
 -- those that only version 2 has
 abbrev pub words_of_two : List (List ℕ)
-words_of_two = codes "sort" ∷ codes "param" ∷ codes "save" ∷ codes "certify" ∷ codes "edit" ∷ codes "duo" ∷ codes "pursue" ∷ []
+words_of_two = codes "sort" ∷ codes "param" ∷ codes "table" ∷ codes "step" ∷ codes "goal" ∷ codes "proof"
+    ∷ codes "save" ∷ codes "certify" ∷ codes "edit" ∷ codes "duo" ∷ codes "pursue" ∷ []
 
 -- every word that may begin a line of a script of a version
 abbrev pub words : ℕ → List (List ℕ)
@@ -47,6 +48,9 @@ number_of commands = 13
 number_of disturbs = 14
 number_of edits = 15
 number_of sorts = 17
+number_of tables = 18
+number_of table_steps = 19
+number_of proof_height = 20
 number_of pairs = 21
 number_of events = 22
 
@@ -72,6 +76,9 @@ greatest version commands = by_version version COMMANDS COMMANDS_OF_TWO
 greatest version disturbs = DISTURBS
 greatest version edits = EDITS
 greatest version sorts = SORTS
+greatest version tables = TABLES
+greatest version table_steps = TABLE_STEPS
+greatest version proof_height = PROOF_HEIGHT
 greatest version pairs = PAIRS
 greatest version events = EVENTS
 
@@ -96,6 +103,10 @@ of_shapes = bounds 2 most_shapes
 
 abbrev pub of_turn : Bounds
 of_turn = bounds 1 last_turn
+
+-- the numbers of a table's block
+abbrev pub of_table : Bounds
+of_table = bounds 0 last_number
 
 -- the numbers of the executors that share a world
 abbrev pub of_executor : Bounds

@@ -2,7 +2,7 @@
 use Rattle.std.specs.Prelude.{ℕ, Bool, true, false, List, [], ◌∷◌, codes}
 use Rattle.std.specs.List.{flat_map}
 use Rattle.px_script.specs.Lexemes.{Lexeme, name}
-use Rattle.px_script.specs.Items.{Item, SignedAtom, WrittenRoomEdit, Binding, the, amount, amounts, new, declared, listed, known, wanted, atoms, bindings, room_edits, an_object, a_predicate, an_operator, a_parameter, a_sort, a_room, a_door, a_box, a_plan, a_table, spell, open_word, a_result, pairs}
+use Rattle.px_script.specs.Items.{Item, SignedAtom, WrittenRoomEdit, Binding, the, amount, amounts, new, declared, listed, known, wanted, atoms, bindings, room_edits, an_object, a_predicate, an_operator, a_parameter, a_sort, a_room, a_door, a_box, a_plan, a_table, spell, open_word, a_result, pairs, Argument, Part, arguments, proofs}
 -- what a block is of, where a line stands, and what its atoms may be
 pub use Rattle.px_script.specs.declared.kinds.Block.{Block}
 pub use Rattle.px_script.specs.declared.kinds.Block.TheVariants.{Operator as operator_block, Building as building_block, TableSteps as table_steps, TableRows as table_rows}
@@ -37,6 +37,12 @@ pub data Statement : Type 0 where
   sort param : List ℕ → List (List ℕ) → Statement
   -- two tables, and the numbers of whoever is next
   duo : List ℕ → List ℕ → List ℕ → Statement
+  -- The block of a table isn't built yet: its name and how many parameters it has; an operator and what it is done to; the goal; the proofs
+  -- of one row.
+  table : List ℕ → ℕ → Statement
+  step : List ℕ → List Argument → Statement
+  goal : List SignedAtom → Statement
+  proof : List Part → Statement
   -- No command serves these yet: a table that is printed so that it can be read again, or as a certificate; the name of an edited table,
   -- the table that it is made from, how many of its steps, and the wanted adds as pairs of a step and a place; a name, and a goal that is
   -- pursued
@@ -88,6 +94,10 @@ line_of (run n bs) = line (codes "run") command plain (known a_table n ∷ bindi
 line_of facts = line (codes "facts") command plain []
 line_of (sort n ns) = line (codes "sort") domain plain (new a_sort n ∷ declared an_object ns ∷ [])
 line_of (duo one other ns) = line (codes "duo") command plain (known a_table one ∷ known a_table other ∷ amounts ns ∷ [])
+line_of (table n parameters) = line (codes "table") (opens table_steps) plain (new a_table n ∷ amount parameters ∷ [])
+line_of (step o ts) = line (codes "step") (inside table_steps) table_terms (known an_operator o ∷ arguments ts ∷ [])
+line_of (goal xs) = line (codes "goal") (inside table_steps) table_goals (atoms xs ∷ [])
+line_of (proof parts) = line (codes "proof") (inside table_rows) table_terms (proofs parts ∷ [])
 line_of (save n) = line (codes "save") command plain (known a_table n ∷ [])
 line_of (certify n) = line (codes "certify") command plain (known a_table n ∷ [])
 line_of (edit n source prefix ps) =

@@ -109,6 +109,10 @@ pub enum Last {
     RoomEdits,
     /// Pairs of numbers, each N=N.
     Pairs,
+    /// Arguments in parentheses with commas, or no arguments.
+    Arguments,
+    /// The proofs of one row of a table, possibly none.
+    Proofs,
 }
 
 impl Block {

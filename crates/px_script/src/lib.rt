@@ -50,7 +50,7 @@ ghost use Rattle.px_script.specs.Statements.{Statement};
 ghost use Rattle.px_script.specs.Scripts.{ReadsOneWay, IsScript};
 ghost use Rattle.px_script.specs.Worked.{WorkedScripts, WorkedRefusals};
 ghost use Rattle.px_script.specs.WorkedLines.{WorkedBuildings, WorkedCommands, WorkedDomains, WorkedDuos, WorkedLimits, WorkedSorts, WorkedSpellings};
-ghost use Rattle.px_script.specs.WorkedLater.{WorkedLater, WorkedUnbuilt};
+ghost use Rattle.px_script.specs.WorkedLater.{WorkedLater, WorkedTables, WorkedUnbuilt};
 
 mod command;
 mod kinds;
@@ -76,6 +76,7 @@ pub fn worked_lines()
     ensures sorts { WorkedSorts }
     ensures duos { WorkedDuos }
     ensures unbuilt { WorkedUnbuilt }
+    ensures tables { WorkedTables }
     ensures later { WorkedLater }
 {}
 

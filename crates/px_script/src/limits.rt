@@ -33,8 +33,14 @@ pub enum Limit {
     Edits,
     /// Sorts, which only version 2 has. The number before is that of the limit of numbers.
     Sorts = 17,
+    /// Tables that stand in the script.
+    Tables,
+    /// Steps of such a table.
+    TableSteps,
+    /// The height of a proof of such a table.
+    ProofHeight,
     /// Pairs of an edit of a table.
-    Pairs = 21,
+    Pairs,
     /// Events of two executors in one world.
     Events,
 }
@@ -69,6 +75,12 @@ pub const DISTURBS: u32 = 64;
 pub const EDITS: u32 = 16;
 /// Sorts of the script.
 pub const SORTS: u32 = 32;
+/// Tables that stand in the script.
+pub const TABLES: u32 = 32;
+/// Steps of a table that stands in the script.
+pub const TABLE_STEPS: u32 = 64;
+/// The height of a proof of a table that stands in the script.
+pub const PROOF_HEIGHT: u32 = 56;
 /// Pairs of an edit of a table.
 pub const PAIRS: u32 = 16;
 /// Events of two executors in one world.
@@ -82,7 +94,7 @@ pub const NUMBER_OF_NUMBERS: u8 = 16;
 pub const MOST_SCRIPT_NODES: u32 = 50_000;
 /// The last turn that a disturbance may name.
 pub const LAST_TURN: u32 = 9999;
-/// The greatest number of an edit of a table.
+/// The greatest number of a table's block, and of an edit of a table.
 pub const LAST_NUMBER: u32 = 9999;
 /// How many executors share a world: they have the numbers from 1 on.
 pub const EXECUTORS: u32 = 2;
@@ -125,6 +137,9 @@ pub fn greatest(version: u32, limit: Limit) -> u32
         Limit::Disturbs => DISTURBS,
         Limit::Edits => EDITS,
         Limit::Sorts => SORTS,
+        Limit::Tables => TABLES,
+        Limit::TableSteps => TABLE_STEPS,
+        Limit::ProofHeight => PROOF_HEIGHT,
         Limit::Pairs => PAIRS,
         Limit::Events => EVENTS,
     }

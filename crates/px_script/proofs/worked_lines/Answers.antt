@@ -1,5 +1,5 @@
 -- Proofs of the goals that `worked_lines` of src/lib.rt leaves open.
-use Rattle.px_script.proofs.Common.{◌≡◌, ℕ, List, Some, Statement, spelling, Spell}
+use Rattle.px_script.proofs.Common.{◌≡◌, ℕ, List, Some, Statement, spelling, Spell, refl}
 use Rattle.std.specs.Fmt.{digits}
 use Rattle.px_base.specs.Sets.{with_item, set_of}
 use Rattle.px_script.proofs.Computed.{after-so, fit-so, refuse-so}
@@ -95,6 +95,49 @@ returns-clause-unbuilt c = record {
   many_commands = search (after-so) depth 14;
   great_numbers = search (after-so) depth 14;
   many_pairs = search (after-so) depth 14;
+}
+
+pub returns-clause-tables : goal.returns-clause-tables
+unfolding lines_read scan_by unicode_ident encode all_within items_after with_item set_of digits
+returns-clause-tables c = record {
+  opening = search spell;
+  a_step = search spell;
+  a_plain_step = search spell;
+  a_goal = search spell;
+  proofs = search spell;
+  no_proofs_written = search spell;
+  new = search (refuse-so) depth 14;
+  no_form = search (refuse-so) depth 14;
+  out_of_order = search (refuse-so) depth 14;
+  unbuilt = search (refuse-so) depth 14;
+  whole_proofs = refl;
+  no_proofs = refl;
+  cut_proof = refl;
+  whole = search (after-so) depth 14;
+  with_a_building = search (after-so) depth 14;
+  proved = search (after-so) depth 14;
+  steps_left = search (after-so) depth 14;
+  rows_left = search (after-so) depth 14;
+  goals_left = search (after-so) depth 14;
+  closed = search (after-so) depth 14;
+  bad_tables = after-so _ _ (refl, (refl, (refl, (refl, (refl, (refl, (refl, tt)))))));
+  bad_proofs = search (after-so) depth 14;
+  in_disorder = search (after-so) depth 14;
+  early = search (after-so) depth 14;
+  unknown = search (after-so) depth 14;
+  unknown_in_proofs = search (after-so) depth 14;
+  known_table = search (after-so) depth 14;
+  arity = search (after-so) depth 14;
+  unbound = search (after-so) depth 14;
+  unbound_in_proofs = search (after-so) depth 14;
+  fit = search (after-so) depth 14;
+  proofs_fit = search (after-so) depth 14;
+  many_atoms = search (after-so) depth 14;
+  great_numbers = search (after-so) depth 14;
+  great_in_proofs = search (after-so) depth 14;
+  many_tables = search (after-so) depth 14;
+  many_steps = search (after-so) depth 14;
+  high_proofs = search (after-so) depth 14;
 }
 
 pub returns-clause-later : goal.returns-clause-later

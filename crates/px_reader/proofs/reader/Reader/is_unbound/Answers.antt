@@ -1,9 +1,17 @@
--- Proofs of the goals that `Reader::is_unbound` of src/reader.rt leaves open.
-use Rattle.px_reader.proofs.Common.{◌∙◌, not, takes, declared_of}
+-- Proofs of the goals that `Reader::is_unbound` of src/naming.rt leaves open.
+use Rattle.px_reader.proofs.Common.{sym, ◌∙◌, not, takes, declared_of}
 use Rattle.px_lines.specs.LineViews.{line_view}
-use Rattle.px_reader.proofs.AtomTests.{arguments-any}
+use Rattle.px_reader.proofs.PartTests.{line-arguments-any, or-then, or-else}
 use Rattle.px_reader.proofs.reader.Reader.is_unbound.Goals as goal
 
-pub returns : goal.returns
-returns c = c.have_unbound.ensures ∙ arguments-any (line_view c.args.line.now) c.atoms.result.now
-    (λ a. not (takes (declared_of c.args.self.now) c.args.line.now.row.manner a)) c.atoms.ensures.arguments
+pub returns-then-have_unbound : goal.returns-then-have_unbound
+returns-then-have_unbound c =
+    let whole = line-arguments-any c.args.line.now c.atoms-atoms.result.now c.arguments-others.result.now c.parts-parts.result.now
+    c.atoms-atoms.ensures c.arguments-others.ensures c.parts-parts.ensures (λ a. not (takes (declared_of c.args.self.now) c.args.line.now.row.manner a)) in
+    c.if-have_unbound.true ∙ or-then _ _ _ whole (sym c.have_unbound.ensures ∙ c.if-have_unbound.true)
+
+pub returns-else-have_unbound : goal.returns-else-have_unbound
+returns-else-have_unbound c =
+    let whole = line-arguments-any c.args.line.now c.atoms-atoms.result.now c.arguments-others.result.now c.parts-parts.result.now
+    c.atoms-atoms.ensures c.arguments-others.ensures c.parts-parts.ensures (λ a. not (takes (declared_of c.args.self.now) c.args.line.now.row.manner a)) in
+    c.others_unbound.ensures ∙ or-else _ _ _ whole (sym c.have_unbound.ensures ∙ c.if-have_unbound.false)

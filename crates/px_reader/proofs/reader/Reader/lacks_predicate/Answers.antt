@@ -1,0 +1,17 @@
+-- Proofs of the goals that `Reader::lacks_predicate` of src/naming.rt leaves open.
+use Rattle.px_reader.proofs.Common.{sym, ◌∙◌, not, has_name}
+use Rattle.px_lines.specs.LineViews.{line_view}
+use Rattle.px_reader.proofs.PartTests.{line-atoms-any, or-then, or-else}
+use Rattle.px_reader.proofs.reader.Reader.lacks_predicate.Goals as goal
+
+pub returns-then-lack_predicates : goal.returns-then-lack_predicates
+returns-then-lack_predicates c =
+    let whole = line-atoms-any c.args.line.now c.atoms-atoms.result.now c.parts-parts.result.now c.atoms-atoms.ensures c.parts-parts.ensures
+    (λ x. not (has_name x.atom.predicate c.args.self.now.names.predicates)) in
+    c.if-lack_predicates.true ∙ or-then _ _ _ whole (sym c.lack_predicates.ensures ∙ c.if-lack_predicates.true)
+
+pub returns-else-lack_predicates : goal.returns-else-lack_predicates
+returns-else-lack_predicates c =
+    let whole = line-atoms-any c.args.line.now c.atoms-atoms.result.now c.parts-parts.result.now c.atoms-atoms.ensures c.parts-parts.ensures
+    (λ x. not (has_name x.atom.predicate c.args.self.now.names.predicates)) in
+    c.parts_lack_predicates.ensures ∙ or-else _ _ _ whole (sym c.lack_predicates.ensures ∙ c.if-lack_predicates.false)
