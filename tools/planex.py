@@ -7,8 +7,8 @@
 
 `run` takes a script, as a text or as a path, and `read` a transcript that was kept. Both return an `Answer`, which lists the replies in the
 order of the commands and finds them by name. Each reply is an object of its own kind: `Plan`, `Exhausted`, `NodeLimit`, `ShapeLimit`,
-`Learned`, `NotLearned`, `Table`, `Noted`, `Run`, `Duo`, `Facts` or `Unknown`, with its line and its first line's text. docs/LANGUAGE.md
-says when each comes.
+`Learned`, `NotLearned`, `Edited`, `NotEdited`, `Table`, `Noted`, `Run`, `Duo`, `Facts` or `Unknown`, with its line and its first line's
+text. docs/LANGUAGE.md says when each comes.
 
 In a notebook a `Table` shows itself as the picture of a triangle, and the `floors` of a plan or of a run in a building show the rooms.
 The examples on this page run the program where it stands proved, and else read what is recorded of it (`example`).
@@ -288,6 +288,32 @@ class Learned(Reply):
 class NotLearned(Reply):
     """A plan wasn't learned, and why."""
     word, form = 'notlearned', f'notlearned {NAME} (?:toolong|toodeep|toowide|full)'
+
+    @property
+    def why(self):
+        return self.text.split()[2]
+
+
+@dataclass
+class Edited(Reply):
+    """Of a table the steps that some adds rest on were made a table: the numbers of its parameters and steps.
+
+    >>> edited = read('edited E 3 parameters 1 steps\\n')[0]
+    >>> edited.name, edited.parameters, edited.steps
+    ('E', 3, 1)
+    """
+    word, form = 'edited', f'edited {NAME} {NUMBER} parameters {NUMBER} steps'
+    parameters: int = 0
+    steps: int = 0
+
+    def take(self, numbers, lines):
+        self.parameters, self.steps = numbers
+
+
+@dataclass
+class NotEdited(Reply):
+    """A table wasn't edited, and why."""
+    word, form = 'notedited', f'notedited {NAME} (?:prefix|want|toolong|toodeep|full)'
 
     @property
     def why(self):

@@ -7,7 +7,7 @@ from pictures.drawing import style
 from pictures.ends import said_of
 from pictures.duo import memories_of, name_of
 from pictures.floor import captions
-from planex import Duo, Facts, Learned, Noted, Plan, Run, Table, Unknown, in_order
+from planex import Duo, Edited, Facts, Learned, Noted, Plan, Run, Table, Unknown, in_order
 
 HERE = pathlib.Path(__file__).resolve().parent
 STYLE, SCRIPT = (HERE / 'view.css').read_text(), (HERE / 'view.js').read_text()
@@ -273,7 +273,7 @@ def parts(story, unique):
             yield plan_part(item, script, tables.get(reply.name), layout, reply.name in shown)
         else:
             yield other_part(item)
-            if isinstance(reply, Learned) and reply.name in tables and reply.name not in shown:
+            if isinstance(reply, (Learned, Edited)) and reply.name in tables and reply.name not in shown:
                 yield table_part(tables[reply.name], script, f'k{unique}-{number}')
     yield '</section>'
 

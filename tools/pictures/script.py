@@ -8,7 +8,7 @@ from typing import NamedTuple
 from pictures.changes import Change
 from planex import Atom, Unread
 
-COMMANDS = ('plan', 'learn', 'show', 'disturb', 'run', 'duo', 'facts')
+COMMANDS = ('plan', 'learn', 'edit', 'show', 'disturb', 'run', 'duo', 'facts')
 # What a building gives to its script: as the table of operators in docs/LANGUAGE.md, without the preconditions.
 BUILDING_PREDICATES = ('INROOM', 'NEXTTO', 'CONNECTS', 'OPENED', 'CLOSED', 'ROOM', 'DOOR', 'BOX')
 BUILDING_OPERATORS = """

@@ -34,7 +34,7 @@ def asking(data, script):
     shown = {command.name for command in script.commands if command.word == 'show'}
     names, places = {}, []
     for place, command in enumerate(script.commands):
-        if command.word in ('plan', 'learn', 'run') and command.name not in shown and len(script.commands) + len(names) < MOST_COMMANDS:
+        if command.word in ('plan', 'learn', 'edit', 'run') and command.name not in shown and len(script.commands) + len(names) < MOST_COMMANDS:
             shown.add(command.name)
             names[command.line] = command.name
             places.append(place + len(names))

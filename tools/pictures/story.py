@@ -11,6 +11,7 @@ from planex import Duo, Facts, Noted, Plan, Run, Table, Unread
 ANSWERS = {
     'plan': ('plan', 'exhausted', 'nodelimit', 'shapelimit'),
     'learn': ('learned', 'notlearned', 'unknown'),
+    'edit': ('edited', 'notedited', 'unknown'),
     'show': ('table', 'unknown'),
     'disturb': ('noted',),
     'run': ('run', 'unknown'),
@@ -84,7 +85,7 @@ def fit(command, reply):
     if isinstance(reply, Duo):
         return (command.word, command.name, command.other, command.events) == (
             'duo', reply.name, reply.other, tuple(event.who for event in reply.events))
-    named = reply.name in ('', command.name) or command.word == 'learn' or command.word in ('run', 'duo') and reply.word == 'unknown'
+    named = reply.name in ('', command.name) or command.word in ('learn', 'edit') or command.word in ('run', 'duo') and reply.word == 'unknown'
     return reply.word in ANSWERS[command.word] and named
 
 

@@ -116,7 +116,7 @@ class Declared:
         elif word in ('room', 'door', 'box'):
             self.objects[names[0]] = number
             self.things[names[0]] = word
-        elif word in ('plan', 'learn'):
+        elif word in ('plan', 'learn', 'edit'):
             self.results[names[0]] = number
             if word == 'plan':
                 self.plans[names[0]] = number

@@ -76,8 +76,8 @@ def things_wanted(line):
 
 
 def unknown_result(line, known):
-    """The sentence on the first result that isn't declared, in a line learn, show, run or duo."""
-    places = {'learn': (3,), 'duo': (1, 2)}.get(line.word, (1,))
+    """The sentence on the first result that isn't declared, in a line learn, show, run, duo or edit."""
+    places = {'learn': (3,), 'edit': (3,), 'duo': (1, 2)}.get(line.word, (1,))
     names, what = (known.plans, 'plan') if line.word == 'learn' else (known.results, 'result')
     name = next((name for name in (line.tokens[place][1] for place in places) if name not in names), None)
     if name is None:
@@ -94,7 +94,7 @@ def unknown_name(line, known, limit):
             for kind, text in arguments:
                 if kind == 'name' and text not in known.objects and text not in known.parameters:
                     return unknown_in_atom(line, known, text, 'argument')
-    if line.word in ('learn', 'show', 'run', 'duo'):
+    if line.word in ('learn', 'show', 'run', 'duo', 'edit'):
         said = unknown_result(line, known)
         if said:
             return said
@@ -129,7 +129,7 @@ def duplicate_objects(names, known):
 
 def duplicate(line, known, limit):
     names, word = line.names, line.word
-    kinds = {'object': known.objects, 'predicate': known.predicates, 'plan': known.results, 'learn': known.results,
+    kinds = {'object': known.objects, 'predicate': known.predicates, 'plan': known.results, 'learn': known.results, 'edit': known.results,
              'room': known.objects, 'door': known.objects, 'box': known.objects}
     if word == 'operator':
         if names[0] in known.operators:
@@ -204,7 +204,7 @@ def order(line, known, limit):
         return f'{word} stands outside a block: a line {opens} opens one, and end closes it'
     if COMMAND not in places and known.command:
         return f'a declaration stands after the command of line {known.command}: move it before that'
-    if not known.objects and (word == 'operator' or line.variables or any(text == '=' for _, text in line.tokens)):
+    if not known.objects and (word == 'operator' or line.variables or word == 'run' and any(text == '=' for _, text in line.tokens)):
         return 'a variable or parameter stands before any object is declared: declare the objects first'
     if word == 'building' or known.has_building:
         return 'a script has either a building or declarations of its own: leave one of them out'

@@ -45,7 +45,7 @@ WORDS = {
     'proof': Word('proof PART .., each f NUMBER NUMBER ATOM, a NUMBER, or s NUMBER NUMBER NUMBER (TERM,..)', (TABLE,)),
     'save': Word('save NAME', (COMMAND,)),
     'certify': Word('certify NAME', (COMMAND,)),
-    'edit': Word('edit NAME from NAME NUMBER STEP=PLACE ..', (COMMAND,)),
+    'edit': Word('edit NAME from NAME NUMBER STEP=PLACE ..', (COMMAND,), 'the numbers of an edit line may be up to 9,999'),
     'pursue': Word('pursue NAME ATOM ..', (COMMAND,)),
 }
 # The words that version 1 hasn't got.
@@ -81,7 +81,7 @@ LIMITS = {
     10: 'a list of an operator has more than 16 atoms', 11: 'more than 512 different facts, or in version 2 more than 1,024', 12: 'a goal of more than 16 atoms',
     13: 'more than 512 commands, or in version 2 more than 1,024', 14: 'more than 64 disturb lines since the last run', 15: 'a disturbance of more than 16 edits',
     OUT_OF_RANGE: 'a number is out of its range', 17: 'more than 32 sorts',
-    22: 'more than 256 numbers in a duo line',
+    21: 'more than 16 pairs in an edit line', 22: 'more than 256 numbers in a duo line',
 }
 # Words of other languages at the head of a line, with what this one has for them.
 OTHER_WORDS = {

@@ -130,4 +130,25 @@ impl Reader {
             events,
         })
     }
+
+    pub fn add_edited(
+        &mut self,
+        name: &str,
+        source: &str,
+        prefix: u32,
+        pairs: &[(u32, u32)],
+    ) -> Result<(), NoMemory>
+        requires { IsFresh Kind.Result self.old.names name.now }
+        ensures { OnOk result (declared_of self.new ≡ leaves 0 (declared_of self.old) (spec.edit name.now source.now prefix pairs.now)) }
+    {
+        let from = self.number(Kind::Result, source);
+        let wanted = Sequence::from_slice(self.alloc, pairs)?;
+        let name = self.add_name(Kind::Result, name)?;
+        self.add_command(Command::Edit {
+            name,
+            from,
+            prefix,
+            wanted,
+        })
+    }
 }

@@ -69,6 +69,9 @@ impl Reader {
             Statement::DisturbRooms(turn, late, edits) => self.disturb_rooms(turn, late, edits),
             Statement::Run(name, bindings) => self.add_run(name, bindings),
             Statement::Duo(one, other, numbers) => self.add_duo(one, other, numbers),
+            Statement::Edit(name, source, prefix, pairs) => {
+                self.add_edited(name, source, prefix, pairs)
+            }
             Statement::Facts => self.add_command(Command::Facts),
             Statement::Table(_, _) => unreachable!(),
             Statement::Step(_, _) => unreachable!(),
@@ -76,7 +79,6 @@ impl Reader {
             Statement::Proof(_) => unreachable!(),
             Statement::Save(_) => unreachable!(),
             Statement::Certify(_) => unreachable!(),
-            Statement::Edit(_, _, _, _) => unreachable!(),
             Statement::Pursue(_, _) => unreachable!(),
             Statement::Sort(name, objects) => self.add_sort(name, objects),
             Statement::Param(sort, names) => self.give_sort(sort, names),

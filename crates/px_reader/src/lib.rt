@@ -11,7 +11,7 @@
 //! - Where the bytes are no script it returns [`ScriptErr::Refused`] with the first fault: its line from 1, its code, and
 //!   the number of the limit that is passed, or 0. That comes exactly where `FirstFault` of `px_script` holds.
 //! - [`px_script::Command`] is what a script asks for, in its order.
-//! - All words of version 1, and `sort`, `param` and `duo` of version 2, are read and built, and what they say is declared and
+//! - All words of version 1, and `sort`, `param`, `duo` and `edit` of version 2, are read and built, and what they say is declared and
 //!   checked. A building's script has the problem of `px_rooms` and the facts of its first state. The words that are built are
 //!   listed in one place, `STAGE` of `reading` (`stage_now` of `px_script`); below it all is proved for whatever words are built.
 //!   A line of another word is refused with code 11 where no cause stands before it. A bad form, such as the bare word `room`, has

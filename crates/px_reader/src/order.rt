@@ -69,8 +69,8 @@ fn others_vary(others: &[Argument<'_>], parts: &[Part<'_>]) -> bool
 }
 
 /// The words of tables in scripts and of commands that there aren't yet.
-const TO_COME: [&str; 8] = [
-    "table", "step", "goal", "proof", "save", "certify", "edit", "pursue",
+const TO_COME: [&str; 7] = [
+    "table", "step", "goal", "proof", "save", "certify", "pursue",
 ];
 
 /// Returns whether the line's word isn't built.

@@ -13,8 +13,8 @@ use px_script::Script;
 use std::alloc::{AllocError, Global};
 use std::str;
 
-/// The words that are built: all of version 1, sorts, and two executors in one world.
-const STAGE: [&str; 27] = [
+/// The words that are built: all of version 1, sorts, two executors in one world, and edited tables.
+const STAGE: [&str; 28] = [
     "script",
     "object",
     "predicate",
@@ -42,6 +42,7 @@ const STAGE: [&str; 27] = [
     "sort",
     "param",
     "duo",
+    "edit",
 ];
 
 /// Returns the parts of a text between line feeds.

@@ -1,6 +1,6 @@
 -- One more command keeps commands in range, and so does another problem with the same objects.
 use Rattle.std.proofs.lemmas.List.FromFn.{map-range_with_len_more, length-range_with_len, get_or-range_with_len}
-use Rattle.px_script.proofs.Common.{flat_map-append, ◌≡◌, ℕ, ◌+◌, ◌<◌, ◌≤◌, true, false, ◌||◌, ◌==◌, List, [], ◌∷◌, ◌++◌, refl, sym, ap, ◌∙◌, subst, arith, map-id, All, Option, Some, slice_index_or, fold, flat_map, list_any, range_with_len, scan, nat_tests, or_right, list_any-append, list_any_at, Problem, Thing, Command, Plan, Learn, Show, DisturbAtoms, Run, Duo, CommandsInRange, IsCommandOf, IsAmong, result_given, plan_given, disturbs_after}
+use Rattle.px_script.proofs.Common.{flat_map-append, ◌≡◌, ℕ, ◌+◌, ◌<◌, ◌≤◌, true, false, ◌||◌, ◌==◌, List, [], ◌∷◌, ◌++◌, refl, sym, ap, ◌∙◌, subst, arith, map-id, All, Option, Some, slice_index_or, fold, flat_map, list_any, range_with_len, scan, nat_tests, or_right, list_any-append, list_any_at, Problem, Thing, Command, Plan, Learn, Show, DisturbAtoms, Run, Duo, Edit, CommandsInRange, IsCommandOf, IsAmong, result_given, plan_given, disturbs_after}
 use Rattle.px_script.proofs.Problems.{Grows, atoms-kept}
 
 pub one-more-result : (old : ℕ) → range_with_len 0 old ++ old ∷ [] ≡ range_with_len 0 (old + 1)
@@ -19,6 +19,7 @@ more-results version problem building old new le (Learn name source) h = (omega 
 more-results version problem building old new le (Show name) h = omega (arith, h, le)
 more-results version problem building old new le (Run name bindings) h = (omega (arith, h.0, le), h.1, h.2)
 more-results version problem building old new le (Duo first second events) h = (omega (arith, h.0, le), omega (arith, h.1, le), h.2)
+more-results version problem building old new le (Edit name source prefix wanted) h = (omega (arith, h.0, le), omega (arith, h.1, le), h.2, h.3)
 more-results version problem building old new le _ h = h
 
 -- a result that is below the number of results is among those that were given

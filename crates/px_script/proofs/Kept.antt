@@ -13,7 +13,7 @@ use Rattle.px_script.proofs.Buildings.{rooms-kind, doors-kind, boxes-kind, IsKin
 use Rattle.px_script.proofs.Commands.{commands-moved}
 use Rattle.px_script.proofs.Faultless.{IsFaultless, no-fault, only-takes-away, stage-takes-away}
 use Rattle.px_script.proofs.Forms.{IsWellFormed, well-formed}
-use Rattle.px_script.proofs.KeptLines.{in-version, sorts-filled, still-sorted, script-kept, sort-kept, few-objects, no-own, settings-kept, in-bounds, still-none, carried, Keeps, object-kept, predicate-kept, axiom-kept, fact-kept, operator-kept, show-kept, facts-kept, disturb-atoms-kept, disturb-rooms-kept, run-kept, learn-kept, plan-kept, duo-kept}
+use Rattle.px_script.proofs.KeptLines.{in-version, sorts-filled, still-sorted, script-kept, sort-kept, few-objects, no-own, settings-kept, in-bounds, still-none, carried, Keeps, object-kept, predicate-kept, axiom-kept, fact-kept, operator-kept, show-kept, facts-kept, disturb-atoms-kept, disturb-rooms-kept, run-kept, learn-kept, plan-kept, duo-kept, edit-kept}
 use Rattle.px_script.proofs.Lists.{by_test, number-below, at-most, each-fails, same-number, at-name, is-new, each-pushed}
 use Rattle.px_script.proofs.Problems.{Grows, alike, atoms-kept, names-more, schema-kept}
 use Rattle.px_script.proofs.States.{AreInRange, AreRolesOf, IsBegun, OperatorsInRange, AreStanding}
@@ -361,6 +361,8 @@ module _ (n : ℕ) (d : Declared) where
       (λ r. disturb-rooms-kept n d r turn between es w.filled w.of_script) r
   line-kept r (run name bs) w = outside _ (λ b. refl) d.block d.things (λ r. run-kept n d r name bs w.filled) r
   line-kept r (duo one other ns) w = outside _ (λ b. refl) d.block d.things (λ r. duo-kept n d r one other ns w.filled) r
+  line-kept r (edit name source prefix ps) w =
+      outside _ (λ b. refl) d.block d.things (λ r. edit-kept n d r name source prefix ps w.filled) r
   line-kept r facts w = outside _ (λ b. refl) d.block d.things (λ r. facts-kept n d r) r
   line-kept r (table name parameters) w = λ f. let no = f.has_come in cc
   line-kept r (step o ts) w = λ f. let no = f.has_come in cc
@@ -368,7 +370,6 @@ module _ (n : ℕ) (d : Declared) where
   line-kept r (proof parts) w = λ f. let no = f.has_come in cc
   line-kept r (save name) w = λ f. let no = f.has_come in cc
   line-kept r (certify name) w = λ f. let no = f.has_come in cc
-  line-kept r (edit name source prefix ps) w = λ f. let no = f.has_come in cc
   line-kept r (pursue name xs) w = λ f. let no = f.has_come in cc
 
 -- what a line without a fault keeps, all lines keep

@@ -1,7 +1,7 @@
 -- Each line of a domain, each setting and each command keeps what was declared in range.
 use Rattle.std.proofs.lemmas.List.Kept.{AllPairs-cons}
 use Rattle.px_base.specs.Bounds.{u32_max}
-use Rattle.px_script.proofs.Common.{fold-append, flat_map-append, IsClause, no_schema, ◌≡◌, ◌≢◌, ℕ, suc, ◌+◌, ◌<◌, ◌≤◌, Bool, true, false, not, ◌&&◌, ◌||◌, ◌==◌, List, [], ◌∷◌, ◌++◌, map, length, refl, sym, ap, ◌∙◌, subst, arith, leb-true, length-append, nat_lt, Option, None, Some, is_some, unwrap_or, All, AllPairs, AllByRecursion, slice_index_or, list_any, list_all, flat_map, filter, range_with_len, append_assoc, get_or-append, get_or-map, and_parts, or_parts, or_right, nat_tests, length-map, All-append, All-cons, All-map, All-nil, All-push, both_answers, All-at, All-each, set_of-is_sorted, set_of-members, has_name, IsBoxAt, IsDoorAt, IsRoomAt, first_state, standings, Clause, Problem, atom_set, atom_cmp, atom_cmp-total, atom_cmp-same, IsAtomOf, Thing, EachIndex, NameLists, IsAxiomOf, append-nil, IsSchemaOf, Standing, Atom, Named, SignedAtom, Sign, WrittenRoomEdit, Binding, bare, robot_to, box_to, door_to, is_empty, is_parameter_number, wanted_by_edit, an_object, plain, literals, goals, atom_changes, line_of, script, object, predicate, «axiom», operator, fact, plan, learn, disturb_atoms, disturb_rooms, run, Statement, show, sort, filled_up, of_version, Bounds, greatest, of_height, of_nodes, of_shapes, of_turn, facts, Command, Plan, Learn, DisturbAtoms, DisturbRooms, Run, Facts, Show, Declared, Roles, operator_here, parameters_here, parameters_of, names_here, number_in, variable_names_of, atom_of, literal_of, clause_of, atom_edit_of, edit_by, room_edit_of, binding_of, after_line, own_problem, is_long, repeats, disturbance_limits, AreNumbered, AreRoomEditsOf, CommandsInRange, HasTurn, IsAmong, IsBindingOf, IsCommandOf, IsEditOf, IsWithin, NamesEarlier, disturbs_after, plan_given, result_given, AreNamesOf, all_disturbs, duo, Duo, of_executor, outside}
+use Rattle.px_script.proofs.Common.{fold-append, flat_map-append, IsClause, no_schema, ◌≡◌, ◌≢◌, ℕ, suc, ◌+◌, ◌<◌, ◌≤◌, Bool, true, false, not, ◌&&◌, ◌||◌, ◌==◌, List, [], ◌∷◌, ◌++◌, map, length, refl, sym, ap, ◌∙◌, subst, arith, leb-true, length-append, nat_lt, Option, None, Some, is_some, unwrap_or, All, AllPairs, AllByRecursion, slice_index_or, list_any, list_all, flat_map, filter, range_with_len, append_assoc, get_or-append, get_or-map, and_parts, or_parts, or_right, nat_tests, length-map, All-append, All-cons, All-map, All-nil, All-push, both_answers, All-at, All-each, set_of-is_sorted, set_of-members, has_name, IsBoxAt, IsDoorAt, IsRoomAt, first_state, standings, Clause, Problem, atom_set, atom_cmp, atom_cmp-total, atom_cmp-same, IsAtomOf, Thing, EachIndex, NameLists, IsAxiomOf, append-nil, IsSchemaOf, Standing, Atom, Named, SignedAtom, Sign, WrittenRoomEdit, Binding, bare, robot_to, box_to, door_to, is_empty, is_parameter_number, wanted_by_edit, an_object, plain, literals, goals, atom_changes, line_of, script, object, predicate, «axiom», operator, fact, plan, learn, disturb_atoms, disturb_rooms, run, Statement, show, sort, filled_up, of_version, Bounds, greatest, of_height, of_nodes, of_shapes, of_turn, facts, Command, Plan, Learn, DisturbAtoms, DisturbRooms, Run, Facts, Show, Declared, Roles, operator_here, parameters_here, parameters_of, names_here, number_in, variable_names_of, atom_of, literal_of, clause_of, atom_edit_of, edit_by, room_edit_of, binding_of, after_line, own_problem, is_long, repeats, disturbance_limits, AreNumbered, AreRoomEditsOf, CommandsInRange, HasTurn, IsAmong, IsBindingOf, IsCommandOf, IsEditOf, IsWithin, NamesEarlier, disturbs_after, plan_given, result_given, AreNamesOf, all_disturbs, duo, Duo, edit, Edit, of_executor, outside}
 use Rattle.std.specs.Prelude.{replicate, ◌-◌}
 use Rattle.px_script.specs.Items.{last_parameter}
 use Rattle.px_rooms.specs.Changes.{IsAdmitted}
@@ -9,7 +9,7 @@ use Rattle.px_terms.specs.Limits.{most_nodes}
 use Rattle.px_terms.specs.SortLaws.{no_sorts-are}
 use Rattle.px_terms.specs.Validity.{AreSortsOf, IsShort}
 use Rattle.std.proofs.lemmas.List.{get_or-replicate, length-replicate}
-use Rattle.px_script.specs.Limits.{default_height, default_nodes, default_shapes}
+use Rattle.px_script.specs.Limits.{default_height, default_nodes, default_shapes, last_number}
 use Rattle.px_script.specs.Limits as limit
 use Rattle.px_script.proofs.Atoms.{HasAtoms, numbered, atoms-right, atoms-with, atoms-open, no-variables, empty-length}
 use Rattle.px_script.proofs.Buildings.{roles-kept, AreOfKind}
@@ -415,8 +415,8 @@ module _ (n : ℕ) (d : Declared) where
         → AreOfKind P d.names.objects things names → has_name name names ≡ true → P (standings things) (number_in name d.names.objects)
     numbered-as P things names name all known = at-name (λ m. P (standings things) (number_in m d.names.objects)) names name all known
 
-    room-edit-is : (things : List Thing) → AreRolesOf d.names.objects d.roles things → (edit : WrittenRoomEdit)
-        → AllByRecursion IsThere (wanted_by_edit edit) → IsAdmitted (first_state things) (room_edit_of top edit)
+    room-edit-is : (things : List Thing) → AreRolesOf d.names.objects d.roles things → (one : WrittenRoomEdit)
+        → AllByRecursion IsThere (wanted_by_edit one) → IsAdmitted (first_state things) (room_edit_of top one)
     room-edit-is things roles (robot_to place) known = numbered-as IsRoomAt things d.roles.rooms place roles.rooms known.0
     room-edit-is things roles (box_to moved place) known =
         (numbered-as IsBoxAt things _ moved roles.boxes known.0, numbered-as IsRoomAt things _ place roles.rooms known.1.0)
@@ -427,10 +427,10 @@ module _ (n : ℕ) (d : Declared) where
         → AreRoomEditsOf o (map (room_edit_of top) edits)
     room-edits-are None some roles edits known = cc
     room-edits-are (Some things) some roles [] known = All-nil _
-    room-edits-are (Some things) some roles (edit ∷ edits) known =
-        let whole = subst (AllByRecursion IsThere) (append_assoc (wanted_by_edit edit) (flat_map wanted_by_edit edits) []) known in
-        let both = all-parts IsThere (wanted_by_edit edit) (flat_map wanted_by_edit edits ++ []) whole in
-        All-cons (IsAdmitted (first_state things)) _ _ (room-edit-is things roles edit both.0)
+    room-edits-are (Some things) some roles (one ∷ edits) known =
+        let whole = subst (AllByRecursion IsThere) (append_assoc (wanted_by_edit one) (flat_map wanted_by_edit edits) []) known in
+        let both = all-parts IsThere (wanted_by_edit one) (flat_map wanted_by_edit edits ++ []) whole in
+        All-cons (IsAdmitted (first_state things)) _ _ (room-edit-is things roles one both.0)
         (room-edits-are (Some things) some roles edits both.1)
 
     pub disturb-rooms-kept : (turn : ℕ) (between : Bool) (es : List WrittenRoomEdit) → (not (is_empty es) && true) ≡ true
@@ -524,6 +524,27 @@ module _ (n : ℕ) (d : Declared) where
         let below = number-below source d.names.results known in
         result-kept name c d.roles.plans refl refl f.single.0 f.short.0 f.limits.0 (omega (arith, count), omega (arith, count, below)) among
         (names-kept name c) (plans-kept name c)
+
+    -- pairs of numbers of which none is too great
+    abbrev AreSmall : ℕ × ℕ → Type 0
+    AreSmall pair = (pair.0 ≤ last_number) × (pair.1 ≤ last_number)
+
+    small-pairs : (ps : List (ℕ × ℕ)) → list_any (nat_lt last_number) (flat_map (λ (p : ℕ × ℕ). p.0 ∷ p.1 ∷ []) ps) ≡ false → All AreSmall ps
+    small-pairs [] e = All-nil _
+    small-pairs (pair ∷ ps) e = let first = or_parts (nat_lt last_number pair.0) _ e in let second = or_parts (nat_lt last_number pair.1) _ first.1 in
+        All-cons AreSmall _ _ (at-most _ _ first.0, at-most _ _ second.0) (small-pairs ps second.1)
+
+    pub edit-kept : (name source : List ℕ) (prefix : ℕ) (ps : List (ℕ × ℕ)) → (not (is_empty ps) && true) ≡ true
+        → Keeps n top (edit name source prefix ps)
+    edit-kept name source prefix ps filled f = let count = length-append d.names.results (name ∷ []) in
+        let c = Edit results (number_in source d.names.results) prefix ps in let below = known-result source f.known.0 in
+        let great = or_parts (nat_lt last_number prefix) _ f.limits.1.0 in
+        result-kept name c d.roles.plans refl refl f.single.0 f.short.0 f.limits.0 (
+          omega (arith, count),
+          omega (arith, count, below),
+          at-most _ _ great.0,
+          record { some = some-items ps filled; few = at-most _ _ f.limits.1.1.0; numbers = small-pairs ps great.1 },
+        ) (named-earlier source f.known.0) (names-kept name c) (plans-kept name c)
 
     pub plan-kept : (name : List ℕ) (xs : List SignedAtom) → (not (is_empty xs) && true) ≡ true → Keeps n top (plan name xs)
     plan-kept name xs filled f = let has : HasAtoms (line_of (plan name xs)) xs = record { atoms = refl; arguments = refl } in

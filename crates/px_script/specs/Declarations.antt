@@ -15,7 +15,7 @@ use Rattle.px_script.specs.Items.{Named, Argument, SignedAtom, Sign, WrittenRoom
 use Rattle.px_script.specs.Statements.{Statement, Line, Place, Block, line_of, domain, opens, operator_block, building_block, table_steps, table_rows, script, object, predicate, «axiom», operator, pre, delete, add, building, room, door, box, robot, end, fact, height, nodes, shapes, plan, learn, show, disturb_atoms, disturb_rooms, run, facts, sort, param, duo, save, certify, edit, pursue, table, step, goal, proof}
 use Rattle.px_script.specs.Limits as limit
 use Rattle.px_script.specs.Limits.{greatest}
-use Rattle.px_script.specs.Commands.{Command, Plan, Learn, Show, DisturbAtoms, DisturbRooms, Run, Facts, Duo}
+use Rattle.px_script.specs.Commands.{Command, Plan, Learn, Show, DisturbAtoms, DisturbRooms, Run, Facts, Duo, Edit}
 
 -- the operator whose block is open: its parameters' names, and its schema so far
 pub record OpenOperator : Type 0 where
@@ -397,6 +397,7 @@ declares n d (disturb_atoms turn between xs) = with_disturbance (DisturbAtoms tu
 declares n d (disturb_rooms turn between es) = with_disturbance (DisturbRooms turn between (map (room_edit_of d) es)) d
 declares n d (run m bs) = record (with_command (Run (number_in m d.names.results) (map (binding_of d) bs)) d) { disturbs = 0 }
 declares n d (duo one other ns) = with_command (Duo (number_in one d.names.results) (number_in other d.names.results) ns) d
+declares n d (edit m source prefix ps) = with_command (Edit (length d.names.results) (number_in source d.names.results) prefix ps) d
 declares n d facts = with_command Facts d
 declares n d (sort m ns) = record d { object_sorts = object_sorts_here d ++ replicate (length ns) (length d.sorts + 1) }
 declares n d (table m parameters) = open_block n (of_table_steps (record {
@@ -413,7 +414,6 @@ declares n d (goal xs) = in_block (λ kind. after_goal (change_table
 declares n d (proof parts) = in_block (change_table (λ t. record t { rows = t.rows ++ proofs_read d parts ∷ [] })) d
 declares n d (save m) = d
 declares n d (certify m) = d
-declares n d (edit m source prefix ps) = d
 declares n d (pursue m xs) = d
 declares n d (param m ps) =
     record d { block = option_map {T = OpenBlock} (λ block. record block { kind = give_sort (number_in m d.sorts + 1) ps block.kind }) d.block }

@@ -6,8 +6,8 @@ use Rattle.px_world.specs.declared.edits.AtomEdit.TheVariants as atom_edit
 use Rattle.px_world.specs.declared.thing.Thing.TheVariants.{Room, Door, Box, Robot}
 use Rattle.px_script.specs.Items.{last_parameter}
 use Rattle.px_script.specs.Limits as limit
-use Rattle.px_script.specs.Limits.{Bounds, greatest, of_nodes, of_turn, of_version, of_executor}
-use Rattle.px_script.specs.Commands.{Command, Plan, Learn, Show, DisturbAtoms, DisturbRooms, Run, Facts, Duo}
+use Rattle.px_script.specs.Limits.{Bounds, greatest, of_nodes, of_turn, of_version, of_executor, last_number}
+use Rattle.px_script.specs.Commands.{Command, Plan, Learn, Show, DisturbAtoms, DisturbRooms, Run, Facts, Duo, Edit}
 use Rattle.px_script.specs.Declarations.{operator_names, predicate_names}
 use Rattle.px_script.specs.Content.{ScriptValue}
 use Rattle.px_script.specs.Stages.{Stage, is_built}
@@ -121,6 +121,12 @@ pub record AreEventsOf (version : ℕ) (events : List ℕ) : Type 0 where
   pub few : length events ≤ greatest version limit.events
   pub executors : All (IsWithin of_executor) events
 
+-- There is a pair, and there are not too many; none of their numbers is too great.
+pub record ArePairsOf (version : ℕ) (wanted : List (ℕ × ℕ)) : Type 0 where
+  pub some : 1 ≤ length wanted
+  pub few : length wanted ≤ greatest version limit.pairs
+  pub numbers : All (λ pair. (pair.0 ≤ last_number) × (pair.1 ≤ last_number)) wanted
+
 -- The command's atoms and objects are the problem's, and its names are among the given number of results. With a building its
 -- edits are of rooms, and without one of atoms. No parameter is bound twice.
 abbrev pub IsCommandOf : ℕ → Problem → Option (List Thing) → ℕ → Command → Type 0
@@ -134,12 +140,15 @@ IsCommandOf version problem building results (DisturbRooms turn between edits) =
 IsCommandOf version problem building results (Run name bindings) =
     (name < results) × All (IsBindingOf problem) bindings × AllPairs (λ one other. one.0 ≢ other.0) bindings
 IsCommandOf version problem building results (Duo first second events) = (first < results) × (second < results) × AreEventsOf version events
+IsCommandOf version problem building results (Edit name source prefix wanted) =
+    (name < results) × (source < results) × (prefix ≤ last_number) × ArePairsOf version wanted
 IsCommandOf version problem building results Facts = Unit {0}
 
 -- the result that a command gives, by its number
 abbrev pub result_given : Command → List ℕ
 result_given (Plan name goal vars) = name ∷ []
 result_given (Learn name source) = name ∷ []
+result_given (Edit name source prefix wanted) = name ∷ []
 result_given _ = []
 
 -- the result that a plan gives
@@ -157,6 +166,7 @@ NamesEarlier before (Show name) = IsAmong (flat_map result_given before) name
 NamesEarlier before (Run name bindings) = IsAmong (flat_map result_given before) name
 NamesEarlier before (Duo first second events) =
     IsAmong (flat_map result_given before) first × IsAmong (flat_map result_given before) second
+NamesEarlier before (Edit name source prefix wanted) = IsAmong (flat_map result_given before) source
 NamesEarlier before _ = Unit {0}
 
 -- the disturbances since the last run
@@ -197,6 +207,7 @@ word_of (Learn name source) = codes "learn"
 word_of (Show name) = codes "show"
 word_of (Run name bindings) = codes "run"
 word_of (Duo first second events) = codes "duo"
+word_of (Edit name source prefix wanted) = codes "edit"
 word_of (DisturbAtoms turn between edits) = codes "disturb"
 word_of (DisturbRooms turn between edits) = codes "disturb"
 word_of Facts = codes "facts"

@@ -45,10 +45,6 @@ g k = open_variable (103 ∷ decimal k)
 abbrev p_of : List Argument → SignedAtom
 p_of ts = with_sign bare (codes "P") ts
 
--- an edit of the table M named E, of these pairs
-abbrev edit_of : ℕ → List (ℕ × ℕ) → Statement
-edit_of prefix ps = edit (codes "E") (codes "M") prefix ps
-
 abbrev pursue_of : List SignedAtom → Statement
 pursue_of xs = pursue (codes "K") xs
 
@@ -61,45 +57,38 @@ pub record WorkedUnbuilt : Type 0 where
   -- how they are written
   pub saving : Spell (codes "save M") (save (codes "M"))
   pub certifying : Spell (codes "certify M") (certify (codes "M"))
-  pub editing : Spell (codes "edit E from M 2 1=0 2 = 10") (edit (codes "E") (codes "M") 2 ((1, 0) ∷ (2, 10) ∷ []))
   pub pursuing : Spell (codes "pursue K P(?x) Q")
       (pursue (codes "K") (with_sign bare (codes "P") (open_variable (codes "x") ∷ []) ∷ q ∷ []))
   -- no words of version 1, and no such forms
-  pub new : Refuse 3 ((learned, codes "save M\ncertify M\nedit E from M 1 1=0\npursue K Q") ∷ [])
+  pub new : Refuse 3 ((learned, codes "save M\ncertify M\npursue K Q") ∷ [])
   pub no_form : Refuse 2 ((
     learned_in_two,
-    codes "save\nsave M N\nsave 1\ncertify\ncertify M 1\nedit E from M 2\nedit E M 2 1=0\n"
-        ++ codes "edit E from M 1=0\nedit E from M 2 1=0 2\nedit E from M 2 1=\npursue K\npursue P(a)\npursue K +Q",
+    codes "save\nsave M N\nsave 1\ncertify\ncertify M 1\npursue K\npursue P(a)\npursue K +Q",
   ) ∷ [])
   -- they stand wrong, or aren't built, whatever else is wrong with them
-  pub out_of_order : Refuse 9 ((codes "script 2\n" ++ in_operator, codes "save M\ncertify M\nedit E from M 1 1=0\npursue K Q")
+  pub out_of_order : Refuse 9 ((codes "script 2\n" ++ in_operator, codes "save M\ncertify M\npursue K Q")
       ∷ (codes "script 2\npredicate P 1", codes "pursue K P(?x)") ∷ [])
   pub unbuilt : Refuse 11 ((
     learned_in_two,
-    codes "save M\nsave L\ncertify N\nedit E from M 1 1=0\nedit M from L 1 1=0\npursue K P(?x)\n"
-        ++ codes "pursue N R",
+    codes "save M\nsave L\ncertify N\npursue K P(?x)\npursue N R",
   ) ∷ [])
   -- If they were built: lines without a fault.
-  pub fit : WouldHave learned_in_two (λ d. d) None (save (codes "M") ∷ certify n ∷ edit_of 9999 ((9999, 0) ∷ (1, 9999) ∷ [])
-      ∷ edit_of 1 (replicate 16 (1, 0))
+  pub fit : WouldHave learned_in_two (λ d. d) None (save (codes "M") ∷ certify n
       ∷ pursue_of (p_of (named (codes "a") ∷ []) ∷ p_of (open_variable (codes "x") ∷ []) ∷ []) ∷ [])
   -- unknown names, duplicates, wrong arities, and what may not stand in a goal
   pub unknown : WouldHave small with_all_results (Some (coded 4)) (save (codes "L") ∷ certify (codes "L")
-      ∷ edit (codes "E") (codes "L") 2 ((1, 0) ∷ []) ∷ pursue_of (with_sign bare (codes "R") [] ∷ []) ∷ [])
-  pub known_result : WouldHave small with_all_results (Some (coded 5)) (edit (codes "M") n 2 ((1, 0) ∷ []) ∷ pursue n (q ∷ []) ∷ [])
+      ∷ pursue_of (with_sign bare (codes "R") [] ∷ []) ∷ [])
+  pub known_result : WouldHave small with_all_results (Some (coded 5)) (pursue n (q ∷ []) ∷ [])
   pub arity : WouldHave small (λ d. d) (Some (coded 6)) (pursue_of (p_of [] ∷ []) ∷ [])
   pub unbound : WouldHave small (λ d. d) (Some (coded 7)) (pursue_of (p_of (anything ∷ []) ∷ []) ∷ [])
   -- limits, and the least of those that are passed
   pub long_names : WouldHave learned_in_two (λ d. d) (Some (limited 1))
-      (edit long_name (codes "M") 10000 [] ∷ pursue long_name (replicate 17 q) ∷ [])
+      (pursue long_name (replicate 17 q) ∷ [])
   pub many_variables : WouldHave (codes "object a\npredicate P 6\npredicate Q 0") (λ d. d) (Some (limited 7))
       (pursue_of (six_from 97 ∷ six_from 102 ∷ six_from 108 ∷ replicate 14 q) ∷ [])
   pub many_atoms : WouldHave learned_in_two (commands 1024) (Some (limited 12)) (pursue_of (replicate 17 q) ∷ [])
   pub many_commands : WouldHave learned_in_two (commands 1024) (Some (limited 13))
-      (save (codes "M") ∷ certify (codes "M") ∷ edit_of 10000 ((1, 0) ∷ []) ∷ pursue_of (q ∷ []) ∷ [])
-  pub great_numbers : WouldHave learned_in_two (λ d. d) (Some (limited 16)) (edit_of 10000 ((1, 0) ∷ [])
-      ∷ edit_of 1 ((1, 0) ∷ (10000, 0) ∷ []) ∷ edit_of 1 ((1, 10000) ∷ []) ∷ edit_of 10000 (replicate 17 (1, 0)) ∷ [])
-  pub many_pairs : WouldHave learned_in_two (λ d. d) (Some (limited 21)) (edit_of 1 (replicate 17 (1, 0)) ∷ [])
+      (save (codes "M") ∷ certify (codes "M") ∷ pursue_of (q ∷ []) ∷ [])
 
 -- ---- lines of tables
 

@@ -8,9 +8,9 @@ use Rattle.px_world.specs.declared.edits.AtomEdit.TheVariants as atom_edit
 use Rattle.px_world.specs.declared.edits.RoomEdit.TheVariants as room_edit
 use Rattle.px_world.specs.declared.thing.Thing.TheVariants as thing
 use Rattle.px_script.specs.Items.{Argument, SignedAtom, Sign, named, open_variable, anything, bare, negated, added, removed, robot_to, box_to, door_to}
-use Rattle.px_script.specs.Statements.{Statement, spelling, building, room, robot, door, box, «axiom», operator, delete, height, shapes, plan, learn, show, disturb_atoms, disturb_rooms, run, duo}
+use Rattle.px_script.specs.Statements.{Statement, spelling, building, room, robot, door, box, «axiom», operator, delete, height, shapes, plan, learn, show, disturb_atoms, disturb_rooms, run, duo, edit}
 use Rattle.px_script.specs.Lexemes.{Lexes}
-use Rattle.px_script.specs.Commands.{Facts, Plan, Learn, Show, DisturbAtoms, DisturbRooms, Run, Duo}
+use Rattle.px_script.specs.Commands.{Facts, Plan, Learn, Show, DisturbAtoms, DisturbRooms, Run, Duo, Edit}
 use Rattle.px_script.specs.Declarations.{Declared, nothing_declared}
 use Rattle.px_script.specs.Stages.{whole_language}
 use Rattle.px_script.specs.Scripts.{Passes, PassAll, Fails}
@@ -361,6 +361,37 @@ pub record WorkedDuos : Type 0 where
   pub numbers_first : RefuseWhere learned_in_two (λ d. d) 8 16 (codes "duo N M 3" ++ times 257 (codes " 1"))
   pub commands_first : RefuseWhere learned_in_two (commands 1024) 8 13 (codes "duo N M 3")
 
+-- ---- lines of edited tables, which version 2 has
+abbrev edited : List ℕ
+edited = learned_in_two ++ codes "\nedit E from M 2 1=0 2 = 10"
+
+pub record WorkedEdits : Type 0 where
+  -- what lines leave
+  pub edits : Leave (edited ++ codes "\nedit F from E 0 9999=0") (λ d. d.commands)
+      (Plan 0 (numbered 1 [] ∷ []) 0 ∷ Learn 1 0 ∷ Edit 2 1 2 ((1, 0) ∷ (2, 10) ∷ []) ∷ Edit 3 2 0 ((9999, 0) ∷ []) ∷ [])
+  pub gives_a_table : LeaveBoth edited (λ d. d.roles.plans) (codes "N" ∷ [])
+      (λ d. d.roles.tables) (codes "N" ∷ codes "M" ∷ codes "E" ∷ [])
+  -- An edited table may be shown, run and edited, but not learned.
+  pub named : Fit edited (λ d. d) (codes "show E\nrun E\nduo E M 1\nedit F from E 1 1=0")
+  pub no_plan : Refuse 4 ((edited, codes "learn L from E") ∷ [])
+  pub most_pairs : Fit learned_in_two (λ d. d) (codes "edit E from M 9999 9999=0 1=9999\nedit E from N 1" ++ times 16 (codes " 1=0"))
+  -- no word of version 1, and no such form; not in a block
+  pub new : Refuse 3 ((learned, codes "edit E from M 1 1=0") ∷ [])
+  pub no_form : Refuse 2 ((
+    learned_in_two,
+    codes "edit\nedit E from M 2\nedit E M 2 1=0\nedit E from M 1=0\nedit E from M 2 1=0 2\nedit E from M 2 1=\nedit 1 from M 2 1=0",
+  ) ∷ [])
+  pub out_of_order : Refuse 9 ((codes "script 2\n" ++ in_operator, codes "edit E from M 1 1=0") ∷ [])
+  -- unknown names, also before names that are taken, and those before limits
+  pub unknown : Refuse 4 ((learned_in_two, codes "edit E from L 2 1=0\nedit E from E 2 1=0\nedit M from L 1 1=0") ∷ [])
+  pub known_result : Refuse 5 ((learned_in_two, codes "edit M from N 2 1=0\nedit N from N 10000 1=0") ∷ [])
+  -- limits, and the least of those that are passed
+  pub limits : Exceed ((1, learned_in_two, codes "edit " ++ long_name ++ codes " from M 10000 1=0")
+      ∷ (16, learned_in_two, codes "edit E from M 10000 1=0\nedit E from M 1 1=0 10000=0\nedit E from M 1 1=10000")
+      ∷ (16, learned_in_two, codes "edit E from M 10000" ++ times 17 (codes " 1=0"))
+      ∷ (21, learned_in_two, codes "edit E from M 1" ++ times 17 (codes " 1=0")) ∷ [])
+  pub commands_first : RefuseWhere learned_in_two (commands 1024) 8 13 (codes "edit E from M 10000 1=0")
+
 -- ---- how lines are written, from their characters
 -- The characters spell the statement.
 pub record Spell (characters : List ℕ) (s : Statement) : Type 0 where
@@ -391,6 +422,7 @@ pub record WorkedSpellings : Type 0 where
   pub learning : Spell (codes "learn M from N") (learn (codes "M") (codes "N"))
   pub showing : Spell (codes "show M") (show (codes "M"))
   pub executing_two : Spell (codes "duo N M 1 2") (duo (codes "N") (codes "M") (1 ∷ 2 ∷ []))
+  pub editing : Spell (codes "edit E from M 2 1=0 2 = 10") (edit (codes "E") (codes "M") 2 ((1, 0) ∷ (2, 10) ∷ []))
   pub edits_before : Spell (codes "disturb 3 before +P(a)-Q")
       (disturb_atoms 3 false (with_sign added (codes "P") (named (codes "a") ∷ []) ∷ with_sign removed (codes "Q") [] ∷ []))
   pub edits_between : Spell (codes "disturb 3 between + Q") (disturb_atoms 3 true (with_sign added (codes "Q") [] ∷ []))

@@ -80,6 +80,13 @@ pub enum Command {
         second: u32,
         events: Sequence<u32>,
     },
+    /// Make a table of the first steps of another that some of their adds rest on. A pair is a step from 1, and one of its adds from 0.
+    Edit {
+        name: u32,
+        from: u32,
+        prefix: u32,
+        wanted: Sequence<(u32, u32)>,
+    },
     /// Answer the facts.
     Facts,
 }

@@ -31,8 +31,8 @@
 //! - [`only_takes_away`]: where only some words are built, a line is refused as where all are, or as not built, and a
 //!   script is a script of the whole of it.
 //! - [`is_in_range`]: what a script is about is in range, and of the language as far as it is built (`IsOfStage`), so a caller may
-//!   hand its numbers on. What is built is one list of words, `stage_now`: the whole of version 1, sorts, and `duo`; all laws hold
-//!   of any list.
+//!   hand its numbers on. What is built is one list of words, `stage_now`: the whole of version 1, sorts, `duo` and `edit`; all
+//!   laws hold of any list.
 //! - [`worked_lines`] and [`worked_texts`]: what the definition says of small lines, and of small texts from their bytes, to be
 //!   compared with what a reader expects.
 //!
@@ -49,7 +49,7 @@ ghost use Rattle.px_script.specs.Stages.{Stage, whole_language};
 ghost use Rattle.px_script.specs.Statements.{Statement};
 ghost use Rattle.px_script.specs.Scripts.{ReadsOneWay, IsScript};
 ghost use Rattle.px_script.specs.Worked.{WorkedScripts, WorkedRefusals};
-ghost use Rattle.px_script.specs.WorkedLines.{WorkedBuildings, WorkedCommands, WorkedDomains, WorkedDuos, WorkedLimits, WorkedSorts, WorkedSpellings};
+ghost use Rattle.px_script.specs.WorkedLines.{WorkedBuildings, WorkedCommands, WorkedDomains, WorkedDuos, WorkedEdits, WorkedLimits, WorkedSorts, WorkedSpellings};
 ghost use Rattle.px_script.specs.WorkedLater.{WorkedLater, WorkedTables, WorkedUnbuilt};
 
 mod command;
@@ -75,6 +75,7 @@ pub fn worked_lines()
     ensures limits { WorkedLimits }
     ensures sorts { WorkedSorts }
     ensures duos { WorkedDuos }
+    ensures edits { WorkedEdits }
     ensures unbuilt { WorkedUnbuilt }
     ensures tables { WorkedTables }
     ensures later { WorkedLater }

@@ -14,10 +14,10 @@ use Rattle.px_script.specs.Content.{ScriptValue}
 use Rattle.px_script.specs.declared.limits.Limit.TheVariants as limit
 use Rattle.px_script.specs.Limits.{greatest}
 use Rattle.px_script.specs.RangeLaws.{version-most}
-use Rattle.px_script.specs.Ranges.{IsBindingOf, IsBuildingOf, IsCommandOf, IsInRange, result_given}
+use Rattle.px_script.specs.Ranges.{ArePairsOf, IsBindingOf, IsBuildingOf, IsCommandOf, IsInRange, result_given}
 use Rattle.px_world.specs.declared.thing.Thing.{Thing}
 use Rattle.px_rooms.specs.States.{RoomState}
-use Rattle.px_session.specs.KeptSessions.{AreEditsToNote, IsBindingToRun, IsKeptSession, IsRunnable}
+use Rattle.px_session.specs.KeptSessions.{AreAddsToWant, AreEditsToNote, IsBindingToRun, IsKeptSession, IsRunnable}
 use Rattle.px_session.specs.Lawful.{Lawful, recorded_for}
 use Rattle.px_session.specs.Named.{IsTellable}
 use Rattle.px_session.specs.Opened.{SessionValue, opened_session, tables_of}
@@ -48,6 +48,9 @@ binding-ready problem bound each once = record {
 no-edits : (problem : Problem) (building : Option RoomState) → AreEditsToNote problem building []
 no-edits problem building = record { own = All-nil (IsOwnEdit problem); taken = All-nil (Takes building) }
 
+wanted-ready : (version : ℕ) (wanted : List (ℕ × ℕ)) → ArePairsOf version wanted → AreAddsToWant wanted
+wanted-ready version wanted are = record { some = omega (arith, are.some); few = omega (arith, are.few) }
+
 abbrev IsReady : Problem → Option (List Thing) → ℕ → Command → Type 0
 IsReady problem building results given = IsRunnable problem (at_first building) given × IsTellable problem results given
 
@@ -62,6 +65,8 @@ ready version problem building results (command.Plan name goal vars) owns of = (
   (of.0, of.1.atoms),
 )
 ready version problem building results (command.Learn name source) owns of = ((tt, no-edits problem (at_first building)), of)
+ready version problem building results (command.Edit name source prefix wanted) owns of =
+    ((wanted-ready version wanted of.3, no-edits problem (at_first building)), (of.0, of.1))
 ready version problem building results (command.Show name) owns of = ((tt, no-edits problem (at_first building)), of)
 ready version problem building results (command.DisturbAtoms turn between edits) owns of =
     ((tt, note-atoms problem building edits of.1 of.2), tt)
@@ -121,6 +126,12 @@ keeps-parts problem old given answer new is =
       learned = λ n has. subst (λ (c : Command). Contains old.learned.names n ⊎ Contains (result_given c) n) (sym by)
           (Contains-append_cases old.learned.names (name ∷ []) n has);
     }))
+    (λ name source prefix wanted params steps new by is. subst (KeepsParts (result_given given) old) (sym is.learned)
+    (record {
+      recorded = omega arith;
+      learned = λ n has. subst (λ (c : Command). Contains old.learned.names n ⊎ Contains (result_given c) n) (sym by)
+          (Contains-append_cases old.learned.names (name ∷ []) n has);
+    }))
     (λ turn between. record {
       recorded = omega (arith, length-append old.recorded (recorded_for turn between (edits_given given) ∷ []));
       learned = λ n has. inl has;
@@ -136,6 +147,7 @@ pub own-goal : (problem : Problem) (building : Option RoomState) (given : Comman
     → IsOwnGoal problem given
 own-goal problem building (command.Plan name goal vars) runs = runs.0.atoms
 own-goal problem building (command.Learn name source) runs = tt
+own-goal problem building (command.Edit name source prefix wanted) runs = tt
 own-goal problem building (command.Show name) runs = tt
 own-goal problem building (command.DisturbAtoms turn between edits) runs = tt
 own-goal problem building (command.DisturbRooms turn between edits) runs = tt

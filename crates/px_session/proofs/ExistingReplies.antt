@@ -35,6 +35,7 @@ use Rattle.px_session.specs.Sessions.{Edit, IsSession, SessionState, any_table, 
 use Rattle.px_session.specs.Transcripts.{AreAnswers, texts}
 use Rattle.px_session.proofs.DuosEnd.{duo-ends}
 use Rattle.px_session.proofs.Executing.{own-goals}
+use Rattle.px_session.proofs.ExistingEdits.{edit-reply}
 use Rattle.px_session.proofs.Kept.{sessions_are_kept}
 use Rattle.px_session.proofs.Learned.{are-learned}
 use Rattle.px_session.proofs.OneLearning.{any-right}
@@ -162,6 +163,7 @@ module _ (traces-exist : TracesExist leaves_edit) (duo-traces-exist : DuoTracesE
     other-reply : (given : Command) → AsksNoSearch given → HasReply problem old given
     other-reply (command.Plan name goal vars) asks = absurd asks
     other-reply (command.Learn name source) asks = absurd asks
+    other-reply (command.Edit name source prefix wanted) asks = absurd asks
     other-reply (command.Show name) asks = shown name
     other-reply (command.DisturbAtoms turn between edits) asks = noted turn between (map of_atoms edits)
     other-reply (command.DisturbRooms turn between edits) asks = noted turn between (map of_rooms edits)
@@ -198,6 +200,7 @@ module _ (traces-exist : TracesExist leaves_edit) (duo-traces-exist : DuoTracesE
     no-learning : (given : Command) → LearnsNothing given → IsOwnGoal problem given → ¬ ¬ HasReply problem old given
     no-learning (command.Plan name goal vars) learns own = plan-reply name goal vars own
     no-learning (command.Learn name source) learns own = absurd learns
+    no-learning (command.Edit name source prefix wanted) learns own = edit-reply problem old name source prefix wanted valid session
     no-learning (command.Show name) learns own = λ never. never (other-reply (command.Show name) tt)
     no-learning (command.DisturbAtoms turn between edits) learns own = λ never. never (other-reply (command.DisturbAtoms turn between edits) tt)
     no-learning (command.DisturbRooms turn between edits) learns own = λ never. never (other-reply (command.DisturbRooms turn between edits) tt)
@@ -293,4 +296,5 @@ module _ (traces-exist : TracesExist leaves_edit) (duo-traces-exist : DuoTracesE
     plans = λ problem old name goal vars valid session own.
         plan-reply traces-exist duo-traces-exist stay-ready problem old valid session name goal vars own;
     learned = learn-reply;
+    edited = λ problem old name source prefix wanted valid session. edit-reply problem old name source prefix wanted valid session;
   }

@@ -17,6 +17,7 @@ use Rattle.px_session.specs.Causes.{CausesInOrder, RefusedReplies, one_learned, 
 use Rattle.px_session.specs.Lawful.{Lawful, RefusesLearning, TellsLearning, TellsRun, first_unknown}
 use Rattle.px_session.specs.Sessions.{SessionState, any_table}
 use Rattle.px_session.proofs.OneDuo.{no-first, no-second}
+use Rattle.px_session.proofs.OneEditing.{no-source, not-edited}
 use Rattle.px_session.proofs.OneLearning.{none_or_some, one_some}
 use Rattle.px_session.proofs.RunReplies.{bad-unknown}
 
@@ -71,6 +72,8 @@ causes_in_order = record {
   no_plan = no-plan;
   too_long = too-long;
   too_deep = too-deep;
+  no_source = λ problem old name source prefix wanted answer new. no-source problem old name source prefix wanted answer new;
+  not_edited = λ problem old name source prefix wanted answer new. not-edited problem old name source prefix wanted answer new;
   no_table = no-table;
   no_parameter = no-parameter;
   no_first_table = λ problem old first second numbers answer new. no-first problem old first second numbers answer new;

@@ -18,14 +18,15 @@ use Rattle.px_printer.specs.declared.reply.Reply.{Reply}
 use Rattle.px_printer.specs.declared.reply.Why.TheVariants.{TooLong, TooDeep, TooWide, Full}
 use Rattle.px_script.specs.declared.command.Command.{Command}
 use Rattle.px_session.specs.Determined.{SessionsAreKept}
-use Rattle.px_session.specs.Lawful.{IsLearned, Lawful, turn_told}
+use Rattle.px_session.specs.Lawful.{IsEditedInto, IsLearned, Lawful, turn_told}
 use Rattle.px_session.specs.OwnStates.{IsOwnGoal}
 use Rattle.px_session.specs.Sessions.{IsLearnedTable, IsPlanTable, IsSession, SessionState, opening}
 use Rattle.px_duo.specs.Duos.{both}
 use Rattle.px_session.proofs.Ascending.{duo-set, run-set}
 use Rattle.px_session.proofs.FoundTables.{found-carries, found-table}
 use Rattle.px_session.proofs.Learned.{are-learned}
-use Rattle.px_session.proofs.OneLearning.{plan-right}
+use Rattle.px_session.proofs.OneEditing.{edited-learned}
+use Rattle.px_session.proofs.OneLearning.{any-right, plan-right}
 use Rattle.px_session.proofs.OwnKept.{own-kept}
 use Rattle.px_session.proofs.Replied.{replied}
 use Rattle.px_session.proofs.Shapes.{general-alike, general-low, general-short}
@@ -65,6 +66,20 @@ learned-kept problem old session name source params steps new is =
       few = length-more old.learned.tables is.general (λ full. is.allowed Full (short, low, narrow, full));
     })
 
+edited-kept : (problem : Problem) (old : SessionState) → IsValid problem → IsSession problem old → (name source prefix : ℕ)
+    (wanted : List (ℕ × ℕ)) (params steps : ℕ) (new : SessionState)
+    → IsEditedInto problem name source prefix wanted old params steps new → IsSession problem new
+edited-kept problem old valid session name source prefix wanted params steps new is =
+    let right = any-right problem old session.plans session.learned source is.table is.named in
+    subst (IsSession problem) (sym is.learned)
+    (record {
+      atoms = session.atoms;
+      plans = session.plans;
+      learned = one-more (IsLearnedTable problem) old.learned.tables is.edited session.learned
+          (edited-learned problem valid is.table right prefix wanted is.editable is.few is.low is.edited is.is);
+      few = length-more old.learned.tables is.edited is.room;
+    })
+
 kept : (problem : Problem) (old : SessionState) (given : Command) (answer : Reply) (new : SessionState) → IsValid problem
     → IsSession problem old → IsOwnGoal problem given → Lawful problem old given answer new → IsSession problem new
 kept problem old given answer new valid session own is =
@@ -78,6 +93,8 @@ kept problem old given answer new valid session own is =
       few = session.few;
     })
     (λ name source params steps new by is. learned-kept problem old session name source params steps new is)
+    (λ name source prefix wanted params steps new by is.
+    edited-kept problem old valid session name source prefix wanted params steps new is)
     (λ turn between. record { atoms = session.atoms; plans = session.plans; learned = session.learned; few = session.few })
     (λ name bound told new by is. subst (IsSession problem) (sym is.changed)
     (record {

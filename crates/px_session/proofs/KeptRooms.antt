@@ -112,6 +112,8 @@ module _ (problem : Problem) (old : SessionState) (building : RoomState) (sessio
       → Answered given answer new
   answered (command.Plan name goal vars) answer new taken is = unmoved (command.Plan name goal vars) tt answer new refl taken is
   answered (command.Learn name source) answer new taken is = unmoved (command.Learn name source) tt answer new refl taken is
+  answered (command.Edit name source prefix wanted) answer new taken is =
+      unmoved (command.Edit name source prefix wanted) tt answer new refl taken is
   answered (command.Show name) answer new taken is = unmoved (command.Show name) tt answer new refl taken is
   answered (command.DisturbAtoms turn between edits) answer new taken is =
       unmoved (command.DisturbAtoms turn between edits) tt answer new refl taken is

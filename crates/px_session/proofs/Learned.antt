@@ -15,7 +15,7 @@ use Rattle.px_printer.specs.declared.reply.Reply.{Reply}
 use Rattle.px_printer.specs.declared.reply.Reply.TheVariants as reply
 use Rattle.px_printer.specs.declared.reply.Why.{Why}
 use Rattle.px_printer.specs.declared.reply.Why.TheVariants.{TooLong, TooDeep, TooWide, Full}
-use Rattle.px_session.specs.Learning.{IsPut}
+use Rattle.px_session.specs.Learning.{IsPutAsLearned}
 use Rattle.px_session.specs.Lawful.{RefusesLearning, TellsLearning}
 use Rattle.px_session.specs.Sessions.{IsLearnedTable, IsSession, SessionState}
 use Rattle.px_session.proofs.OneLearning.{plan-right}
@@ -63,18 +63,18 @@ allowed state plan short low narrow room Full is = room is.3
 
 pub put-told : (problem : Problem) (name source : ℕ) (old : SessionState) (plan general : Table) → table_named old.plans source ≡ Some plan
     → ¬ IsTooLong plan → ¬ IsTooDeep plan → ¬ IsTooWide plan → Generalises problem plan general → (answer : Reply) (library : LibraryValue)
-    → IsPut old.learned name general answer library → TellsLearning problem old name source answer (record old { learned = library })
+    → IsPutAsLearned old.learned name general answer library → TellsLearning problem old name source answer (record old { learned = library })
 put-told problem name source old plan general named short low narrow is (reply.Learned given params steps) library put = (
   put.0,
   record {
     plan = plan;
     named = named;
-    allowed = allowed old plan short low narrow put.3;
+    allowed = allowed old plan short low narrow put.3.0;
     general = general;
     generalises = is;
     params_are = put.1;
     steps_are = put.2;
-    learned = ap (λ (l : LibraryValue). record old { learned = l }) put.4;
+    learned = ap (λ (l : LibraryValue). record old { learned = l }) put.3.1;
   },
 )
 put-told problem name source old plan general named short low narrow is (reply.LearnRefused given why) library put = (
@@ -82,8 +82,8 @@ put-told problem name source old plan general named short low narrow is (reply.L
   record {
     plan = plan;
     named = named;
-    refused = subst (RefusesLearning old plan) (sym put.1) (short, low, narrow, put.2);
-    same = ap (λ (l : LibraryValue). record old { learned = l }) put.3;
+    refused = subst (RefusesLearning old plan) (sym put.1) (short, low, narrow, put.2.0);
+    same = ap (λ (l : LibraryValue). record old { learned = l }) put.2.1;
   },
 )
 put-told problem name source old plan general named short low narrow is answer library put = absurd put

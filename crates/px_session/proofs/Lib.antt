@@ -1,6 +1,9 @@
 -- The files of lemmas.
 pub mod OneSearch
 pub mod OneLearning
+pub mod OneEditing
+pub mod ExistingEdits
+pub mod EditedTables
 pub mod OneRunning
 pub mod ToldRuns
 pub mod Undisturbed

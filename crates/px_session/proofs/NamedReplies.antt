@@ -27,7 +27,7 @@ use Rattle.px_printer.specs.Turns.{IsNamedStep, IsNamedTurn}
 use Rattle.px_printer.specs.declared.turn.Turn.{Turn}
 use Rattle.px_script.specs.declared.command.Command.{Command}
 use Rattle.px_script.specs.declared.command.Command.TheVariants as command
-use Rattle.px_session.specs.Lawful.{FindsPlan, Lawful, Notes, TellsDuo, TellsFacts, TellsLearning, TellsRun, TellsSearch, TellsShow, recorded_for, turn_told}
+use Rattle.px_session.specs.Lawful.{FindsPlan, Lawful, Notes, TellsDuo, TellsEditing, TellsFacts, TellsLearning, TellsRun, TellsSearch, TellsShow, recorded_for, turn_told}
 use Rattle.px_session.specs.Named.{AreNamesOfProblem, IsTellable, RepliesAreNamed}
 use Rattle.px_session.specs.Sessions.{Edit, IsLearnedTable, IsPlanTable, IsSession, SessionState, any_table, of_atoms, of_rooms}
 use Rattle.px_session.proofs.FoundTables.{found-table}
@@ -194,6 +194,18 @@ named-learning problem names old name source (reply.Learned given params steps) 
     same-result given name (length names.results) is.0 below
 named-learning problem names old name source answer new below also is = absurd is
 
+-- so does editing
+named-editing : (problem : Problem) (names : NameLists) (old : SessionState) (name source prefix : ℕ) (wanted : List (ℕ × ℕ))
+    (answer : Reply) (new : SessionState) → name < length names.results → source < length names.results
+    → TellsEditing problem old name source prefix wanted answer new → IsReplyNamed names answer
+named-editing problem names old name source prefix wanted (reply.Unknown given) new below also is =
+    same-result given source (length names.results) is.0 also
+named-editing problem names old name source prefix wanted (reply.EditRefused given why) new below also is =
+    same-result given name (length names.results) is.0 below
+named-editing problem names old name source prefix wanted (reply.Edited given params steps) new below also is =
+    same-result given name (length names.results) is.0 below
+named-editing problem names old name source prefix wanted answer new below also is = absurd is
+
 -- for each command that is built
 pub named-each : (problem : Problem) (names : NameLists) (old : SessionState) (given : Command) (answer : Reply)
     (new : SessionState)
@@ -209,6 +221,8 @@ named-each problem names old command.Facts answer new valid all atoms session te
     named-facts problem names all old session.plans session.learned answer new atoms is
 named-each problem names old (command.Learn name source) answer new valid all atoms session tellable is =
     named-learning problem names old name source answer new tellable.0 tellable.1 is
+named-each problem names old (command.Edit name source prefix wanted) answer new valid all atoms session tellable is =
+    named-editing problem names old name source prefix wanted answer new tellable.0 tellable.1 is
 named-each problem names old (command.DisturbAtoms turn between edits) answer new valid all atoms session tellable is =
     named-noted names old (recorded_for turn between (map of_atoms edits)) answer new is
 named-each problem names old (command.DisturbRooms turn between edits) answer new valid all atoms session tellable is =

@@ -18,6 +18,7 @@ use Rattle.px_session.specs.Determined.{LawfulIsOne, SameReply}
 use Rattle.px_session.specs.Lawful.{Lawful, Notes, TellsFacts, TellsShow, recorded_for}
 use Rattle.px_session.specs.Sessions.{Edit, IsSession, SessionState, any_table, of_atoms, of_rooms}
 use Rattle.px_session.proofs.OneDuo.{duo-one}
+use Rattle.px_session.proofs.OneEditing.{editing-one}
 use Rattle.px_session.proofs.OneLearning.{learning-one, none_or_some, one_some}
 use Rattle.px_session.proofs.OneRunning.{run-one}
 use Rattle.px_session.proofs.OneSearch.{search-one}
@@ -58,6 +59,8 @@ reply-one problem old (command.Plan name goal vars) one other new later valid se
     search-one (task_of problem old.learned.tables old.atoms goal vars) name old one other new later p q
 reply-one problem old (command.Learn name source) one other new later valid session p q =
     learning-one problem valid old session name source one other new later p q
+reply-one problem old (command.Edit name source prefix wanted) one other new later valid session p q =
+    editing-one problem old name source prefix wanted one other new later p q
 reply-one problem old (command.Show name) one other new later valid session p q = show-one old name one other new later p q
 reply-one problem old (command.DisturbAtoms turn between edits) one other new later valid session p q =
     notes-one old (recorded_for turn between (map of_atoms edits)) one other new later p q

@@ -26,6 +26,8 @@ own-kept problem old given answer new valid session own edits is =
     replied problem old given (IsOwnState problem) own
     (λ name goal vars count steps new by is. record { atoms = own.atoms; edits = own.edits })
     (λ name source params steps new by is. subst (IsOwnState problem) (sym is.learned) (record { atoms = own.atoms; edits = own.edits }))
+    (λ name source prefix wanted params steps new by is. subst (IsOwnState problem) (sym is.learned)
+    (record { atoms = own.atoms; edits = own.edits }))
     (λ turn between. record {
       atoms = own.atoms;
       edits = All-push (HasOwn problem) old.recorded

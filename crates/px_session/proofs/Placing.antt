@@ -63,6 +63,8 @@ placed-later problem building old placed given no_run taken answer new is =
     (λ name goal vars count steps new by is. record { place = placed.place; edits = placed.edits })
     (λ name source params steps new by is. subst (IsPlaced problem building) (sym is.learned)
     (record { place = placed.place; edits = placed.edits }))
+    (λ name source prefix wanted params steps new by is. subst (IsPlaced problem building) (sym is.learned)
+    (record { place = placed.place; edits = placed.edits }))
     (λ turn between. record {
       place = placed.place;
       edits = All-push (λ (r : Recorded Edit). All (Takes building) r.edits) old.recorded

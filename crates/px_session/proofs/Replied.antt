@@ -12,11 +12,11 @@ use Rattle.px_printer.specs.declared.reply.Reply.TheVariants as reply
 use Rattle.px_printer.specs.declared.turn.Turn.{Turn}
 use Rattle.px_script.specs.declared.command.Command.{Command}
 use Rattle.px_script.specs.declared.command.Command.TheVariants as command
-use Rattle.px_session.specs.Lawful.{FindsPlan, IsDuoOf, IsLearned, IsRunOf, Lawful, Notes, TellsDuo, TellsFacts, TellsLearning, TellsRun, TellsSearch, TellsShow, recorded_for}
+use Rattle.px_session.specs.Lawful.{FindsPlan, IsDuoOf, IsEditedInto, IsLearned, IsRunOf, Lawful, Notes, TellsDuo, TellsEditing, TellsFacts, TellsLearning, TellsRun, TellsSearch, TellsShow, recorded_for}
 use Rattle.px_session.specs.OwnStates.{edits_given}
 use Rattle.px_session.specs.Sessions.{Edit, SessionState, of_atoms, of_rooms}
 
--- What holds of the state, and of each state that one more plan, one more learned table, one more disturbance, a run or two executors leave of it, holds
+-- What holds of the state, and of each state that one more plan, one more learned or edited table, one more disturbance, a run or two executors leave of it, holds
 -- of the state after each lawful reply.
 module _ (problem : Problem) (old : SessionState) (given : Command) (P : SessionState → Type 0) (same : P old)
     (stored : (name : ℕ) (goal : List Atom) (vars count : ℕ) (steps : List OpInst) (new : SessionState) → given ≡ command.Plan name goal vars
@@ -24,6 +24,8 @@ module _ (problem : Problem) (old : SessionState) (given : Command) (P : Session
     → P (record old { plans = with_table old.plans name is.made }))
     (learned : (name source params steps : ℕ) (new : SessionState) → given ≡ command.Learn name source
     → IsLearned problem name source old params steps new → P new)
+    (edited : (name source prefix : ℕ) (wanted : List (ℕ × ℕ)) (params steps : ℕ) (new : SessionState)
+    → given ≡ command.Edit name source prefix wanted → IsEditedInto problem name source prefix wanted old params steps new → P new)
     (noted : (turn : ℕ) (between : Bool) → P (record old { recorded = old.recorded ++ recorded_for turn between (edits_given given) ∷ [] }))
     (ran : (name : ℕ) (bound : List (ℕ × ℕ)) (told : List Turn) (new : SessionState) → given ≡ command.Run name bound
     → IsRunOf problem name bound old told new → P new)
@@ -47,6 +49,14 @@ module _ (problem : Problem) (old : SessionState) (given : Command) (P : Session
   after-learning name source by (reply.LearnRefused told why) new is = unchanged new is.1.same
   after-learning name source by (reply.Learned told params steps) new is = learned name source params steps new by is.1
   after-learning name source by answer new is = absurd is
+
+  after-editing : (name source prefix : ℕ) (wanted : List (ℕ × ℕ)) → given ≡ command.Edit name source prefix wanted
+      → (answer : Reply) (new : SessionState) → TellsEditing problem old name source prefix wanted answer new → P new
+  after-editing name source prefix wanted by (reply.Unknown told) new is = unchanged new is.2
+  after-editing name source prefix wanted by (reply.EditRefused told why) new is = unchanged new is.1.same
+  after-editing name source prefix wanted by (reply.Edited told params steps) new is =
+      edited name source prefix wanted params steps new by is.1
+  after-editing name source prefix wanted by answer new is = absurd is
 
   after-show : (name : ℕ) (answer : Reply) (new : SessionState) → TellsShow old name answer new → P new
   after-show name (reply.Unknown told) new is = unchanged new is.2
@@ -80,6 +90,7 @@ module _ (problem : Problem) (old : SessionState) (given : Command) (P : Session
   after-reply (command.Plan name goal vars) by answer new is =
       after-search name goal vars by answer new is
   after-reply (command.Learn name source) by answer new is = after-learning name source by answer new is
+  after-reply (command.Edit name source prefix wanted) by answer new is = after-editing name source prefix wanted by answer new is
   after-reply (command.Show name) by answer new is = after-show name answer new is
   after-reply (command.DisturbAtoms turn between edits) by answer new is =
       after-notes turn between (map of_atoms edits) (ap edits_given by) answer new is

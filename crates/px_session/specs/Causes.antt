@@ -6,13 +6,14 @@ use Rattle.px_general.specs.Limits.{IsTooDeep, IsTooLong}
 use Rattle.px_library.specs.Libraries.{no_tables, table_named, with_table}
 use Rattle.px_match.specs.Matching.{first_bad}
 use Rattle.px_ends.specs.WorkedEnds.{idle, p, p_at_once}
+use Rattle.px_printer.specs.declared.reply.EditWhy.{EditWhy}
 use Rattle.px_printer.specs.declared.reply.Reply.{Reply}
 use Rattle.px_printer.specs.declared.reply.Reply.TheVariants as reply
 use Rattle.px_printer.specs.declared.reply.Why.{Why}
 use Rattle.px_printer.specs.declared.reply.Why.TheVariants.{TooLong, TooDeep}
 use Rattle.px_script.specs.declared.command.Command.{Command}
 use Rattle.px_script.specs.declared.command.Command.TheVariants as command
-use Rattle.px_session.specs.Lawful.{Lawful, RefusesLearning, first_unknown}
+use Rattle.px_session.specs.Lawful.{Lawful, RefusesEditing, RefusesLearning, first_unknown}
 use Rattle.px_session.specs.Sessions.{SessionState, any_table, opening}
 
 -- A name without a table is unknown, whatever is bound, and so is a plan's name without a plan, whatever is learned. A bound parameter
@@ -24,6 +25,15 @@ pub record CausesInOrder : Type 0 where
   pub too_long : (state : SessionState) (plan : Table) (why : Why) → IsTooLong plan → RefusesLearning state plan why → why ≡ TooLong
   pub too_deep : (state : SessionState) (plan : Table) (why : Why) → (¬ IsTooLong plan) → IsTooDeep plan → RefusesLearning state plan why
       → why ≡ TooDeep
+  pub no_source : (problem : Problem) (old : SessionState) (name source prefix : ℕ) (wanted : List (ℕ × ℕ))
+      (answer : Reply) (new : SessionState)
+      → any_table old source ≡ None → Lawful problem old (command.Edit name source prefix wanted) answer new
+      → (answer ≡ reply.Unknown source) × (new ≡ old)
+  -- of the causes not to edit a table each is the answer wherever it is the first
+  pub not_edited : (problem : Problem) (old : SessionState) (name source prefix : ℕ) (wanted : List (ℕ × ℕ))
+      (answer : Reply) (new : SessionState) (table : Table) (why : EditWhy)
+      → any_table old source ≡ Some table → RefusesEditing problem old table prefix wanted why
+      → Lawful problem old (command.Edit name source prefix wanted) answer new → (answer ≡ reply.EditRefused name why) × (new ≡ old)
   pub no_table : (problem : Problem) (old : SessionState) (name : ℕ) (bound : List (ℕ × ℕ)) (answer : Reply) (new : SessionState)
       → any_table old name ≡ None → Lawful problem old (command.Run name bound) answer new → (answer ≡ reply.Unknown name) × (new ≡ old)
   pub no_parameter : (problem : Problem) (old : SessionState) (name : ℕ) (bound : List (ℕ × ℕ))

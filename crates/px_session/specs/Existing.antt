@@ -9,7 +9,7 @@ use Rattle.px_library.specs.Libraries.{table_named}
 use Rattle.px_printer.specs.declared.reply.Reply.{Reply}
 use Rattle.px_printer.specs.declared.reply.Why.{Why}
 use Rattle.px_script.specs.declared.command.Command.{Command}
-use Rattle.px_script.specs.declared.command.Command.TheVariants.{Learn, Plan}
+use Rattle.px_script.specs.declared.command.Command.TheVariants.{Edit, Learn, Plan}
 use Rattle.px_script.specs.Content.{ScriptValue}
 use Rattle.px_script.specs.Scripts.{IsScript}
 use Rattle.px_script.specs.Stages.{stage_now}
@@ -21,10 +21,11 @@ use Rattle.px_session.specs.Transcripts.{Transcript}
 abbrev pub HasReply : Problem → SessionState → Command → Type 0
 HasReply problem old given = (answer : Reply) × ((new : SessionState) × Lawful problem old given answer new)
 
--- the command searches for nothing, and learns nothing
+-- the command searches for nothing, learns nothing, and edits nothing
 abbrev pub AsksNoSearch : Command → Type 0
 AsksNoSearch (Plan name goal vars) = ⊥
 AsksNoSearch (Learn name source) = ⊥
+AsksNoSearch (Edit name source prefix wanted) = ⊥
 AsksNoSearch _ = Unit {0}
 
 abbrev pub LearnsNothing : Command → Type 0
@@ -39,7 +40,7 @@ pub record HasNoGeneral (problem : Problem) (old : SessionState) (source : ℕ) 
   pub no_general : (general : Table) → ¬ Generalises problem plan general
 
 -- In a session's state each command has a lawful reply. For a plan this is a double negation, since which one it is takes a search to say;
--- and for learning it is said but for plans without a general table.
+-- and so it is for editing, since which steps are kept takes work to say; and for learning it is said but for plans without a general table.
 pub record RepliesExist : Type 0 where
   pub others : (problem : Problem) (old : SessionState) (given : Command) → IsValid problem → IsSession problem old → AsksNoSearch given
       → HasReply problem old given
@@ -47,6 +48,8 @@ pub record RepliesExist : Type 0 where
       → All (IsAtomOf problem vars) goal → ¬ ¬ HasReply problem old (Plan name goal vars)
   pub learned : (problem : Problem) (old : SessionState) (name source : ℕ)
       → ¬ ¬ (HasReply problem old (Learn name source) ⊎ HasNoGeneral problem old source)
+  pub edited : (problem : Problem) (old : SessionState) (name source prefix : ℕ) (wanted : List (ℕ × ℕ)) → IsValid problem
+      → IsSession problem old → ¬ ¬ HasReply problem old (Edit name source prefix wanted)
 
 -- there are no bytes that are a script, without learning, of which no text is the transcript
 abbrev pub TranscriptsExist : Type 0

@@ -7,6 +7,7 @@ use Rattle.px_terms.specs.declared.problem.Problem.{Problem}
 use Rattle.px_terms.specs.Validity.{IsAtomOf, IsValid}
 use Rattle.px_script.specs.declared.command.Command.{Command}
 use Rattle.px_script.specs.declared.command.Command.TheVariants.{Plan, Run}
+use Rattle.px_script.specs.declared.command.Command.TheVariants as command
 use Rattle.px_rooms.specs.States.{RoomState}
 use Rattle.px_script.specs.Ranges.{result_given}
 use Rattle.px_session.specs.Named.{AreNamesOfProblem, IsTellable}
@@ -32,10 +33,16 @@ pub record AreEditsToNote (problem : Problem) (building : Option RoomState) (edi
   pub own : All (IsOwnEdit problem) edits
   pub taken : All (Takes building) edits
 
+-- some adds, no more than can be counted
+pub record AreAddsToWant (wanted : List (ℕ × ℕ)) : Type 0 where
+  pub some : 0 < length wanted
+  pub few : length wanted < u32_max
+
 -- what running a command asks of the problem's numbers in it
 abbrev pub IsAnswerable : Problem → Command → Type 0
 IsAnswerable problem (Plan name goal vars) = IsGoalToPlan problem goal vars
 IsAnswerable problem (Run name bound) = IsBindingToRun problem bound
+IsAnswerable problem (command.Edit name source prefix wanted) = AreAddsToWant wanted
 IsAnswerable problem _ = Unit {0}
 
 -- what running a command asks for, with the session's building

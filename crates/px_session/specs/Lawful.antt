@@ -13,10 +13,14 @@ use Rattle.px_library.specs.Libraries.{table_named, with_table}
 use Rattle.px_planex.specs.Turns.{AtGoal, AtNoKernel, ByActing, BySlipping, Recorded, RunsTable, TurnValue}
 use Rattle.px_planex.specs.Turns as executed
 use Rattle.px_duo.specs.Duos.{both}
+use Rattle.px_edit.specs.EditCauses.{IsBadPrefix, IsEditable, IsFirstBadWant, KeepsTooDeep, KeepsTooMany}
+use Rattle.px_edit.specs.Editing.{IsEdited}
 use Rattle.px_ends.specs.Ends.{IsExhausted, IsFound, IsNodeLimit, IsShapeLimit}
 use Rattle.px_ends.specs.Made.{IsTableOfMoves}
 use Rattle.px_ends.specs.Tasks.{Task, steps_of, task_of}
 use Rattle.px_printer.specs.declared.duo_line.DuoLine.{DuoLine}
+use Rattle.px_printer.specs.declared.reply.EditWhy.{EditWhy}
+use Rattle.px_printer.specs.declared.reply.EditWhy.TheVariants as edit_why
 use Rattle.px_printer.specs.declared.reply.Reply.{Reply}
 use Rattle.px_printer.specs.declared.reply.Reply.TheVariants as reply
 use Rattle.px_printer.specs.declared.reply.Why.{Why}
@@ -86,6 +90,54 @@ TellsLearning problem old name source (reply.LearnRefused given why) new = (give
 TellsLearning problem old name source (reply.Learned given params steps) new = (given ≡ name)
     × IsLearned problem name source old params steps new
 TellsLearning problem old name source answer new = ⊥
+
+-- ---- edit
+
+-- the table may not be edited so, for the first of these causes
+abbrev pub RefusesEditing : Problem → SessionState → Table → ℕ → List (ℕ × ℕ) → EditWhy → Type 0
+RefusesEditing problem state table prefix wanted edit_why.Prefix = IsBadPrefix table prefix
+RefusesEditing problem state table prefix wanted edit_why.Want =
+    (¬ IsBadPrefix table prefix) × ((place : ℕ) × IsFirstBadWant problem table prefix wanted place)
+RefusesEditing problem state table prefix wanted edit_why.TooLong = IsEditable problem table prefix wanted × KeepsTooMany table wanted
+RefusesEditing problem state table prefix wanted edit_why.TooDeep =
+    IsEditable problem table prefix wanted × (¬ KeepsTooMany table wanted) × KeepsTooDeep table wanted
+RefusesEditing problem state table prefix wanted edit_why.Full =
+    IsEditable problem table prefix wanted × (¬ KeepsTooMany table wanted) × (¬ KeepsTooDeep table wanted)
+    × (most_tables ≤ length state.learned.tables)
+
+-- the name's table may not be edited so for this cause, and nothing changes
+pub record IsNotEdited (problem : Problem) (source prefix : ℕ) (wanted : List (ℕ × ℕ))
+    (old : SessionState) (why : EditWhy) (new : SessionState) : Type 0 where
+  pub table : Table
+  pub named : any_table old source ≡ Some table
+  pub refused : RefusesEditing problem old table prefix wanted why
+  pub same : new ≡ old
+
+-- The name's table may be edited so, neither are too many steps kept nor is a proof of their rows too high, and there is room. The edited
+-- table, of these numbers of parameters and steps, is put last among the learned ones.
+pub record IsEditedInto (problem : Problem) (name source prefix : ℕ) (wanted : List (ℕ × ℕ))
+    (old : SessionState) (params steps : ℕ) (new : SessionState) : Type 0 where
+  pub table : Table
+  pub named : any_table old source ≡ Some table
+  pub editable : IsEditable problem table prefix wanted
+  pub few : ¬ KeepsTooMany table wanted
+  pub low : ¬ KeepsTooDeep table wanted
+  pub room : ¬ (most_tables ≤ length old.learned.tables)
+  pub edited : Table
+  pub is : IsEdited problem table wanted edited
+  pub params_are : params ≡ edited.params
+  pub steps_are : steps ≡ length edited.steps
+  pub learned : new ≡ record old { learned = with_table old.learned name edited }
+
+-- to `edit NAME from SOURCE ..`: the source has no table, or its table may not be edited so, or it is
+abbrev pub TellsEditing : Problem → SessionState → ℕ → ℕ → ℕ → List (ℕ × ℕ) → Reply → SessionState → Type 0
+TellsEditing problem old name source prefix wanted (reply.Unknown given) new =
+    (given ≡ source) × (any_table old source ≡ None) × (new ≡ old)
+TellsEditing problem old name source prefix wanted (reply.EditRefused given why) new =
+    (given ≡ name) × IsNotEdited problem source prefix wanted old why new
+TellsEditing problem old name source prefix wanted (reply.Edited given params steps) new =
+    (given ≡ name) × IsEditedInto problem name source prefix wanted old params steps new
+TellsEditing problem old name source prefix wanted answer new = ⊥
 
 -- ---- show
 
@@ -188,6 +240,7 @@ abbrev pub Lawful : Problem → SessionState → Command → Reply → SessionSt
 Lawful problem old (command.Plan name goal vars) answer new =
     TellsSearch (task_of problem old.learned.tables old.atoms goal vars) name old answer new
 Lawful problem old (command.Learn name source) answer new = TellsLearning problem old name source answer new
+Lawful problem old (command.Edit name source prefix wanted) answer new = TellsEditing problem old name source prefix wanted answer new
 Lawful problem old (command.Show name) answer new = TellsShow old name answer new
 Lawful problem old (command.DisturbAtoms turn between edits) answer new =
     Notes old (recorded_for turn between (map of_atoms edits)) answer new

@@ -6,7 +6,7 @@ use Rattle.px_terms.specs.Validity.{IsAtomOf, IsValid}
 use Rattle.px_printer.specs.Replies.{IsReplyNamed}
 use Rattle.px_printer.specs.declared.reply.Reply.{Reply}
 use Rattle.px_script.specs.declared.command.Command.{Command}
-use Rattle.px_script.specs.declared.command.Command.TheVariants.{Plan, Learn, Show, DisturbAtoms, DisturbRooms, Run, Duo, Facts}
+use Rattle.px_script.specs.declared.command.Command.TheVariants.{Plan, Learn, Show, DisturbAtoms, DisturbRooms, Run, Duo, Edit, Facts}
 use Rattle.px_session.specs.Lawful.{Lawful}
 use Rattle.px_session.specs.Sessions.{IsSession, SessionState}
 
@@ -16,7 +16,7 @@ pub record AreNamesOfProblem (problem : Problem) (names : NameLists) : Type 0 wh
   pub predicates : length names.predicates ≡ length problem.arities
   pub operators : length names.operators ≡ length problem.schemas
 
--- A plan has the name of a result, and a goal of atoms of the problem with these variables; `learn` takes the names of two results; `show`
+-- A plan has the name of a result, and a goal of atoms of the problem with these variables; `learn` takes the names of two results, and so does `edit`; `show`
 -- and `run` each take the name of a result, and `duo` takes two. Edits and the facts have no names of results.
 abbrev pub IsTellable : Problem → ℕ → Command → Type 0
 IsTellable problem results (Plan name goal vars) = (name < results) × All (IsAtomOf problem vars) goal
@@ -26,6 +26,7 @@ IsTellable problem results (DisturbAtoms turn between edits) = Unit {0}
 IsTellable problem results (DisturbRooms turn between edits) = Unit {0}
 IsTellable problem results (Run name bindings) = name < results
 IsTellable problem results (Duo first second numbers) = (first < results) × (second < results)
+IsTellable problem results (Edit name source prefix wanted) = (name < results) × (source < results)
 IsTellable problem results Facts = Unit {0}
 
 -- In a session's state with atoms of a valid problem, each lawful reply has a name for each number that it prints as one.

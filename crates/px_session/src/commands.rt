@@ -73,6 +73,12 @@ pub(crate) fn run_command(
             second,
             events,
         } => state.duo(alloc, problem, *first, *second, events.as_slice(), building),
+        Command::Edit {
+            name,
+            from,
+            prefix,
+            wanted,
+        } => state.edit(alloc, problem, *name, *from, *prefix, wanted.as_slice()),
         Command::Facts => state.tell_facts(alloc),
     }
 }

@@ -30,7 +30,7 @@ pub fn sessions_are_kept()
 {}
 
 /// In a session's state each command has a lawful reply: for a plan it can't be that there is none, and for learning it can't be but for a
-/// plan without a general table.
+/// plan without a general table; nor can it be for editing.
 pub fn replies_exist()
     ensures { RepliesExist }
 {

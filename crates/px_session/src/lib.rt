@@ -5,7 +5,7 @@
 //! # Calling it
 //!
 //! - [`Session::new`] takes a [`px_script::Script`] that was read. [`Session::execute`] answers command `k`, each once and in
-//!   order: `plan`, `learn`, `show`, `disturb`, `run`, `duo` and `facts`. Its reply is lawful, each number that it prints as a name has
+//!   order: `plan`, `learn`, `edit`, `show`, `disturb`, `run`, `duo` and `facts`. Its reply is lawful, each number that it prints as a name has
 //!   one, and after a refusal for memory the session is as it was. Contracts see a session as a `SessionValue` (`specs/Opened`); what it
 //!   keeps is in `specs/KeptSessions`.
 //! - With a building the world's atoms are the facts of a state of it, from the opening on and after each lawful reply, and the building
@@ -15,7 +15,7 @@
 //!   name in the order of learning, and the disturbances that are recorded for the next run. `opening` is the one before the
 //!   first command. An `Edit` is one of atoms or one of a building.
 //! - `Lawful` in `specs/Lawful` says which reply a command may have in a state, and which state it leaves: one relation for all
-//!   commands, a line for each. It stands on the ends of a search (`px_ends`), generalising (`px_general`), the
+//!   commands, a line for each. It stands on the ends of a search (`px_ends`), generalising (`px_general`), editing (`px_edit`), the
 //!   executor's runs (`px_planex`), two executors in one world (`px_duo`, `specs/DuoRuns`) and tables by name (`px_library`).
 //! - `IsSession` is what a session keeps: the world's atoms are a set; the table of each stored plan has no parameters, and its
 //!   own steps delete nothing that its later rows rest on; there are at most 32 learned tables, none of them too long or with a

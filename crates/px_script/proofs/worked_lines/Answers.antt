@@ -73,12 +73,28 @@ returns-clause-duos c = record {
   commands_first = search (after-so, fit-so, refuse-so) depth 14;
 }
 
+pub returns-clause-edits : goal.returns-clause-edits
+unfolding lines_read scan_by unicode_ident encode all_within items_after with_item set_of digits
+returns-clause-edits c = record {
+  edits = search (after-so, fit-so, refuse-so) depth 14;
+  gives_a_table = search (after-so, fit-so, refuse-so) depth 14;
+  named = search (after-so, fit-so, refuse-so) depth 14;
+  no_plan = search (after-so, fit-so, refuse-so) depth 14;
+  most_pairs = search (after-so, fit-so, refuse-so) depth 14;
+  new = search (after-so, fit-so, refuse-so) depth 14;
+  no_form = search (after-so, fit-so, refuse-so) depth 14;
+  out_of_order = search (after-so, fit-so, refuse-so) depth 14;
+  unknown = search (after-so, fit-so, refuse-so) depth 14;
+  known_result = search (after-so, fit-so, refuse-so) depth 14;
+  limits = search (after-so, fit-so, refuse-so) depth 14;
+  commands_first = search (after-so, fit-so, refuse-so) depth 14;
+}
+
 pub returns-clause-unbuilt : goal.returns-clause-unbuilt
 unfolding lines_read scan_by unicode_ident encode all_within items_after with_item set_of digits
 returns-clause-unbuilt c = record {
   saving = search spell;
   certifying = search spell;
-  editing = search spell;
   pursuing = search spell;
   new = search (refuse-so) depth 14;
   no_form = search (refuse-so) depth 14;
@@ -93,8 +109,6 @@ returns-clause-unbuilt c = record {
   many_variables = search (after-so) depth 14;
   many_atoms = search (after-so) depth 14;
   many_commands = search (after-so) depth 14;
-  great_numbers = search (after-so) depth 14;
-  many_pairs = search (after-so) depth 14;
 }
 
 pub returns-clause-tables : goal.returns-clause-tables

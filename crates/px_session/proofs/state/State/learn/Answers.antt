@@ -23,8 +23,8 @@ generalise-requires-clause-no_params c =
     (sym c.in-Some.ensures) in
     (plan-right c.args.problem.now c.args.self.now c.requires.session c.args.source c.in-Some.plan.now named).no_params
 
-pub put_into-requires-clause-short : goal.put_into-requires-clause-short
-put_into-requires-clause-short c =
+pub put_learned-requires-clause-short : goal.put_learned-requires-clause-short
+put_learned-requires-clause-short c =
     let named = subst (λ (s : SessionState). table_named s.plans c.args.source ≡ Some c.in-Some.plan.now) c.self.view_is
     (sym c.in-Some.ensures) in
     general-few c.args.problem.now c.args.self.now c.requires.session c.args.source c.in-Some.plan.now c.in-Ok.general named
@@ -37,11 +37,11 @@ returns-in_ok-reply-in-Ok-clause-told c =
     let narrow : ¬ IsTooWide c.in-Some.plan.now = λ wide. not-answered c.in-Ok.general TooWide c.in-Ok.ensures.too_wide
     (short, low, wide) in
     subst (λ (s : SessionState). TellsLearning c.args.problem.now s c.args.name c.args.source c.in_ok-reply-in-Ok.reply
-    (record (held.the_view c.self.inside) { learned = c.put_into.new.library }))
+    (record (held.the_view c.self.inside) { learned = c.put_learned.new.library }))
     c.self.view_is
     (put-told c.args.problem.now c.args.name c.args.source (held.the_view c.self.inside) c.in-Some.plan.now c.in-Ok.general
     (sym c.in-Some.ensures) short low narrow
-    c.in-Ok.ensures.general c.in_ok-reply-in-Ok.reply c.put_into.new.library c.in_ok-reply-in-Ok.ensures.put)
+    c.in-Ok.ensures.general c.in_ok-reply-in-Ok.reply c.put_learned.new.library c.in_ok-reply-in-Ok.ensures.put)
 
 pub returns-in-Err-TooLong-clause-told : goal.returns-in-Err-TooLong-clause-told
 returns-in-Err-TooLong-clause-told c =
