@@ -2,8 +2,9 @@
 from refusals.hints import no_text
 from refusals.scripts import Declared, Line, shown, visible
 from refusals.sentences import sentence
+from refusals.words import SENTENCES
 
-NO_TEXT = 1
+NO_TEXT, NO_CERTIFICATE = 1, 13
 
 
 def texts_of(lines):
@@ -26,6 +27,8 @@ def known_before(texts, at):
 def said_of(lines, refusal, known):
     """The sentence on a refusal, which is a line, a code and a limit."""
     at, code, limit = refusal
+    if code == NO_CERTIFICATE:
+        return SENTENCES[code] if at < len(lines) or lines[-1] else 'the certificate ends before this line'
     return no_text(lines, at) if code == NO_TEXT else sentence(code, limit, Line(texts_of(lines)[at - 1]), known)
 
 

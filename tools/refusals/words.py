@@ -71,6 +71,7 @@ SENTENCES = {
     9: 'this line may not stand here',
     10: 'the block that opens here is closed by no end: write a line end after its last line',
     11: 'lines of this word can\'t be answered yet: leave it out',
+    13: 'by the lines before it this is no line of a certificate: docs/CERTIFICATES.md shows how each is written',
 }
 # By limit: what passes it. A number that is out of its range (16) has the sentence of its word.
 OUT_OF_RANGE = 16

@@ -121,13 +121,8 @@ pub no_memory : (order : Option Order) (source : SourceEnds) (sink : SinkEnds) �
     → source.taken_after ≤ source.taken + limit → Wrote sink [] → StatusRight order source sink status.NoMemory
 no_memory None source sink is quiet short wrote = absurd (true≢false (sym is))
 no_memory (Some Run) source sink is quiet short wrote = (quiet, short, inl wrote)
-no_memory (Some Check) source sink is quiet short wrote = inr (refl, wrote)
+no_memory (Some Check) source sink is quiet short wrote = (quiet, short, wrote)
 no_memory (Some (Demo rooms seed)) source sink is quiet short wrote = wrote
-
--- `check` isn't built, and is answered as words that aren't taken
-pub unbuilt : (order : Option Order) (source : SourceEnds) (sink : SinkEnds) (result : Status) → Some Check ≡ order
-    → UsageRight sink result → StatusRight order source sink result
-unbuilt order source sink result is right = subst (λ (o : Option Order). StatusRight o source sink result) is (inl right)
 
 -- the line of the counts is the line of the replies
 pub summed : (rooms seed commands : ℕ) (session : SessionValue) (counts : Counts) (text : List ℕ) → IsCounted session counts

@@ -1,8 +1,10 @@
 -- The files of lemmas.
 pub mod AnswerLemmas
 pub mod Carried
+pub mod CheckLemmas
 pub mod CountLemmas
 pub mod DemoLemmas
+pub mod OneCheckText
 pub mod OneText
 pub mod OutcomeLemmas
 pub mod Fronts

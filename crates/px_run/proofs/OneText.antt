@@ -25,6 +25,7 @@ use Rattle.px_session.proofs.OneReply.{lawful_is_one}
 use Rattle.px_session.proofs.OneTranscript.{answers_are_one, transcripts_are_one}
 use Rattle.px_run.specs.Laws.{TextsAreOne}
 use Rattle.px_run.specs.Transcripts.{Begun}
+use Rattle.px_run.proofs.OneCheckText.{one-check-text}
 
 -- what replies begin with: those to the first commands, but for questions at limits of shapes
 record BeginsLike (xs ys : List Reply) : Type 0 where
@@ -101,4 +102,4 @@ begun-short bytes begun text first whole =
     omega (arith, long, sum)
 
 pub texts_are_one : TextsAreOne
-texts_are_one = record { whole = transcripts_are_one.transcripts; front = front-text; short = begun-short }
+texts_are_one = record { whole = transcripts_are_one.transcripts; front = front-text; short = begun-short; check = one-check-text }

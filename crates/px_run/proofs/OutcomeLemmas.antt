@@ -61,7 +61,7 @@ run-refused source sink bytes refused status.ReadFault came fault right = elim r
 run-refused source sink bytes refused status.TooLong came fault right = elim right [ ]
 
 -- all that came from a source of known bytes is these bytes
-told-all : (before after : Option (List ℕ)) (bytes came : List ℕ) → before ≡ Some bytes → Consumes before after came → IsAtEnd after
+pub told-all : (before after : Option (List ℕ)) (bytes came : List ℕ) → before ≡ Some bytes → Consumes before after came → IsAtEnd after
     → bytes ≡ came
 told-all None after bytes came told consumed at_end = cc
 told-all (Some xs) None bytes came told consumed at_end = elim consumed [ ]
@@ -78,7 +78,7 @@ told-length (Some xs) (Some ys) bytes came told consumed =
     let same : bytes ≡ came ++ ys = let e : xs ≡ bytes = cc in sym e ∙ consumed in
     rw (same, length-append) (omega arith)
 
-not-too-long : (source : SourceEnds) (bytes came : List ℕ) → source.left ≡ Some bytes → length bytes ≤ limit
+pub not-too-long : (source : SourceEnds) (bytes came : List ℕ) → source.left ≡ Some bytes → length bytes ≤ limit
     → Consumes source.left source.left_after came → source.taken_after ≡ source.taken + length came
     → ¬ (source.taken + limit < source.taken_after)
 not-too-long source bytes came told short gone count long =

@@ -3,7 +3,7 @@ use Rattle.std.specs.Prelude.{◌≡◌, ◌⊎◌, ℕ, List, []}
 use Rattle.px_io.specs.Writing.{AppendsFront, AppendsProperFront}
 use Rattle.px_reader.specs.declared.refused.Refused.{Refused}
 use Rattle.px_session.specs.Transcripts.{Transcript}
-use Rattle.px_run.specs.Outcomes.{Came, IsDemoText, SinkEnds, SourceEnds, Wrote}
+use Rattle.px_run.specs.Outcomes.{Came, IsCheckText, IsDemoText, SinkEnds, SourceEnds, Wrote}
 use Rattle.px_run.specs.Transcripts.{IsScriptRefused, refusal_text}
 use Rattle.px_run.specs.declared.status.Status.{Status}
 use Rattle.px_run.specs.declared.status.Status.TheVariants as status
@@ -34,3 +34,10 @@ abbrev pub HasDemoFront : (rooms seed : ℕ) → SinkEnds → Status → Type 0
 HasDemoFront rooms seed sink status.WriteFault = (text : List ℕ) → IsDemoText rooms seed text → WroteProperFront sink text
 HasDemoFront rooms seed sink status.NoMemory = Wrote sink []
 HasDemoFront rooms seed sink _ = Unit {0}
+
+-- the same for `check`, whose text is one piece
+abbrev pub HasCheckFront : SourceEnds → SinkEnds → Status → Type 0
+HasCheckFront source sink status.WriteFault =
+    (bytes : List ℕ) × Came source bytes × ((text : List ℕ) → IsCheckText bytes text → WroteProperFront sink text)
+HasCheckFront source sink status.NoMemory = Wrote sink []
+HasCheckFront source sink _ = Unit {0}

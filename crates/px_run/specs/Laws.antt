@@ -6,6 +6,8 @@ use Rattle.px_table.specs.declared.table.Table.{Table}
 use Rattle.px_table.specs.Kernels.{KernelsCarry}
 use Rattle.px_world.specs.declared.thing.Thing.{Thing}
 use Rattle.px_rooms.specs.States.{RoomState, first_state}
+use Rattle.px_cert.specs.Certificates.{Claim, IsCertificate}
+use Rattle.px_printer.specs.Notices.{yes_text}
 use Rattle.px_printer.specs.declared.reply.Reply.{Reply}
 use Rattle.px_printer.specs.declared.reply.Reply.TheVariants as reply
 use Rattle.px_script.specs.declared.command.Command.{Command}
@@ -16,16 +18,17 @@ use Rattle.px_session.specs.RoomRuns.{AreAnswersIn, IsInBuilding}
 use Rattle.px_session.specs.Sessions.{SessionState, any_table, opening}
 use Rattle.px_session.specs.Transcripts.{AreAnswers, Transcript}
 use Rattle.px_session.specs.Undisturbed.{ReachesGoal}
-use Rattle.px_run.specs.Outcomes.{Came, SourceEnds}
+use Rattle.px_run.specs.Outcomes.{Came, IsCheckText, IsVerdict, SourceEnds}
 use Rattle.px_run.specs.Transcripts.{Begun}
 use Rattle.px_run.specs.declared.status.Status.{Status}
 use Rattle.px_run.specs.declared.status.Status.TheVariants as status
 
--- The bytes determine the whole text. The text of the first commands begins it, and so is no longer.
+-- The bytes determine the whole text. The text of the first commands begins it, and so is no longer. They determine what `check` writes, too.
 pub record TextsAreOne : Type 0 where
   pub whole : (bytes text other : List ℕ) → Transcript bytes text → Transcript bytes other → text ≡ other
   pub front : (bytes begun text : List ℕ) → Begun bytes begun → Transcript bytes text → (rest : List ℕ) × (text ≡ begun ++ rest)
   pub short : (bytes begun text : List ℕ) → Begun bytes begun → Transcript bytes text → length begun ≤ length text
+  pub check : (bytes text other : List ℕ) → IsCheckText bytes text → IsCheckText bytes other → text ≡ other
 
 -- the atoms of the state carry the steps of a plan that a reply prints to the goal that was asked for
 abbrev pub PlanCarries : Problem → SessionState → Command → Reply → Type 0
@@ -69,3 +72,9 @@ abbrev pub CarriesWhereDone : SourceEnds → Status → Type 0
 CarriesWhereDone source status.Done = (bytes text : List ℕ) → Came source bytes → (transcript : Transcript bytes text) → (done : ℕ)
     → done ≤ length transcript.script.commands → CarriesAfter transcript.script transcript.answers done
 CarriesWhereDone source _ = Unit {0}
+
+-- Where `yes` is the line of a certificate that came, each proper instance of each kernel of its table carries the steps that are left.
+abbrev pub CertifiesWhereDone : SourceEnds → Status → Type 0
+CertifiesWhereDone source status.Done = (bytes text : List ℕ) (claim : Claim) → Came source bytes → IsCertificate bytes claim
+    → IsVerdict claim text → text ≡ yes_text claim.table.params (length claim.table.steps) → KernelsCarry claim.problem claim.table
+CertifiesWhereDone source _ = Unit {0}

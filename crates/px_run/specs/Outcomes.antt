@@ -1,11 +1,12 @@
 -- The outcomes of the top call.
 use Rattle.std.specs.Prelude.{◌≡◌, ◌⊎◌, ◌<◌, ◌≤◌, ◌+◌, ℕ, Bool, true, false, List, [], ◌++◌, length, Option, None, Some}
 use Rattle.std.specs.Io.KnownBytes.{Appends}
+use Rattle.px_cert.specs.Certificates.{Claim, IsCertificate, IsFirstBadLine}
 use Rattle.px_demo.specs.Script.{demo_script}
 use Rattle.px_io.specs.Causes.{Rose}
 use Rattle.px_io.specs.Reading.{ReadToEnd}
 use Rattle.px_io.specs.Writing.{HasNoRoomFor}
-use Rattle.px_printer.specs.Notices.{usage_text}
+use Rattle.px_printer.specs.Notices.{no_text, usage_text, yes_text}
 use Rattle.px_reader.specs.declared.refused.Refused.{Refused}
 use Rattle.px_script.specs.Content.{ScriptValue}
 use Rattle.px_script.specs.Stages.{stage_now}
@@ -13,6 +14,7 @@ use Rattle.px_script.specs.Scripts.{IsScript}
 use Rattle.px_session.specs.Demo.{Summary}
 use Rattle.px_session.specs.Opened.{SessionValue, opened_session}
 use Rattle.px_session.specs.Transcripts.{Transcript}
+use Rattle.px_table.specs.Tables.{IsTable}
 use Rattle.px_words.specs.declared.orders.Order.{Order}
 use Rattle.px_words.specs.declared.orders.Order.TheVariants.{Run, Demo, Check}
 use Rattle.px_run.specs.Sums.{IsSumOf}
@@ -60,7 +62,7 @@ sink_ends written faults sure before after = record {
   sure = sure before;
 }
 
--- how many bytes a script has at most
+-- how many bytes a script or a certificate has at most
 abbrev pub limit : ℕ
 limit = 1048576
 
@@ -116,15 +118,41 @@ DemoRight rooms seed sink status.WriteFault = (text : List ℕ) × IsDemoText ro
 DemoRight rooms seed sink status.NoMemory = Wrote sink []
 DemoRight rooms seed sink _ = ⊥
 
--- The outcomes of `check`, which isn't built: those of words that aren't taken, or there was no memory for reading the word.
-abbrev pub CheckRight : SinkEnds → Status → Type 0
-CheckRight sink result = UsageRight sink result ⊎ ((result ≡ status.NoMemory) × Wrote sink [])
+-- The one line of a claim: `yes` with its numbers of parameters and steps where its table is one for its problem, and else `no`.
+abbrev pub IsVerdict : Claim → List ℕ → Type 0
+IsVerdict claim text = (IsTable claim.problem claim.table × (text ≡ yes_text claim.table.params (length claim.table.steps)))
+    ⊎ ((¬ IsTable claim.problem claim.table) × (text ≡ no_text))
+
+-- the first bad line of bytes that aren't a certificate, by the code 13
+abbrev pub IsCertRefused : List ℕ → Refused → Type 0
+IsCertRefused bytes refused = IsFirstBadLine bytes refused.line × (refused.code ≡ 13) × (refused.limit ≡ 0)
+
+-- what `check` writes in one piece for the bytes: the line of the claim that they are the certificate of, or where they are refused
+abbrev pub IsCheckText : List ℕ → List ℕ → Type 0
+IsCheckText bytes text = ((claim : Claim) × IsCertificate bytes claim × IsVerdict claim text)
+    ⊎ ((refused : Refused) × IsCertRefused bytes refused × (text ≡ refusal_text refused))
+
+-- The outcomes of `check`.
+abbrev pub CheckRight : SourceEnds → SinkEnds → Status → Type 0
+CheckRight source sink status.Done = (bytes : List ℕ) × (claim : Claim) × (text : List ℕ)
+    × Came source bytes × IsCertificate bytes claim × IsVerdict claim text × Wrote sink text
+CheckRight source sink (status.Refused refused) =
+    (bytes : List ℕ) × Came source bytes × IsCertRefused bytes refused × Wrote sink (refusal_text refused)
+CheckRight source sink status.ReadFault =
+    Rose source.faults source.faults_after × (source.taken_after ≤ source.taken + limit) × (source.never_fails ≡ false) × Wrote sink []
+CheckRight source sink status.TooLong =
+    (source.taken + limit < source.taken_after) × (source.faults_after ≡ source.faults) × Wrote sink []
+CheckRight source sink status.WriteFault =
+    (bytes : List ℕ) × (text : List ℕ) × Came source bytes × IsCheckText bytes text × Broke sink [] text
+CheckRight source sink status.NoMemory =
+    (source.faults_after ≡ source.faults) × (source.taken_after ≤ source.taken + limit) × Wrote sink []
+CheckRight source sink status.Usage = ⊥
 
 -- the table of the statuses, by what the words order
 abbrev pub StatusRight : Option Order → SourceEnds → SinkEnds → Status → Type 0
 StatusRight None source sink result = UsageRight sink result
 StatusRight (Some Run) source sink result = RunRight source sink result
-StatusRight (Some Check) source sink result = CheckRight sink result
+StatusRight (Some Check) source sink result = CheckRight source sink result
 StatusRight (Some (Demo rooms seed)) source sink result = DemoRight rooms seed sink result
 
 -- Where a script's bytes are known and no count rose, the whole transcript is written, or memory ran out.
@@ -147,6 +175,28 @@ CompletesSurely source sink result =
 abbrev pub Refuses : SourceEnds → SinkEnds → Status → Type 0
 Refuses source sink result = (bytes : List ℕ) (refused : Refused) → source.left ≡ Some bytes → length bytes ≤ limit
     → IsScriptRefused bytes refused
+    → (¬ Rose source.faults source.faults_after) → (result ≡ status.Refused refused) ⊎ (result ≡ status.NoMemory)
+    ⊎ (result ≡ status.WriteFault)
+
+-- Where the bytes are known to be a certificate and no count rose, its line is written, or memory ran out.
+abbrev pub CheckCompletes : SourceEnds → SinkEnds → Status → Type 0
+CheckCompletes source sink result = (bytes : List ℕ) (claim : Claim) → source.left ≡ Some bytes → length bytes ≤ limit
+    → IsCertificate bytes claim → (¬ Rose source.faults source.faults_after) → (¬ Rose sink.faults sink.faults_after)
+    → (result ≡ status.Done) ⊎ (result ≡ status.NoMemory)
+
+-- The same holds for a source that never fails and a sink that is sure to take the line.
+abbrev pub CheckCompletesSurely : SourceEnds → SinkEnds → Status → Type 0
+CheckCompletesSurely source sink result =
+    (bytes : List ℕ) (claim : Claim) (held : List ℕ) (room : ℕ) → source.left ≡ Some bytes → length bytes ≤ limit
+    → IsCertificate bytes claim
+    → source.never_fails ≡ true → sink.written ≡ Some held → sink.sure ≡ Some room
+    → ((text : List ℕ) → IsVerdict claim text → length held + length text ≤ room)
+    → (result ≡ status.Done) ⊎ (result ≡ status.NoMemory)
+
+-- Bytes that are known and no certificate are refused, if no read failed, no write failed and memory didn't run out.
+abbrev pub CheckRefuses : SourceEnds → SinkEnds → Status → Type 0
+CheckRefuses source sink result = (bytes : List ℕ) (refused : Refused) → source.left ≡ Some bytes → length bytes ≤ limit
+    → IsCertRefused bytes refused
     → (¬ Rose source.faults source.faults_after) → (result ≡ status.Refused refused) ⊎ (result ≡ status.NoMemory)
     ⊎ (result ≡ status.WriteFault)
 
@@ -181,6 +231,21 @@ ExecutedRight session sink status.Done = (text : List ℕ) × IsTextOf session t
 ExecutedRight session sink status.WriteFault = (done : List ℕ) × (next : List ℕ) × IsNextOf session done next × Broke sink done next
 ExecutedRight session sink status.NoMemory = (text : List ℕ) × IsBegunOf session text × Wrote sink text
 ExecutedRight session sink _ = ⊥
+
+-- the outcomes of writing whether a claim is right
+abbrev pub JudgedRight : Claim → SinkEnds → Status → Type 0
+JudgedRight claim sink status.Done = (text : List ℕ) × IsVerdict claim text × Wrote sink text
+JudgedRight claim sink status.WriteFault = (text : List ℕ) × IsVerdict claim text × Broke sink [] text
+JudgedRight claim sink status.NoMemory = Wrote sink []
+JudgedRight claim sink _ = ⊥
+
+-- why no bytes came: a read failed, too many came, or memory ran out
+abbrev pub IsUnread : SourceEnds → Status → Type 0
+IsUnread source status.ReadFault =
+    Rose source.faults source.faults_after × (source.taken_after ≤ source.taken + limit) × (source.never_fails ≡ false)
+IsUnread source status.TooLong = (source.taken + limit < source.taken_after) × (source.faults_after ≡ source.faults)
+IsUnread source status.NoMemory = (source.faults_after ≡ source.faults) × (source.taken_after ≤ source.taken + limit)
+IsUnread source _ = ⊥
 
 -- the outcomes of writing a refusal
 abbrev pub RefusalRight : Refused → SinkEnds → Status → Type 0

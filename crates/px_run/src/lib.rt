@@ -22,6 +22,7 @@
 //! - No public clause cites `specs/Answers` and `specs/Sums`.
 #![tactic(auto)]
 
+mod check;
 mod counts;
 mod demo;
 mod laws;

@@ -1,16 +1,17 @@
 //! The top call.
-ghost use Rattle.std.specs.Prelude.{◌≡◌, ◌+◌, List, ℕ, Some, map, length};
+ghost use Rattle.std.specs.Prelude.{◌≡◌, ◌+◌, IfErr, IfOk, List, ℕ, Some, map, length};
 ghost use Rattle.std.specs.Io.KnownBytes.{Consumes};
 ghost use Rattle.px_script.specs.ReadScripts.{content};
 ghost use Rattle.px_script.specs.Ranges.{IsOfStage};
 ghost use Rattle.px_script.specs.Stages.{stage_now};
 ghost use Rattle.px_session.specs.Opened.{opened_session};
 ghost use Rattle.px_words.specs.Orders.{order_of};
-ghost use Rattle.px_words.specs.declared.orders.Order.TheVariants.{Run, Demo};
-ghost use Rattle.px_run.specs.Fronts.{HasDemoFront, HasFront};
-ghost use Rattle.px_run.specs.Laws.{CarriesWhereDone};
-ghost use Rattle.px_run.specs.Outcomes.{source_ends, sink_ends, DemoCompletes, DemoCompletesSurely, DemoRefuses, UsageRight, RefusalRight, ExecutedRight, RunRight, StatusRight, Completes, CompletesSurely, Refuses};
+ghost use Rattle.px_words.specs.declared.orders.Order.TheVariants.{Run, Check, Demo};
+ghost use Rattle.px_run.specs.Fronts.{HasCheckFront, HasDemoFront, HasFront};
+ghost use Rattle.px_run.specs.Laws.{CarriesWhereDone, CertifiesWhereDone};
+ghost use Rattle.px_run.specs.Outcomes.{source_ends, sink_ends, Came, CheckCompletes, CheckCompletesSurely, CheckRefuses, IsUnread, DemoCompletes, DemoCompletesSurely, DemoRefuses, UsageRight, RefusalRight, ExecutedRight, RunRight, StatusRight, Completes, CompletesSurely, Refuses};
 
+use crate::check::check;
 use crate::demo::demo;
 use crate::running::execute;
 use crate::status::Status;
@@ -23,19 +24,23 @@ use px_terms::NoMemory;
 use px_words::{Order, order_of};
 use std::alloc::Global;
 
-/// How many bytes a script has at most.
+/// How many bytes a script or a certificate has at most.
 const LIMIT: usize = 1_048_576;
 
-// Alike: `obey` and `run` below, since each states its own contract over the same source and sink.
+// Alike: `obey` and `run` below and `check`, since each states its own contract over the same source and sink.
 /// Does all that the program does: `words` are those of the command line, without the program's name. `run` reads a script from the
-/// source and answers it; `demo ROOMS SEED` makes a script, and sums up the replies to it; `check` isn't built yet and any other words
-/// aren't taken, so they are `Usage`.
+/// source and answers it; `demo ROOMS SEED` makes a script, and sums up the replies to it; `check` reads a certificate from the source and
+/// says whether it is right. Any other words aren't taken, so they are `Usage`.
 ///
 /// For every script, with or without a building, the transcript holds one lawful reply for each command (`right`): PLANEX acts by the
 /// highest kernel that fits, and the replies that no plan was found, that a limit was met or that no kernel fits come exactly where their
 /// definitions hold (laws of `px_session`). So the world's atoms carry the steps of each plan that a reply prints to its goal, and each
 /// proper instance of each kernel of each table that is kept carries the steps that are left (`carries`). A run that has sensed a kernel,
 /// and that nothing disturbs after that, ends at the goal, after no more turns than its table has kernels above that one (`carries`, too).
+///
+/// A certificate is answered `yes` exactly where its table is one for its problem, and then each proper instance of each of its kernels
+/// carries the steps that are left (`certifies`); and `no` where it isn't. Bytes that aren't a certificate are refused with their first bad
+/// line and the code 13.
 #[tactic(auto, using(crate::proofs::Carried::is_carried))]
 pub fn planex_main<'a, S: Source, K: Sink>(
     alloc: Global,
@@ -71,10 +76,29 @@ pub fn planex_main<'a, S: Source, K: Sink>(
         → DemoRefuses rooms seed (sink_ends K.written K.faults K.sure sink.old sink.new) result }
     ensures demo_front { (rooms seed : ℕ) → order_of (map (λ word. word.now) words.now) ≡ Some (Demo rooms seed)
         → HasDemoFront rooms seed (sink_ends K.written K.faults K.sure sink.old sink.new) result }
+    ensures check_completes { order_of (map (λ word. word.now) words.now) ≡ Some Check → CheckCompletes
+        (source_ends S.left S.taken S.faults S.never_fails source.old source.new)
+        (sink_ends K.written K.faults K.sure sink.old sink.new)
+        result }
+    ensures check_completes_surely { order_of (map (λ word. word.now) words.now) ≡ Some Check → CheckCompletesSurely
+        (source_ends S.left S.taken S.faults S.never_fails source.old source.new)
+        (sink_ends K.written K.faults K.sure sink.old sink.new)
+        result }
+    ensures check_refuses { order_of (map (λ word. word.now) words.now) ≡ Some Check → CheckRefuses
+        (source_ends S.left S.taken S.faults S.never_fails source.old source.new)
+        (sink_ends K.written K.faults K.sure sink.old sink.new)
+        result }
+    ensures check_front { order_of (map (λ word. word.now) words.now) ≡ Some Check → HasCheckFront
+        (source_ends S.left S.taken S.faults S.never_fails source.old source.new)
+        (sink_ends K.written K.faults K.sure sink.old sink.new)
+        result }
+    ensures certifies { order_of (map (λ word. word.now) words.now) ≡ Some Check → CertifiesWhereDone
+        (source_ends S.left S.taken S.faults S.never_fails source.old source.new) result }
     ensures carries { CarriesWhereDone (source_ends S.left S.taken S.faults S.never_fails source.old source.new) result }
     ensures gone { (came : List ℕ) × Consumes (S.left source.old) (S.left source.new) came
         × (S.taken source.new ≡ S.taken source.old + length came) }
-    ensures unread { ¬ (order_of (map (λ word. word.now) words.now) ≡ Some Run) → source.new ≡ source.old }
+    ensures unread { ¬ (order_of (map (λ word. word.now) words.now) ≡ Some Run)
+        → ¬ (order_of (map (λ word. word.now) words.now) ≡ Some Check) → source.new ≡ source.old }
     ensures source_nature { S.never_fails source.new ≡ S.never_fails source.old }
     ensures sink_nature { K.sure sink.new ≡ K.sure sink.old }
 {
@@ -82,7 +106,7 @@ pub fn planex_main<'a, S: Source, K: Sink>(
 }
 
 /// Does what the words order.
-#[tactic(auto, using(crate::proofs::DemoLemmas::no_memory, crate::proofs::DemoLemmas::ordered, crate::proofs::DemoLemmas::unbuilt))]
+#[tactic(auto, using(crate::proofs::DemoLemmas::no_memory, crate::proofs::DemoLemmas::ordered, crate::proofs::CheckLemmas::checked))]
 fn obey<'a, S: Source, K: Sink>(
     alloc: Global,
     words: &'a [&'a str],
@@ -95,14 +119,15 @@ fn obey<'a, S: Source, K: Sink>(
         result }
     ensures gone { (came : List ℕ) × Consumes (S.left source.old) (S.left source.new) came
         × (S.taken source.new ≡ S.taken source.old + length came) }
-    ensures unread { ¬ (order_of (map (λ word. word.now) words.now) ≡ Some Run) → source.new ≡ source.old }
+    ensures unread { ¬ (order_of (map (λ word. word.now) words.now) ≡ Some Run)
+        → ¬ (order_of (map (λ word. word.now) words.now) ≡ Some Check) → source.new ≡ source.old }
     ensures source_nature { S.never_fails source.new ≡ S.never_fails source.old }
     ensures sink_nature { K.sure sink.new ≡ K.sure sink.old }
 {
     match order_of(alloc, words) {
         Ok(Some(Order::Run)) => run(alloc, source, sink),
         Ok(Some(Order::Demo { rooms, seed })) => demo(alloc, rooms, seed, sink),
-        Ok(Some(Order::Check)) => usage(sink),
+        Ok(Some(Order::Check)) => check(alloc, source, sink),
         Ok(None) => usage(sink),
         Err(NoMemory) => Status::NoMemory,
     }
@@ -119,6 +144,22 @@ fn usage<K: Sink>(sink: &mut K) -> Status
     }
 }
 
+/// Returns all that comes from the source, or how the program ends where it isn't read.
+pub(crate) fn read_input<S: Source>(alloc: Global, source: &mut S) -> Result<Vec<u8>, Status>
+    ensures came { IfOk result (λ bytes. Came (source_ends S.left S.taken S.faults S.never_fails source.old source.new) bytes.items) }
+    ensures unread { IfErr result (λ status. IsUnread (source_ends S.left S.taken S.faults S.never_fails source.old source.new) status) }
+    ensures gone { (came : List ℕ) × Consumes (S.left source.old) (S.left source.new) came
+        × (S.taken source.new ≡ S.taken source.old + length came) }
+    ensures nature { S.never_fails source.new ≡ S.never_fails source.old }
+{
+    match read_all(alloc, source, LIMIT) {
+        Ok(bytes) => Ok(bytes),
+        Err(ReadErr::Fault) => Err(Status::ReadFault),
+        Err(ReadErr::TooLong) => Err(Status::TooLong),
+        Err(ReadErr::NoMemory) => Err(Status::NoMemory),
+    }
+}
+
 /// Reads a script, and answers its commands.
 fn run<S: Source, K: Sink>(alloc: Global, source: &mut S, sink: &mut K) -> Status
     ensures right { RunRight
@@ -130,11 +171,9 @@ fn run<S: Source, K: Sink>(alloc: Global, source: &mut S, sink: &mut K) -> Statu
     ensures source_nature { S.never_fails source.new ≡ S.never_fails source.old }
     ensures sink_nature { K.sure sink.new ≡ K.sure sink.old }
 {
-    let bytes = match read_all(alloc, source, LIMIT) {
+    let bytes = match read_input(alloc, source) {
         Ok(bytes) => bytes,
-        Err(ReadErr::Fault) => return Status::ReadFault,
-        Err(ReadErr::TooLong) => return Status::TooLong,
-        Err(ReadErr::NoMemory) => return Status::NoMemory,
+        Err(unread) => return unread,
     };
     match read_script(alloc, &bytes) {
         Ok(script) => answer(alloc, script, sink),
@@ -155,7 +194,7 @@ fn answer<K: Sink>(alloc: Global, script: Script, sink: &mut K) -> Status
     }
 }
 
-/// Writes where and why a script is refused.
+/// Writes where and why a script or a certificate is refused.
 pub(crate) fn refuse<K: Sink>(alloc: Global, refused: Refused, sink: &mut K) -> Status
     ensures right { RefusalRight refused (sink_ends K.written K.faults K.sure sink.old sink.new) result }
     ensures nature { K.sure sink.new ≡ K.sure sink.old }

@@ -237,7 +237,7 @@ fn each_demo_is_summed_up(rt: HostRuntime) -> Result<(), NoMemory> {
 #[test]
 fn other_words_are_answered_by_the_usage(rt: HostRuntime) -> Result<(), NoMemory> {
     let (status, written) = called(rt.alloc(), &["demo", "2", "0"])?;
-    let usage = b"usage: planex run | planex demo ROOMS SEED\n";
+    let usage = b"usage: planex run | planex demo ROOMS SEED | planex check\n";
     assert!(&rt; status == Status::Usage && written.as_slice() == usage.as_slice());
     Ok(())
 }

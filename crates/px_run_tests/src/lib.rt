@@ -5,6 +5,8 @@
 #[cfg(test)]
 mod answer_tests;
 #[cfg(test)]
+mod check_tests;
+#[cfg(test)]
 mod executor_tests;
 #[cfg(test)]
 mod failing_tests;

@@ -19,8 +19,26 @@ fn only(alloc: Global, call: u32) -> Result<Vec<u32>, NoMemory>
     Ok(list)
 }
 
-/// Returns the status of `run` and what it wrote, where this is its input. At most `most` bytes of the input come with a read, and the
-/// sink holds `room` bytes. The read and the write of these numbers fail.
+/// Returns the status of the program and what it wrote, where this is its only word, and this its input. At most `most` bytes of the input
+/// come with a read, and the sink holds `room` bytes. The read and the write of these numbers fail.
+pub(crate) fn answered_with(
+    alloc: Global,
+    word: &str,
+    input: Vec<u8>,
+    most: usize,
+    room: usize,
+    (read, write): (u32, u32),
+) -> Result<(Status, Vec<u8>), NoMemory>
+    requires most { 1 ≤ most }
+    requires calls { (read < u32_max) × (write < u32_max) }
+{
+    let mut source = MemSource::new(input, most, only(alloc, read)?);
+    let mut sink = MemSink::new(alloc, room, only(alloc, write)?)?;
+    let status = planex_main(alloc, &[word], &mut source, &mut sink);
+    Ok((status, sink.bytes().to_vec(alloc)?))
+}
+
+/// The same of `run`.
 pub(crate) fn ran_with(
     alloc: Global,
     input: Vec<u8>,
@@ -33,10 +51,7 @@ pub(crate) fn ran_with(
     requires read { read < u32_max }
     requires write { write < u32_max }
 {
-    let mut source = MemSource::new(input, most, only(alloc, read)?);
-    let mut sink = MemSink::new(alloc, room, only(alloc, write)?)?;
-    let status = planex_main(alloc, &["run"], &mut source, &mut sink);
-    Ok((status, sink.bytes().to_vec(alloc)?))
+    answered_with(alloc, "run", input, most, room, (read, write))
 }
 
 /// Returns the status of `run` and what it wrote, where no read and no write fails.

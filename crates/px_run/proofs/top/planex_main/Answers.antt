@@ -1,4 +1,5 @@
 -- Proofs of the goals that `planex_main` of src/top.rt leaves open.
+use Rattle.px_run.proofs.CheckLemmas.{check-completes, check-completes_surely, check-front, check-refuses, check-right, is_certified}
 use Rattle.px_run.proofs.DemoLemmas.{demo-completes, demo-completes_surely, demo-front, demo-refuses, demo-right, run-right}
 use Rattle.px_run.proofs.Fronts.{run-front}
 use Rattle.px_run.proofs.OutcomeLemmas.{run-completes, run-completes_surely, run-refuses}
@@ -38,3 +39,25 @@ returns-clause-demo_refuses g c =
 pub returns-clause-demo_front : goal.returns-clause-demo_front
 returns-clause-demo_front g c =
     λ rooms seed taken. demo-front rooms seed _ c.obey.result (demo-right rooms seed _ _ _ c.obey.result taken c.obey.ensures.right)
+
+pub returns-clause-check_completes : goal.returns-clause-check_completes
+returns-clause-check_completes g c =
+    λ taken. check-completes _ _ c.obey.result c.obey.ensures.gone.0 (check-right _ _ _ c.obey.result taken c.obey.ensures.right)
+    c.obey.ensures.gone.1 c.obey.ensures.gone.2
+
+pub returns-clause-check_completes_surely : goal.returns-clause-check_completes_surely
+returns-clause-check_completes_surely g c =
+    λ taken. check-completes_surely _ _ c.obey.result c.obey.ensures.gone.0
+    (check-right _ _ _ c.obey.result taken c.obey.ensures.right)
+    c.obey.ensures.gone.1 c.obey.ensures.gone.2
+
+pub returns-clause-check_refuses : goal.returns-clause-check_refuses
+returns-clause-check_refuses g c = λ taken. check-refuses _ _ c.obey.result c.obey.ensures.gone.0
+    (check-right _ _ _ c.obey.result taken c.obey.ensures.right)
+    c.obey.ensures.gone.1 c.obey.ensures.gone.2
+
+pub returns-clause-check_front : goal.returns-clause-check_front
+returns-clause-check_front g c = λ taken. check-front _ _ c.obey.result (check-right _ _ _ c.obey.result taken c.obey.ensures.right)
+
+pub returns-clause-certifies : goal.returns-clause-certifies
+returns-clause-certifies g c = λ taken. is_certified _ c.obey.result
