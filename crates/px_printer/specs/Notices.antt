@@ -5,7 +5,7 @@ use Rattle.px_printer.specs.Texts.{text_line}
 
 -- how the program is called
 abbrev pub usage_text : List ℕ
-usage_text = text_line (codes "usage: planex run | planex demo ROOMS SEED" ∷ [])
+usage_text = text_line (codes "usage: planex run | planex demo ROOMS SEED | planex check" ∷ [])
 
 -- a script is refused at this line, for the fault of this code; where it passes a limit, with the limit's number, and else
 -- with 0

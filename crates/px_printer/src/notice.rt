@@ -10,7 +10,7 @@ use std::fmt::Write;
 pub fn usage_text() -> &'static str
     ensures { result.now ≡ usage_text }
 {
-    "usage: planex run | planex demo ROOMS SEED\n"
+    "usage: planex run | planex demo ROOMS SEED | planex check\n"
 }
 
 /// Returns the text that says where and why a script is refused: the line, the code of its fault, and the number of the limit that is
