@@ -1,11 +1,13 @@
 -- The files of lemmas.
 pub mod Certifying
 pub mod ClaimLaws
+pub mod Claiming
 pub mod DigitLoops
 pub mod Digits
 pub mod Drafting
 pub mod DueLines
 pub mod Exact
+pub mod InRange
 pub mod Items
 pub mod Limited
 pub mod LineReading

@@ -7,7 +7,7 @@ pub fn certificates_read_one_way()
     ensures { (bytes : List ℕ) → ReadsOneWay bytes }
 {}
 
-/// Each claim has one text, and is of a valid problem.
+/// The certificates of a claim are its one text, where it is in range, and else there are none. Its problem is valid.
 pub fn claims_are_texts()
     ensures { ClaimsAreTexts }
 {}

@@ -46,7 +46,7 @@ use Rattle.px_edit.proofs.TableParts.{AreTableParts, from_marks-named, mark_name
 -- ---- lists
 
 -- the step of a number that there is
-step-in : (steps : List OpInst) (j : ℕ) → 1 ≤ j → j ≤ length steps → step_at steps j ≡ Some (slice_index_or steps (j - 1) no_step)
+pub step-in : (steps : List OpInst) (j : ℕ) → 1 ≤ j → j ≤ length steps → step_at steps j ≡ Some (slice_index_or steps (j - 1) no_step)
 step-in steps zero low high = absurd (omega (arith, low))
 step-in steps (suc j) low high =
     let down : suc j - 1 ≡ j = omega arith in

@@ -14,6 +14,7 @@ pub mod Needed
 pub mod Numbered
 pub mod OfParts
 pub mod PartSteps
+pub mod PartsThere
 pub mod Replies
 pub mod Restricting
 pub mod Sound

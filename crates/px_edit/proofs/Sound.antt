@@ -27,7 +27,7 @@ use Rattle.px_table.specs.Supports.{variables}
 use Rattle.px_table.specs.Tables.{IsTable, rows_of}
 use Rattle.px_table.specs.WellSorted.{HasSortsOfPlaces, sorts_by_places}
 use Rattle.px_table.specs.WellSortedLaws.{sorts_by_places-said}
-use Rattle.px_edit.specs.EditCauses.{IsEditable, most_height}
+use Rattle.px_edit.specs.EditCauses.{IsEditable, most_kept_height}
 use Rattle.px_edit.specs.EditClaims.{EachStepServes, EditingIsSound}
 use Rattle.px_edit.specs.Editing.{AreKeptSteps, IsEdited, IsNeededStep, IsRenamedTable, asked, in_columns, kept_of, kept_rows, kept_steps, left_parameters, names_by, new_number, no_step, rested_on, terms_of_parts, wanted_atom, wanted_atoms, wanted_fact}
 use Rattle.px_edit.proofs.Alike.{marks-kept, used-alike}
@@ -37,6 +37,7 @@ use Rattle.px_edit.proofs.KeptParts.{kept-mark, kept-parts, wanted-mark}
 use Rattle.px_edit.proofs.Lists.{place_of}
 use Rattle.px_edit.proofs.Needed.{keeps_wanted, kept_is_one, nothing_missed}
 use Rattle.px_edit.proofs.Numbered.{named-terms, parts-numbered}
+use Rattle.px_edit.proofs.PartsThere.{parts-there}
 use Rattle.px_edit.proofs.There.{edited-there}
 use Rattle.px_edit.proofs.TableParts.{mark_named, parts-named, table-of_parts, to_marks-named}
 
@@ -113,7 +114,7 @@ mutual
       ap (λ n. max n (greatest_height (derivations_under terms ds))) (height-under terms d) ∙ ap (max (height d)) (heights-under terms ds)
 
 abbrev IsHigh : Derivation → Type 0
-IsHigh d = most_height < height d
+IsHigh d = most_kept_height < height d
 
 -- where no proof of the kept rows is high, none of the edited table is
 pub edited-low : (problem : Problem) (table : Table) (wanted : List (ℕ × ℕ)) (edited : Table) (done : IsEdited problem table wanted edited)
@@ -265,6 +266,7 @@ editing_sound = record {
   serves = λ problem table prefix wanted edited valid is may done. edited-serves problem table prefix wanted edited is may done valid;
   whole = λ problem table prefix wanted kept is may are.
       (nothing_missed table wanted kept are, keeps_wanted problem table prefix wanted is may kept are);
+  there = parts-there;
   marks = λ problem table prefix wanted edited valid is may done. marks-kept problem valid table is prefix wanted may edited done;
   numbered = λ problem table prefix wanted edited valid is may done. edited-numbered problem table prefix wanted edited is may done valid;
   sorts = λ problem table prefix wanted edited valid is may done. edited-sorts problem table prefix wanted edited is may done valid;

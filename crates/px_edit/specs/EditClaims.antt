@@ -1,5 +1,5 @@
 -- What an edited table is worth.
-use Rattle.std.specs.Prelude.{◌≡◌, ◌⊎◌, ◌<◌, ◌≤◌, ℕ, List, length, map, take, All, Any, Contains, Some}
+use Rattle.std.specs.Prelude.{◌≡◌, ◌⊎◌, ◌<◌, ◌≤◌, ℕ, List, length, map, take, All, Any, Contains, Some, slice_get}
 use Rattle.std.proofs.Common.{suc}
 use Rattle.px_terms.specs.declared.atom.Atom.{Atom}
 use Rattle.px_terms.specs.declared.instance.OpInst.{OpInst}
@@ -7,7 +7,7 @@ use Rattle.px_terms.specs.declared.problem.Problem.{Problem}
 use Rattle.px_terms.specs.declared.term.Term.{Term}
 use Rattle.px_terms.specs.declared.term.Term.TheVariants.{Obj}
 use Rattle.px_terms.specs.Language.{substitute}
-use Rattle.px_terms.specs.Operators.{IsDeleted, schema_of}
+use Rattle.px_terms.specs.Operators.{IsDeleted, adds, schema_of}
 use Rattle.px_terms.specs.Sorts.{IsWellSorted}
 use Rattle.px_terms.specs.Substitution.{substitute_atom}
 use Rattle.px_terms.specs.Validity.{IsValid}
@@ -19,7 +19,7 @@ use Rattle.px_table.specs.Parameters.{IsNumbered}
 use Rattle.px_table.specs.Prefixes.{IsProperPrefix}
 use Rattle.px_table.specs.Tables.{IsTable}
 use Rattle.px_table.specs.WellSorted.{HasSortsOfPlaces, ParametersFit}
-use Rattle.px_edit.specs.Editing.{AreKeptSteps, IsEdited, left_parameters, names_by, new_number, wanted_atom}
+use Rattle.px_edit.specs.Editing.{AreKeptSteps, IsEdited, kept_steps, left_parameters, names_by, new_number, wanted_atom}
 use Rattle.px_edit.specs.EditCauses.{IsEditable}
 
 -- each step has an add that a row of the table rests on, the goal's row included
@@ -34,6 +34,19 @@ NothingIsMissed table kept = All (λ (mark : Mark). Contains kept mark.row → (
 abbrev pub KeepsWanted : List (ℕ × ℕ) → ℕ → List ℕ → Type 0
 KeepsWanted wanted prefix kept =
     All (λ (pair : ℕ × ℕ). Contains kept pair.0) wanted × All (λ k. (1 ≤ k) × (k ≤ prefix)) kept
+
+-- ---- that they are there
+
+-- the step of the pair is one of the table's, and adds the wanted atom at its place
+pub record IsAddThere (problem : Problem) (table : Table) (pair : ℕ × ℕ) : Type 0 where
+  pub inst : OpInst
+  pub step : step_at table.steps pair.0 ≡ Some inst
+  pub add : slice_get (adds problem inst) pair.1 ≡ Some (wanted_atom problem table pair)
+
+-- so it is with each pair, and each kept step is the table's step of its number: nothing stands for what is past an end
+pub record AreThere (problem : Problem) (table : Table) (wanted : List (ℕ × ℕ)) (kept : List ℕ) : Type 0 where
+  pub adds_are : All (IsAddThere problem table) wanted
+  pub steps_are : (place k : ℕ) → slice_get kept place ≡ Some k → slice_get (kept_steps table kept) place ≡ step_at table.steps k
 
 -- ---- where the marks of the edited table come from
 
@@ -108,6 +121,8 @@ pub record EditingIsSound : Type 0 where
   pub whole : (problem : Problem) (table : Table) (prefix : ℕ) (wanted : List (ℕ × ℕ)) (kept : List ℕ) → IsTable problem table
       → IsEditable problem table prefix wanted → AreKeptSteps table wanted kept
       → NothingIsMissed table kept × KeepsWanted wanted prefix kept
+  pub there : (problem : Problem) (table : Table) (prefix : ℕ) (wanted : List (ℕ × ℕ)) (kept : List ℕ) → IsValid problem
+      → IsTable problem table → IsEditable problem table prefix wanted → AreKeptSteps table wanted kept → AreThere problem table wanted kept
   pub marks : (problem : Problem) (table : Table) (prefix : ℕ) (wanted : List (ℕ × ℕ)) (edited : Table) → IsValid problem
       → IsTable problem table → IsEditable problem table prefix wanted → (is : IsEdited problem table wanted edited)
       → EachMarkIsKept problem table wanted is.kept edited
