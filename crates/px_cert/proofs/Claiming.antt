@@ -245,7 +245,7 @@ module _ (p : Problem) (t : Table) (is : IsClaimInRange p t) where
       (recursion_from_All (AreAtMost most_atoms (IsRowProof (language all) p.axioms)) t.proofs good_rows)) in
       ((t.param_sorts, refl, is.sorts), ((t.goal_vars, t.goal, refl, (is.goal_vars, good_goal)), ((length t.steps, refl, is.steps.0), lines)))
 
-  follow_claim : Follow no_lines (claim_lines p t) all
+  pub follow_claim : Follow no_lines (claim_lines p t) all
   follow_claim =
       follow_append no_lines (problem_lines p) (table_lines t) (record (axioms_draft p t is.of) { due = due.Table; schemas = p.schemas }) all
       (follow_problem p t is.of) follow_table

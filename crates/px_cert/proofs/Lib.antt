@@ -25,4 +25,5 @@ pub mod SoundLines
 pub mod StepReading
 pub mod TextLines
 pub mod ValidDrafts
+pub mod WorkedLaws
 pub mod Written

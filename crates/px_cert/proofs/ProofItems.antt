@@ -14,7 +14,8 @@ use Rattle.px_proof.specs.Derivation.{Derivation, Derivations, derivations, fact
 use Rattle.px_proof.specs.LayerLaws.{HasNoOpenPlace, HaveNoOpenPlace, comes_back, derivation_of-ancestor, derivation_of-fact, derivation_of-step, derivations-proofs_of, proof_of, proofs_of}
 use Rattle.px_proof.specs.ProofTerm.{derivation_of}
 use Rattle.px_cert.specs.declared.draft.Draft.{Draft}
-use Rattle.px_cert.specs.ClaimRanges.{AreAtMost, AreProofsInRange, AreTableTerms, axiom_at, IsProofInRange, IsRowProof, part_count}
+use Rattle.px_table.specs.Deciding.{clause_at}
+use Rattle.px_cert.specs.ClaimRanges.{AreAtMost, AreProofsInRange, AreTableTerms, IsProofInRange, IsRowProof, part_count}
 use Rattle.px_cert.specs.Drafts.{language}
 use Rattle.px_cert.specs.Limits.{greatest_written_height, most_atoms, most_places, table_variables}
 use Rattle.px_cert.specs.Lines.{atom_item, derivation_item, derivation_items, list_item, number_item, proof_item, term_item}
@@ -133,10 +134,10 @@ module _ (d : Draft) (small : IsSmall d) where
     ArePartsRead count proofs = (length proofs ≡ count) × AllByRecursion (IsLow d levels) proofs
 
     abbrev parts_count : ℕ → ℕ
-    parts_count number = length (axiom_at d.axioms number).lits - 1
+    parts_count number = length (clause_at d.axioms number).lits - 1
 
     abbrev vars_count : ℕ → ℕ
-    vars_count number = (axiom_at d.axioms number).vars
+    vars_count number = (clause_at d.axioms number).vars
 
     parts_start : StartsWell (flat_map proof_item)
     parts_start = many_start _ proof_item _ part proof_starts

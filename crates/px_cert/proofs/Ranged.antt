@@ -28,7 +28,8 @@ use Rattle.px_table.specs.OnceLaws.{Contains-each_once}
 use Rattle.px_table.specs.Supports.{ProvesEachOf, RowsProve, variables}
 use Rattle.px_table.specs.Limits.{most_steps}
 use Rattle.px_cert.specs.declared.draft.Draft.{Draft}
-use Rattle.px_cert.specs.ClaimRanges.{AreProofsInRange, axiom_at, IsProofInRange, IsShortSchema, IsTableAtom, part_count}
+use Rattle.px_table.specs.Deciding.{clause_at}
+use Rattle.px_cert.specs.ClaimRanges.{AreProofsInRange, IsProofInRange, IsShortSchema, IsTableAtom, part_count}
 use Rattle.px_cert.specs.Drafts.{language}
 use Rattle.px_cert.specs.Limits.{greatest_written_height, most_places, table_variables}
 use Rattle.px_cert.specs.Sound.{IsSound}
@@ -104,15 +105,15 @@ module _ (d : Draft) (sound : IsSound d) (params : ℕ) (few : params ≤ most_p
   parts_are atoms path (lit ∷ lits) none is = absurd is
 
   module _ (atoms : List Atom) where
-    place_is : (number place : ℕ) (theta : List Term) (c : Clause) → length (axiom_at d.axioms number).lits ≤ 6 → axiom_at d.axioms number ≡ c
+    place_is : (number place : ℕ) (theta : List Term) (c : Clause) → length (clause_at d.axioms number).lits ≤ 6 → clause_at d.axioms number ≡ c
         → place < length (instance_of c.lits theta) → place ≤ most_places
     place_is number place theta c size there at =
         let same = ap (λ (c : Clause). length c.lits) there in omega (arith, same, size, at, length-map {A = Lit} {B = Lit})
 
     count_is : (path : List Lit) (lit : Lit) (number place : ℕ) (theta : List Term) (parts : Derivations) (c : Clause)
-        → axiom_at d.axioms number ≡ c → place < length (instance_of c.lits theta)
+        → clause_at d.axioms number ≡ c → place < length (instance_of c.lits theta)
         → ProvesEach (from_atoms IsTerm atoms) d.axioms (lit ∷ path) (parts_of c.lits theta place) parts
-        → part_count parts + 1 ≡ length (axiom_at d.axioms number).lits
+        → part_count parts + 1 ≡ length (clause_at d.axioms number).lits
     count_is path lit number place theta parts c there at is =
         let same = ap (λ (c : Clause). length c.lits) there in
         let parts_count = parts_are atoms (lit ∷ path) (parts_of c.lits theta place) parts is in
@@ -127,7 +128,7 @@ module _ (d : Draft) (sound : IsSound d) (params : ℕ) (few : params ≤ most_p
       ranged path lit (step number theta place parts) is good short =
           let empty : Clause = record { vars = 0; lits = [] } in
           let below = got_below d.axioms number is.0 is.1.axiom_at in
-          let there : axiom_at d.axioms number ≡ is.0 = got_is d.axioms number is.0 empty is.1.axiom_at in
+          let there : clause_at d.axioms number ≡ is.0 = got_is d.axioms number is.0 empty is.1.axiom_at in
           let size = (sound.clauses number empty below).1.1 in
           let at = got_below (instance_of is.0.lits theta) place lit is.1.literal_at in (
             below,

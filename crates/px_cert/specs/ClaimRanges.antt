@@ -10,6 +10,7 @@ use Rattle.px_terms.specs.Limits.{most_arguments, most_formula_variables}
 use Rattle.px_terms.specs.Operators.{no_schema}
 use Rattle.px_terms.specs.Validity.{IsPatternOf, IsPatternTermOf, IsValid}
 use Rattle.px_table.specs.declared.table.Table.{Table}
+use Rattle.px_table.specs.Deciding.{clause_at}
 use Rattle.px_table.specs.Limits.{most_steps}
 use Rattle.px_table.specs.Marks.{marks_from}
 use Rattle.px_table.specs.Tables.{rows_of}
@@ -40,10 +41,6 @@ AreTableTerms problem terms = All (IsPatternTermOf problem table_variables) term
 abbrev pub IsTableAtom : Problem → Atom → Type 0
 IsTableAtom problem atom = IsPatternOf problem table_variables atom
 
--- the clause of that number; past the last one a clause without literals
-abbrev pub axiom_at : List Clause → ℕ → Clause
-axiom_at axioms number = slice_index_or axioms number (record { vars = 0; lits = [] })
-
 abbrev pub part_count : Derivations → ℕ
 part_count none = 0
 part_count (also d ds) = 1 + part_count ds
@@ -54,8 +51,8 @@ abbrev mutual
   IsProofInRange problem axioms (fact leaf) = (leaf.column ≤ most_places) × (leaf.index ≤ most_places) × IsTableAtom problem leaf.atom
   IsProofInRange problem axioms (ancestor i) = i ≤ most_places
   IsProofInRange problem axioms (step number theta place parts) =
-      (number < length axioms) × (place ≤ most_places) × (length theta ≡ (axiom_at axioms number).vars) × AreTableTerms problem theta
-      × (part_count parts + 1 ≡ length (axiom_at axioms number).lits) × AreProofsInRange problem axioms parts
+      (number < length axioms) × (place ≤ most_places) × (length theta ≡ (clause_at axioms number).vars) × AreTableTerms problem theta
+      × (part_count parts + 1 ≡ length (clause_at axioms number).lits) × AreProofsInRange problem axioms parts
   IsProofInRange problem axioms (gap atom) = ⊥
   IsProofInRange problem axioms open_place = ⊥
 

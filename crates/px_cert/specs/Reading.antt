@@ -19,7 +19,7 @@ use Rattle.px_cert.specs.declared.draft.Due.{Due}
 use Rattle.px_cert.specs.declared.draft.Due.TheVariants as due
 use Rattle.px_cert.specs.declared.refused.Refused.{Refused}
 use Rattle.px_cert.specs.declared.refused.Refused.TheVariants as refused
-use Rattle.px_cert.specs.ClaimRanges.{axiom_at}
+use Rattle.px_table.specs.Deciding.{clause_at}
 use Rattle.px_cert.specs.Drafts.{after_line}
 use Rattle.px_cert.specs.Limits.{greatest_sort, greatest_written_height, most_atoms, most_objects, most_operators, most_places, most_predicates, most_table_parameters, table_variables}
 use Rattle.px_cert.specs.Lines.{Line, heading, objects, predicates, axioms, clause, operators, operator, pre, delete, add, table, goal, steps, action, row}
@@ -172,8 +172,8 @@ step_of_parts parts = Step parts.0 parts.1.1.0 parts.1.0 parts.1.1.1
 -- a step whose parts are read so
 unfoldable pub step_at : Draft → Reader Proof → Reader Proof
 step_at d part = as_at step_of_parts
-    (pair_at (number_at (length d.axioms)) (λ number. pair_at place_at (λ place. pair_at (terms_at d (axiom_at d.axioms number).vars)
-    (λ theta. many_at part (length (axiom_at d.axioms number).lits - 1)))))
+    (pair_at (number_at (length d.axioms)) (λ number. pair_at place_at (λ place. pair_at (terms_at d (clause_at d.axioms number).vars)
+    (λ theta. many_at part (length (clause_at d.axioms number).lits - 1)))))
 
 -- a proof of at most so many levels
 unfoldable pub proof_at : Draft → ℕ → Reader Proof
