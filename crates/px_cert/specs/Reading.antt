@@ -1,5 +1,5 @@
 -- Reading from left to right: what stands at the front of the bytes, and the bytes after it.
-use Rattle.std.specs.Prelude.{◌≡◌, ◌==◌, ◌&&◌, ◌||◌, ◌+◌, ◌*◌, ◌-◌, ℕ, Bool, true, false, not, List, [], ◌∷◌, codes, length, take, drop, slice_index, slice_index_or, Option, Some, None, Result, Ok, Err, nat_le, nat_lt}
+use Rattle.std.specs.Prelude.{◌≡◌, ◌==◌, ◌&&◌, ◌||◌, ◌+◌, ◌*◌, ◌-◌, ℕ, Bool, true, false, not, List, [], ◌∷◌, codes, length, take, drop, slice_index, slice_index_or, Option, Some, None, Result, Ok, Err, nat_le, nat_lt, if◌then◌else◌}
 use Rattle.std.proofs.Common.{zero, suc, Bor}
 use Rattle.std.specs.Char.{is_ascii_digit}
 use Rattle.px_terms.specs.declared.atom.Atom.{Atom}
