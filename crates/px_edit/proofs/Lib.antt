@@ -21,3 +21,4 @@ pub mod Sound
 pub mod StepAtoms
 pub mod TableParts
 pub mod There
+pub mod WorkedEditLaws
