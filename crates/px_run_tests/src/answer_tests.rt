@@ -1,6 +1,6 @@
 //! Scripts with what is written for them, the demo, and the words of the command line.
 use crate::runs::{called, ran};
-use crate::samples::{BEGINNING, EXAMPLE, Pieces, REPLIES, REST, joined};
+use crate::samples::{EXAMPLE, Pieces, REPLIES, joined};
 use px_io::NoMemory;
 use px_run::Status;
 use std::alloc::Global;
@@ -165,32 +165,6 @@ const ANSWERED: &[(Pieces, Pieces)] = &[
             ("  2 nokernel\n  1 goal\nfacts 1\n  HAS(A,X)\nrun Q\n", 1),
             (
                 "  turn 1 kernel 1 TAKE(B,X) acted\n  turn 2 kernel 2 goal\n",
-                1,
-            ),
-        ],
-    ),
-    // Of the learned table what going alone needs; and what isn't edited.
-    (
-        &[
-            ("script 2\n", 1),
-            (BEGINNING, 1),
-            (REST, 1),
-            (
-                "learn M1 from P1\nedit E from M1 2 1=0\nshow E\nedit F from M1 2 6=0\nedit G from M1 3 1=0\n",
-                1,
-            ),
-        ],
-        &[
-            (
-                "plan P1 2 steps 4 moves\n  1 GOTHRU(D1,R1,R2)\n  2 PUSHTHRU(B1,D1,R2,R1)\nlearned M1 6 parameters 2 steps\n",
-                1,
-            ),
-            (
-                "edited E 3 parameters 1 steps\ntable E 3 parameters 1 steps\nrow 1 GOTHRU(p2,p1,p3)\n  0 INROOM(ROBOT,p1)\n",
-                1,
-            ),
-            (
-                "  0 CONNECTS(p2,p1,p3)\nrow 2 goal INROOM(ROBOT,p3)\n  1 INROOM(ROBOT,p3)\nnotedited F want\nnotedited G prefix\n",
                 1,
             ),
         ],
