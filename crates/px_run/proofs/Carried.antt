@@ -73,9 +73,9 @@ carry : (bytes text : List ℕ) → (transcript : Transcript bytes text) → (do
 carry bytes text transcript done below =
     let script = transcript.script in
     let range = in-range stage_now bytes script transcript.spelt in
-    let session = sessions_are_kept.opened script.problem script.facts range.facts.fact_set in
+    let session = sessions_are_kept.scripts script range in
     let is = carried script.problem range.problem.valid
-    (opening script.facts) session script.commands (own-goals script range) transcript.answers transcript.lawful.last
+    (opening script.facts script.saved) session script.commands (own-goals script range) transcript.answers transcript.lawful.last
     transcript.lawful.lawful done below in
     record {
       state = is.state;

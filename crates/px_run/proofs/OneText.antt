@@ -76,18 +76,18 @@ text-begins names xs ys begins = (
 front-text : (bytes begun text : List ℕ) → Begun bytes begun → Transcript bytes text → (rest : List ℕ) × (text ≡ begun ++ rest)
 front-text bytes begun text (script, is, of) whole =
     let same : whole.script ≡ script = (reads-one-way stage_now bytes).one_content whole.script script whole.spelt is in
-    by (subst (λ (s : ScriptValue). (last : SessionState) × AreAnswers s.problem (opening s.facts) s.commands whole.answers last
+    by (subst (λ (s : ScriptValue). (last : SessionState) × AreAnswers s.problem (opening s.facts s.saved) s.commands whole.answers last
     × (text ≡ texts s.names whole.answers)) same (whole.lawful.last, whole.lawful.lawful, whole.text_is))
   where
-    by : ((last : SessionState) × AreAnswers script.problem (opening script.facts) script.commands whole.answers last
+    by : ((last : SessionState) × AreAnswers script.problem (opening script.facts script.saved) script.commands whole.answers last
         × (text ≡ texts script.names whole.answers))
         → (rest : List ℕ) × (text ≡ begun ++ rest)
     by (last, lawful, text_is) =
         let range = in-range stage_now bytes script is in
         let session = sessions_are_kept.opened script.problem script.facts range.facts.fact_set in
-        let all = subst (λ (cs : List Command). AreAnswers script.problem (opening script.facts) cs whole.answers last) of.whole lawful in
+        let all = subst (λ (cs : List Command). AreAnswers script.problem (opening script.facts script.saved) cs whole.answers last) of.whole lawful in
         let begins = front-of script.problem range.problem.valid
-        (opening script.facts) session of.before of.after
+        (opening script.facts script.saved) session of.before of.after
         (own-front script of.before of.after of.whole (own-goals script range))
         of.answers whole.answers of.last last of.lawful all in
         let texts_begin = text-begins script.names of.answers whole.answers begins in

@@ -46,7 +46,7 @@ RunReaches state _ _ = Unit {0}
 pub record AreInBuilding (script : ScriptValue) (things : List Thing) (done : ℕ) (answers : List Reply)
     (state : SessionState) : Type 0 where
   pub building : RoomState
-  pub left : AreAnswersIn script.problem (opening script.facts) (first_state things) (take done script.commands)
+  pub left : AreAnswersIn script.problem (opening script.facts script.saved) (first_state things) (take done script.commands)
       (take done answers) state building
   pub inside : IsInBuilding script.problem building state
 
@@ -56,7 +56,7 @@ pub record AreInBuilding (script : ScriptValue) (things : List Thing) (done : �
 -- after that. With a building the replies leave a state of it.
 pub record CarriesAfter (script : ScriptValue) (answers : List Reply) (done : ℕ) : Type 0 where
   pub state : SessionState
-  pub left : AreAnswers script.problem (opening script.facts) (take done script.commands) (take done answers) state
+  pub left : AreAnswers script.problem (opening script.facts script.saved) (take done script.commands) (take done answers) state
   pub plan : PlanCarries script.problem state (slice_index_or script.commands done Facts) (slice_index_or answers done (reply.FactsAre []))
   pub run : RunReaches state (slice_index_or script.commands done Facts) (slice_index_or answers done (reply.FactsAre []))
   pub kernels : All (KernelsCarry script.problem) (tables_of state)
