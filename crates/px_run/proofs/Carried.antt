@@ -11,15 +11,19 @@ use Rattle.px_script.specs.declared.command.Command.{Command}
 use Rattle.px_script.specs.declared.command.Command.TheVariants as command
 use Rattle.px_script.specs.Stages.{stage_now}
 use Rattle.px_script.proofs.Kept.{in-range}
+use Rattle.px_session.specs.CertifiedReplies.{IsCertifiableProblem, ReplyIsAccepted}
 use Rattle.px_session.specs.Lawful.{Lawful}
 use Rattle.px_session.specs.Opened.{tables_of}
 use Rattle.px_session.specs.OwnStates.{IsOwnGoal}
 use Rattle.px_session.specs.Sessions.{IsSession, SessionState, opening}
 use Rattle.px_session.specs.Transcripts.{AreAnswers, Transcript}
+use Rattle.px_session.specs.Writable.{AsksWritable, HasWritableTables}
+use Rattle.px_session.proofs.Certifying.{certificates_are_accepted}
 use Rattle.px_session.proofs.Executing.{own-goals}
 use Rattle.px_session.proofs.Kept.{sessions_are_kept}
 use Rattle.px_session.proofs.KeptRooms.{rooms_are_kept}
 use Rattle.px_session.proofs.Undisturbed.{undisturbed_runs}
+use Rattle.px_session.proofs.Writables.{all-ask, certifiable-problem, writable-kept, writable-opened}
 use Rattle.px_run.specs.Laws.{CarriesAfter, CarriesWhereDone, PlanCarries, RunReaches, TranscriptsCarry}
 use Rattle.px_run.specs.Outcomes.{SourceEnds}
 use Rattle.px_run.specs.declared.status.Status.{Status}
@@ -45,28 +49,39 @@ record Carries (problem : Problem) (old : SessionState) (commands : List Command
   plan : PlanCarries problem state (get_or commands done command.Facts) (get_or answers done (reply.FactsAre []))
   run : RunReaches state (get_or commands done command.Facts) (get_or answers done (reply.FactsAre []))
   kernels : All (KernelsCarry problem) (tables_of state)
+  certified : ReplyIsAccepted problem state (get_or answers done (reply.FactsAre []))
 
-module _ (problem : Problem) (valid : IsValid problem) where
-  carried : (old : SessionState) → IsSession problem old → (commands : List Command) → All (IsOwnGoal problem) commands
-      → (answers : List Reply) (last : SessionState)
+module _ (problem : Problem) (valid : IsValid problem) (limits : IsCertifiableProblem problem) where
+  carried : (old : SessionState) → IsSession problem old → HasWritableTables problem old → (commands : List Command)
+      → All (IsOwnGoal problem) commands → All (AsksWritable problem) commands → (answers : List Reply) (last : SessionState)
       → AreAnswers problem old commands answers last → (done : ℕ) → done ≤ length commands → Carries problem old commands answers done
-  carried old session [] own [] last are done below = let none : done ≡ 0 = omega (arith, below) in
+  carried old session writable [] own ask [] last are done below = let none : done ≡ 0 = omega (arith, below) in
       subst (Carries problem old [] []) (sym none)
-      (record { state = old; left = refl; plan = tt; run = tt; kernels = sessions_are_kept.kernels problem old session })
-  carried old session [] own (a ∷ answers) last are done below = absurd are
-  carried old session (c ∷ commands) own [] last are done below = absurd are
-  carried old session (c ∷ commands) own (a ∷ answers) last are zero below =
+      (record { state = old; left = refl; plan = tt; run = tt; kernels = sessions_are_kept.kernels problem old session; certified = tt })
+  carried old session writable [] own ask (a ∷ answers) last are done below = absurd are
+  carried old session writable (c ∷ commands) own ask [] last are done below = absurd are
+  carried old session writable (c ∷ commands) own ask (a ∷ answers) last are zero below =
       record {
         state = old;
         left = refl;
         plan = plan-carries problem old c a are.0 valid session (All-head (IsOwnGoal problem) c commands own) are.1;
         run = run-reaches problem old c a are.0 valid session are.1;
         kernels = sessions_are_kept.kernels problem old session;
+        certified = certificates_are_accepted.replies problem old c a are.0 valid limits session writable are.1;
       }
-  carried old session (c ∷ commands) own (a ∷ answers) last are (suc done) below =
+  carried old session writable (c ∷ commands) own ask (a ∷ answers) last are (suc done) below =
       let next = sessions_are_kept.kept problem old c a are.0 valid session (All-head (IsOwnGoal problem) c commands own) are.1 in
-      let rest = carried are.0 next commands (All-tail (IsOwnGoal problem) c commands own) answers last are.2 done (omega (arith, below)) in
-      record { state = rest.state; left = (are.0, are.1, rest.left); plan = rest.plan; run = rest.run; kernels = rest.kernels }
+      let later = writable-kept problem old c a are.0 valid session writable (All-head (AsksWritable problem) c commands ask) are.1 in
+      let rest = carried are.0 next later commands (All-tail (IsOwnGoal problem) c commands own) (All-tail (AsksWritable problem) c commands ask)
+      answers last are.2 done (omega (arith, below)) in
+      record {
+        state = rest.state;
+        left = (are.0, are.1, rest.left);
+        plan = rest.plan;
+        run = rest.run;
+        kernels = rest.kernels;
+        certified = rest.certified;
+      }
 
 carry : (bytes text : List ℕ) → (transcript : Transcript bytes text) → (done : ℕ) → done ≤ length transcript.script.commands
     → CarriesAfter transcript.script transcript.answers done
@@ -74,15 +89,16 @@ carry bytes text transcript done below =
     let script = transcript.script in
     let range = in-range stage_now bytes script transcript.spelt in
     let session = sessions_are_kept.scripts script range in
-    let is = carried script.problem range.problem.valid
-    (opening script.facts script.saved) session script.commands (own-goals script range) transcript.answers transcript.lawful.last
-    transcript.lawful.lawful done below in
+    let is = carried script.problem range.problem.valid (certifiable-problem script range) (opening script.facts script.saved) session
+    (writable-opened script range) script.commands (own-goals script range) (all-ask script range) transcript.answers
+    transcript.lawful.last transcript.lawful.lawful done below in
     record {
       state = is.state;
       left = is.left;
       plan = is.plan;
       run = is.run;
       kernels = is.kernels;
+      certified = is.certified;
       rooms = λ things building.
           let kept = rooms_are_kept.answers script things done (take done transcript.answers) is.state range building is.left in
           record { building = kept.0; left = kept.1; inside = kept.2 };

@@ -13,6 +13,7 @@ use Rattle.px_printer.specs.declared.reply.Reply.TheVariants as reply
 use Rattle.px_script.specs.declared.command.Command.{Command}
 use Rattle.px_script.specs.declared.command.Command.TheVariants.{Plan, Facts, Run}
 use Rattle.px_script.specs.Content.{ScriptValue}
+use Rattle.px_session.specs.CertifiedReplies.{ReplyIsAccepted}
 use Rattle.px_session.specs.Opened.{tables_of}
 use Rattle.px_session.specs.RoomRuns.{AreAnswersIn, IsInBuilding}
 use Rattle.px_session.specs.Sessions.{SessionState, any_table, opening}
@@ -53,13 +54,15 @@ pub record AreInBuilding (script : ScriptValue) (things : List Thing) (done : �
 -- `done` commands are done. In the state that their replies leave, the next command is answered by a plan only where the world's atoms
 -- carry its steps to the goal; and each proper instance of each kernel of each stored and each learned table carries the steps that are
 -- left to that table's goal. It is answered by a run only if that reaches the goal, once it has sensed a kernel and nothing disturbs it
--- after that. With a building the replies leave a state of it.
+-- after that. The bytes by which it is answered where a certificate is asked for are one, of the script's problem but for its limits, and
+-- what they claim is so. With a building the replies leave a state of it.
 pub record CarriesAfter (script : ScriptValue) (answers : List Reply) (done : ℕ) : Type 0 where
   pub state : SessionState
   pub left : AreAnswers script.problem (opening script.facts script.saved) (take done script.commands) (take done answers) state
   pub plan : PlanCarries script.problem state (slice_index_or script.commands done Facts) (slice_index_or answers done (reply.FactsAre []))
   pub run : RunReaches state (slice_index_or script.commands done Facts) (slice_index_or answers done (reply.FactsAre []))
   pub kernels : All (KernelsCarry script.problem) (tables_of state)
+  pub certified : ReplyIsAccepted script.problem state (slice_index_or answers done (reply.FactsAre []))
   pub rooms : (things : List Thing) → script.building ≡ Some things → AreInBuilding script things done answers state
 
 -- this holds before each command of a transcript, and after the last
