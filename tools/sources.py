@@ -8,6 +8,8 @@ from definitions import CRATES
 
 CRATES_TXT = CRATES.parent / 'crates.txt'
 ITEM = re.compile(r'(?P<indent> *)(?P<pub>pub )?(?:const )?(?P<kind>fn|struct|enum|trait|const|type) (?P<name>\w+)')
+# a link to an item, by its name or by a path
+LINK = re.compile(r'\[`([\w:]+)(?:\(\))?`\](?:\((?:crate::)?[\w:]+\))?(?!\()')
 IMPL = re.compile(r'impl(?:<[^{]*?>)? (?:(?P<trait>[\w:]+)(?:<.*?>)? for )?(?P<type>\w+)')
 
 
@@ -163,7 +165,7 @@ def linked(crate, text):
         other, _, rest = name.partition('::')
         file = places(other).get(rest) if other.startswith('px_') else places(crate).get(name) or places(crate).get(other)
         return f'[`{name}`](../{file.relative_to(CRATES.parent)})' if file else f'`{name}`'
-    return re.sub(r'\[`([\w:]+)(?:\(\))?`\](?!\()', replaced, text)
+    return re.sub(LINK, replaced, text)
 
 
 def page(crate):
@@ -171,7 +173,7 @@ def page(crate):
     text, *later = re.split(r'^# (?!Calling it)', '\n'.join(page_lines(crate)), flags=re.M)
     text = re.sub(r'\n\n+', '\n\n', text.replace('# Calling it\n', '')).strip()
     more = f' (There is more on its page in [`{root(crate).name}`](../{root(crate).relative_to(CRATES.parent)}).)' if later else ''
-    return (re.sub(r'\[(`[^`]*`)\](?!\()', r'\1', text) + more).split('\n') + ['']
+    return (re.sub(LINK, r'`\1`', text) + more).split('\n') + ['']
 
 
 def calls(crate):
