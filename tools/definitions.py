@@ -9,9 +9,10 @@ import pathlib
 import re
 
 CRATES = pathlib.Path(__file__).resolve().parent.parent / 'crates'
-STARTS = [('px_session/src/laws.rt', 'replies_exist'), ('px_session/src/laws.rt', 'transcripts_exist'), ('px_run/src/laws.rt', 'texts_are_one'),
-          ('px_session/src/laws.rt', 'lawful_is_one'), ('px_planex/src/laws.rt', 'runs_are_one'), ('px_ends/src/laws.rt', 'ends_are_one'),
-          ('px_run/src/top.rt', 'planex_main')]
+# the contract of `planex_main`, and the laws that say that replies and texts exist and are one
+STARTS = [('px_session/src/laws.rt', 'replies_exist'), ('px_session/src/laws.rt', 'transcripts_exist'),
+          ('px_run/src/laws.rt', 'texts_are_one'), ('px_session/src/laws.rt', 'lawful_is_one'), ('px_planex/src/laws.rt', 'runs_are_one'),
+          ('px_ends/src/laws.rt', 'ends_are_one'), ('px_run/src/top.rt', 'planex_main')]
 # what a certificate is, and when it is right
 CERTIFICATES = [('px_cert/src/reading.rt', 'read_cert'), ('px_cert/src/cert.rt', 'verify')]
 # what a plan is worth, by the definition that says so
