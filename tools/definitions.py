@@ -116,6 +116,12 @@ def of_certificates():
     return followed([(CRATES / path, None, contract(path, function)) for path, function in CERTIFICATES])
 
 
+def of_worth():
+    """The same from what a plan is worth."""
+    file, name = WORTH
+    return followed([(file, name, blocks(read(file))[name])])
+
+
 def followed(waiting):
     """The files that are reached from parts of files, each with the names that are reached in it."""
     files, seen, edges = {}, set(), {}
@@ -166,10 +172,15 @@ def defining(file):
     return sum(bool(line) and not line.startswith(('use ', 'pub use ')) for line in read(file).split('\n'))
 
 
-def table():
-    """The rows of the files of the theorem with their lines, those of one crate that follow one another in a row."""
-    for crate, files in itertools.groupby(of_theorem(), lambda one: crate_of(one[0])):
-        yield f'| `{crate}` | {", ".join(f"{file.stem} {length(file)}" for file, _ in files)} |'
+def table(files):
+    """The rows of files with their lines, those of one crate that follow one another in a row."""
+    for crate, some in itertools.groupby((file for file, _ in files), crate_of):
+        yield f'| `{crate}` | {", ".join(f"{file.stem} {length(file)}" for file in some)} |'
+
+
+def sums(files):
+    """How many files and lines these are."""
+    return f'{len(files)} files, {sum(length(file) for file, _ in files):,} lines'
 
 
 def subject_lines(file):

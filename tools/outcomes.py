@@ -1,4 +1,4 @@
-"""What came of the scripts of examples/, by their recorded transcripts, for tools/documents and docs/check."""
+"""What came of the scripts of examples/, by their recorded transcripts, for tools/documents."""
 import pathlib
 import re
 
@@ -39,7 +39,26 @@ def row(name, result):
 
 def rows(lines):
     """The table of docs/SOLVES.md with each of its results told anew."""
-    for line in lines:
+    for line in filter(None, lines):
         found = re.match(r'\| \[([\w-]+)\]\(\.\./examples/[\w-]+\.planex\) \| (\w+) \|', line)
-        if line:
-            yield row(*found.groups()) if found else line
+        yield row(*found.groups()) if found else line
+
+
+def pddl_rows(lines):
+    """The table of docs/PDDL.md, with what comes out of each problem and what with --distinct told anew where it is recorded."""
+    for line in filter(None, lines):
+        cells = line.strip('|').split('|')
+        if found := re.fullmatch(r' `(\w+/[\w-]+)` ', cells[1]):
+            stem = TOP / 'examples' / 'pddl' / found.group(1)
+            plain, distinct = (came_of(stem.with_suffix(suffix)) for suffix in ('.out', '.distinct.out'))
+            remark = cells[3].strip().partition(';')[2]
+            if plain:
+                cells[3] = f' {plain}{";" if remark else ""}{remark} '
+            if distinct:
+                cells[5] = f' {"the same" if distinct == plain else distinct} '
+        yield f'|{"|".join(cells)}|'
+
+
+def came_of(out):
+    """The same of a problem in PDDL; nothing where that isn't recorded."""
+    return (outcome(out, 'solution') if out.exists() else '').replace(', 50,000 nodes', '')
