@@ -128,9 +128,10 @@ def fields_of(lines):
 
 
 def head_of(lines):
-    """A function's head with its clauses."""
+    """A function's head with its clauses: up to the line that opens its body or, in a trait, ends it."""
     for number, line in enumerate(lines):
-        if line.strip() in ('{', '{}') or line.endswith(('};', ') {', ' {}')) or number and line.endswith(';'):
+        opens_at_once = line.endswith('{') and (number == 0 or line.lstrip().startswith(')'))
+        if opens_at_once or line.strip() in ('{', '{}') or line.endswith(('};', ' {}')) or number and line.endswith(';'):
             return '\n'.join(lines[:number + 1])
     return '\n'.join(lines)
 
