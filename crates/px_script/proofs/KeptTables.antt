@@ -1,4 +1,5 @@
 -- Each line of a table's block keeps what was declared in range, and its end gives a table of the script.
+use Rattle.px_script.proofs.Common.{All, All-cons, All-drop, All-head, All-map, All-nil, All-push, All-tail, All-take, Argument, Bool, CommandsInRange, Declared, Derivation, HasNoOpenPlace, HaveNoOpenPlace, IsAmong, IsCommandOf, IsSavedTable, IsTableBefore, List, None, Option, Part, Problem, SignedAtom, Some, Table, Thing, WrittenTable, [], a_fact, also, an_ancestor, an_axiom, anything, ap, append-nil, arith, atom_of, both_answers, bytes_eq, decimal, derivation_of, derivation_of-proof_of, derivations, drop, end, false, flat_map, fold, goal, goal_number, goal_place, goal_variables, greatest, greatest_height, has_name, height_of, heights_of, highest, instance_of_step, is_empty, is_known_argument, is_variable, last_number, length, length-append, length-map, letter_numbers, line_of, list_any, map, map-append, max, name, named, nat_lt, not, not-false, number, number_in, of_table_rows, of_table_steps, open_variable, or_parts, own_problem, plain, plan_given, problem_here, problem_of, proof, proof_of, proofs_read, range_with_len, refl, result_given, rows_of, slice_index, slice_index_or, step, subst, sym, table, table_given, table_goals, table_made, table_term, table_variables, take, takes, true, ℕ, ◌&&◌, ◌++◌, ◌+◌, ◌-◌, ◌||◌, ◌∙◌, ◌∷◌, ◌≡◌, ◌≤◌}
 use Rattle.std.proofs.lemmas.List.FromFn.{length-range_with_len}
 use Rattle.std.specs.Cmp.Lexicographic.{pointwise, pointwise_decides}
 use Rattle.px_table.specs.Deciding.{rows_are_table}
@@ -42,29 +43,29 @@ rows-back (row ∷ rows) closed = ap (λ t. t ∷ rows_of (map (map proof_of) ro
 
 -- ---- heights
 
-fold-max : (least : ℕ) (ds : List Derivation) → fold max least (map height ds) ≡ max least (greatest_height (derivations ds))
+fold-max : (least : ℕ) (ds : List Derivation) → fold max least (map height_of ds) ≡ max least (greatest_height (derivations ds))
 fold-max least [] = omega arith
-fold-max least (d ∷ ds) = fold-max (max least (height d)) ds ∙ omega arith
+fold-max least (d ∷ ds) = fold-max (max least (height_of d)) ds ∙ omega arith
 
 -- they have the heights that are found in the parts
-heights-are : (d : Declared) (parts : List Part) → heights_of parts ≡ map height (proofs_read d parts)
+heights-are : (d : Declared) (parts : List Part) → heights_of parts ≡ map height_of (proofs_read d parts)
 heights-are d [] = refl
 heights-are d (a_fact column index x ∷ parts) = ap (λ t. 1 ∷ t) (heights-are d parts)
 heights-are d (an_ancestor k ∷ parts) = ap (λ t. 1 ∷ t) (heights-are d parts)
 heights-are d (an_axiom k place count ts ∷ parts) = let after = proofs_read d parts in let same = heights-are d parts in
     let first : highest (take count (heights_of parts)) ≡ greatest_height (derivations (take count after)) =
-    ap (λ hs. highest (take count hs)) same ∙ ap highest (sym (map-take height count after)) ∙ fold-max 0 (take count after) ∙ omega arith in
-    let rest : drop count (heights_of parts) ≡ map height (drop count after) =
-    ap (drop count) same ∙ sym (map-drop height count after) in
+    ap (λ hs. highest (take count hs)) same ∙ ap highest (sym (map-take height_of count after)) ∙ fold-max 0 (take count after) ∙ omega arith in
+    let rest : drop count (heights_of parts) ≡ map height_of (drop count after) =
+    ap (drop count) same ∙ sym (map-drop height_of count after) in
     ap (λ h. (1 + h) ∷ drop count (heights_of parts)) first ∙ ap (λ t. (1 + greatest_height (derivations (take count after))) ∷ t) rest
 
-below-highest : (most : ℕ) (ds : List Derivation) → greatest_height (derivations ds) ≤ most → All (λ d. height d ≤ most) ds
+below-highest : (most : ℕ) (ds : List Derivation) → greatest_height (derivations ds) ≤ most → All (λ d. height_of d ≤ most) ds
 below-highest most [] few = All-nil _
 below-highest most (d ∷ ds) few =
-    All-cons (λ d. height d ≤ most) d ds (omega (arith, few)) (below-highest most ds (omega (arith, few)))
+    All-cons (λ d. height_of d ≤ most) d ds (omega (arith, few)) (below-highest most ds (omega (arith, few)))
 
 proofs-low : (d : Declared) (parts : List Part) (most : ℕ) → highest (heights_of parts) ≤ most
-    → All (λ e. height e ≤ most) (proofs_read d parts)
+    → All (λ e. height_of e ≤ most) (proofs_read d parts)
 proofs-low d parts most few = let found = ap highest (heights-are d parts) ∙ fold-max 0 (proofs_read d parts) in
     below-highest most (proofs_read d parts) (omega (arith, few, found))
 
@@ -259,7 +260,7 @@ module _ (n : ℕ) (d : Declared) (line : ℕ) (t : WrittenTable) where
 
   pub proof-kept : AreInRange rows_block → (parts : List Part) → Keeps n rows_block (proof parts)
   proof-kept r parts f = let is = r.table_block in let row = proofs_read rows_block parts in
-      let low = All-push (All (λ e. height e ≤ greatest d.version limit.proof_height)) t.rows row is.begun.low
+      let low = All-push (All (λ e. height_of e ≤ greatest d.version limit.proof_height)) t.rows row is.begun.low
       (proofs-low rows_block parts (greatest d.version limit.proof_height) (at-most _ _ f.limits.1.0)) in
       let closed = All-push (All HasNoOpenPlace) t.rows row is.begun.closed (proofs-closed rows_block parts) in
       let aimed : IsTableAimed d.version (length d.names.objects) (record t { rows = t.rows ++ row ∷ [] }) = record {
@@ -281,7 +282,7 @@ module _ (n : ℕ) (d : Declared) (line : ℕ) (t : WrittenTable) where
       let passes = ap (rows_are_table p t.parameters sorts t.steps t.goal t.goal_vars) rows ∙ right in record {
         is_one = both _ _ passes marked;
         short = is.begun.short;
-        low = subst (All (All (λ e. height e ≤ greatest d.version limit.proof_height))) (sym rows) is.begun.low;
+        low = subst (All (All (λ e. height_of e ≤ greatest d.version limit.proof_height))) (sym rows) is.begun.low;
         few_parameters = is.begun.few_parameters;
         some = is.some;
         few_atoms = is.few_atoms;
