@@ -13,7 +13,7 @@ use Rattle.px_script.proofs.Buildings.{rooms-kind, doors-kind, boxes-kind, IsKin
 use Rattle.px_script.proofs.Commands.{commands-moved}
 use Rattle.px_script.proofs.Faultless.{IsFaultless, no-fault, only-takes-away, stage-takes-away}
 use Rattle.px_script.proofs.Forms.{IsWellFormed, well-formed}
-use Rattle.px_script.proofs.KeptLines.{more-objects, saved-kept, in-version, sorts-filled, still-sorted, script-kept, sort-kept, few-objects, no-own, settings-kept, in-bounds, still-none, carried, Keeps, object-kept, predicate-kept, axiom-kept, fact-kept, operator-kept, show-kept, facts-kept, disturb-atoms-kept, disturb-rooms-kept, run-kept, learn-kept, plan-kept, duo-kept, edit-kept}
+use Rattle.px_script.proofs.KeptLines.{more-objects, saved-kept, in-version, sorts-filled, still-sorted, script-kept, sort-kept, few-objects, no-own, settings-kept, in-bounds, still-none, carried, Keeps, object-kept, predicate-kept, axiom-kept, fact-kept, operator-kept, show-kept, save-kept, certify-kept, facts-kept, disturb-atoms-kept, disturb-rooms-kept, run-kept, learn-kept, plan-kept, duo-kept, edit-kept}
 use Rattle.px_proof.specs.Derivation.{no_atom}
 use Rattle.px_table.proofs.DecidingLaws.{tables_are_decided}
 use Rattle.px_table.specs.GrowthLaws as growth
@@ -420,8 +420,8 @@ module _ (n : ℕ) (d : Declared) where
   line-kept r (step o ts) w = λ f. inside-steps n d (step o ts) (λ line t r. step-kept n d line t r o ts) d.block f.order.stands r f
   line-kept r (goal xs) w = λ f. inside-steps n d (goal xs) (λ line t r. goal-kept n d line t r xs w.filled) d.block f.order.stands r f
   line-kept r (proof parts) w = λ f. inside-rows n d (proof parts) (λ line t r. proof-kept n d line t r parts) d.block f.order.stands r f
-  line-kept r (save name) w = λ f. let no = f.has_come in cc
-  line-kept r (certify name) w = λ f. let no = f.has_come in cc
+  line-kept r (save name) w = outside _ (λ b. refl) d.block d.things (λ r. save-kept n d r name) r
+  line-kept r (certify name) w = outside _ (λ b. refl) d.block d.things (λ r. certify-kept n d r name) r
   line-kept r (pursue name xs) w = λ f. let no = f.has_come in cc
 
 -- what a line without a fault keeps, all lines keep

@@ -19,7 +19,7 @@ use Rattle.px_script.specs.Items.{Named, Argument, SignedAtom, Sign, WrittenRoom
 use Rattle.px_script.specs.Statements.{Statement, Line, Place, Block, line_of, domain, opens, operator_block, building_block, table_steps, table_rows, script, object, predicate, «axiom», operator, pre, delete, add, building, room, door, box, robot, end, fact, height, nodes, shapes, plan, learn, show, disturb_atoms, disturb_rooms, run, facts, sort, param, duo, save, certify, edit, pursue, table, step, goal, proof}
 use Rattle.px_script.specs.Limits as limit
 use Rattle.px_script.specs.Limits.{greatest, default_height, default_nodes, default_shapes}
-use Rattle.px_script.specs.Commands.{Command, Plan, Learn, Show, DisturbAtoms, DisturbRooms, Run, Facts, Duo, Edit}
+use Rattle.px_script.specs.Commands.{Command, Plan, Learn, Show, Save, Certify, DisturbAtoms, DisturbRooms, Run, Facts, Duo, Edit}
 
 -- the operator whose block is open: its parameters' names, and its schema so far
 pub record OpenOperator : Type 0 where
@@ -454,8 +454,8 @@ declares n d (step o ts) = in_block (change_table (λ t. record t { steps = t.st
 declares n d (goal xs) = in_block (λ kind. after_goal (change_table
     (λ t. record t { goal = map (atom_of d (table_variables d)) xs; goal_vars = goal_variables d xs }) kind)) d
 declares n d (proof parts) = in_block (change_table (λ t. record t { rows = t.rows ++ proofs_read d parts ∷ [] })) d
-declares n d (save m) = d
-declares n d (certify m) = d
+declares n d (save m) = with_command (Save (number_in m d.names.results)) d
+declares n d (certify m) = with_command (Certify (number_in m d.names.results)) d
 declares n d (pursue m xs) = d
 declares n d (param m ps) =
     record d { block = option_map {T = OpenBlock} (λ block. record block { kind = give_sort (number_in m d.sorts + 1) ps block.kind }) d.block }

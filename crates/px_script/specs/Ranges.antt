@@ -12,7 +12,7 @@ use Rattle.px_world.specs.declared.thing.Thing.TheVariants.{Room, Door, Box, Rob
 use Rattle.px_script.specs.Items.{last_parameter}
 use Rattle.px_script.specs.Limits as limit
 use Rattle.px_script.specs.Limits.{Bounds, greatest, of_nodes, of_turn, of_version, of_executor, last_number}
-use Rattle.px_script.specs.Commands.{Command, Plan, Learn, Show, DisturbAtoms, DisturbRooms, Run, Facts, Duo, Edit}
+use Rattle.px_script.specs.Commands.{Command, Plan, Learn, Show, Save, Certify, DisturbAtoms, DisturbRooms, Run, Facts, Duo, Edit}
 use Rattle.px_script.specs.Declarations.{operator_names, predicate_names}
 use Rattle.px_script.specs.Content.{ScriptValue}
 use Rattle.px_script.specs.Stages.{Stage, is_built}
@@ -164,6 +164,8 @@ abbrev pub IsCommandOf : ℕ → Problem → Option (List Thing) → ℕ → Com
 IsCommandOf version problem building results (Plan name goal vars) = (name < results) × IsGoalOf version problem goal vars
 IsCommandOf version problem building results (Learn name source) = (name < results) × (source < results)
 IsCommandOf version problem building results (Show name) = name < results
+IsCommandOf version problem building results (Save name) = name < results
+IsCommandOf version problem building results (Certify name) = name < results
 IsCommandOf version problem building results (DisturbAtoms turn between edits) =
     HasTurn version turn (length edits) × (is_some building ≡ false) × All (IsEditOf problem) edits
 IsCommandOf version problem building results (DisturbRooms turn between edits) =
@@ -202,6 +204,8 @@ IsTableBefore given before name = IsAmong (given ++ flat_map table_given before)
 abbrev pub NamesEarlier : List ℕ → List Command → Command → Type 0
 NamesEarlier given before (Learn name source) = IsAmong (flat_map plan_given before) source
 NamesEarlier given before (Show name) = IsTableBefore given before name
+NamesEarlier given before (Save name) = IsTableBefore given before name
+NamesEarlier given before (Certify name) = IsTableBefore given before name
 NamesEarlier given before (Run name bindings) = IsTableBefore given before name
 NamesEarlier given before (Duo first second events) = IsTableBefore given before first × IsTableBefore given before second
 NamesEarlier given before (Edit name source prefix wanted) = IsTableBefore given before source
@@ -246,6 +250,8 @@ abbrev pub word_of : Command → List ℕ
 word_of (Plan name goal vars) = codes "plan"
 word_of (Learn name source) = codes "learn"
 word_of (Show name) = codes "show"
+word_of (Save name) = codes "save"
+word_of (Certify name) = codes "certify"
 word_of (Run name bindings) = codes "run"
 word_of (Duo first second events) = codes "duo"
 word_of (Edit name source prefix wanted) = codes "edit"

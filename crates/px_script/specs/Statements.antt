@@ -37,15 +37,13 @@ pub data Statement : Type 0 where
   sort param : List ℕ → List (List ℕ) → Statement
   -- two tables, and the numbers of whoever is next
   duo : List ℕ → List ℕ → List ℕ → Statement
-  -- The block of a table isn't built yet: its name and how many parameters it has; an operator and what it is done to; the goal; the proofs
-  -- of one row.
+  -- The block of a table: its name and how many parameters it has; an operator and what it is done to; the goal; the proofs of one row.
   table : List ℕ → ℕ → Statement
   step : List ℕ → List Argument → Statement
   goal : List SignedAtom → Statement
   proof : List Part → Statement
-  -- No command serves these yet: a table that is printed so that it can be read again, or as a certificate; the name of an edited table,
-  -- the table that it is made from, how many of its steps, and the wanted adds as pairs of a step and a place; a name, and a goal that is
-  -- pursued
+  -- a table that is printed so that it can be read again, or as a certificate; the name of an edited table, the table that it is made from,
+  -- how many of its steps, and the wanted adds as pairs of a step and a place; a name, and a goal that is pursued
   save certify : List ℕ → Statement
   edit : List ℕ → List ℕ → ℕ → List (ℕ × ℕ) → Statement
   pursue : List ℕ → List SignedAtom → Statement
