@@ -50,7 +50,7 @@ ghost use Rattle.px_script.specs.Statements.{Statement};
 ghost use Rattle.px_script.specs.Scripts.{ReadsOneWay, IsScript};
 ghost use Rattle.px_script.specs.Worked.{WorkedScripts, WorkedRefusals};
 ghost use Rattle.px_script.specs.WorkedLines.{WorkedBuildings, WorkedCommands, WorkedDomains, WorkedDuos, WorkedEdits, WorkedLimits, WorkedSorts, WorkedSpellings};
-ghost use Rattle.px_script.specs.WorkedTables.{WorkedTables};
+ghost use Rattle.px_script.specs.WorkedTables.{WorkedSaves, WorkedTables};
 ghost use Rattle.px_script.specs.WorkedLater.{WorkedLater, WorkedUnbuilt};
 
 mod command;
@@ -79,6 +79,7 @@ pub fn worked_lines()
     ensures edits { WorkedEdits }
     ensures unbuilt { WorkedUnbuilt }
     ensures tables { WorkedTables }
+    ensures saves { WorkedSaves }
     ensures later { WorkedLater }
 {}
 
