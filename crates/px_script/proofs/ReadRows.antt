@@ -92,36 +92,55 @@ has_word version (Some r) = is_of version r
 abbrev among : ℕ → List ℕ → List Entry → Bool
 among version w es = has_word version (option_map (λ e. e.row) (entry_among w es))
 
-or-true : (b : Bool) → (b || true) ≡ true
-or-true true = refl
-or-true false = refl
+abbrev word_in : List ℕ → List Entry → Bool
+word_in w es = list_any (bytes_eq w) (map (λ (e : Entry). e.row.word) es)
 
-all-new : (version : ℕ) (w : List ℕ) (es : List Entry) → (version == 2) ≡ true → among version w es
-    ≡ is_some (option_map (λ e. e.row) (entry_among w es))
-all-new version w es two = told (entry_among w es)
-  where
-    told : (o : Option Entry) → has_word version (option_map (λ (e : Entry). e.row) o) ≡ is_some (option_map (λ (e : Entry). e.row) o)
-    told None = refl
-    told (Some e) = ap (λ b. (e.row.since == 1) || b) two ∙ or-true (e.row.since == 1)
+-- among words that the version has, and among others
+all-of : (version : ℕ) (w : List ℕ) (es more : List Entry) → AllByRecursion (λ (e : Entry). is_of version e.row ≡ true) es
+    → among version w (es ++ more) ≡ (word_in w es || among version w more)
+all-of version w [] more are = refl
+all-of version w (e ∷ es) more are = by_test (bytes_eq w e.row.word) (λ same. rw (same, are.0) refl)
+    (λ other. rw other (all-of version w es more are.1))
 
-none-old : (version : ℕ) (w : List ℕ) (es : List Entry) → (version == 2) ≡ false
-    → AllByRecursion (λ (e : Entry). (e.row.since == 1) ≡ false) es → among version w es ≡ false
-none-old version w [] old new = refl
-none-old version w (e ∷ more) old new = by_test (bytes_eq w e.row.word) (λ same. rw (same, new.0, old) refl)
-    (λ other. rw other (none-old version w more old new.1))
+none-of : (version : ℕ) (w : List ℕ) (es more : List Entry) → AllByRecursion (λ (e : Entry). is_of version e.row ≡ false) es
+    → among version w (es ++ more) ≡ (not (word_in w es) && among version w more)
+none-of version w [] more are = refl
+none-of version w (e ∷ es) more are = by_test (bytes_eq w e.row.word) (λ same. rw (same, are.0) refl)
+    (λ other. rw other (none-of version w es more are.1))
 
-all-old : (version : ℕ) (w : List ℕ) (es more : List Entry) → (version == 2) ≡ false
-    → AllByRecursion (λ (e : Entry). (e.row.since == 1) ≡ true) es → AllByRecursion (λ (e : Entry). (e.row.since == 1) ≡ false) more
-    → among version w (es ++ more) ≡ list_any (bytes_eq w) (map (λ (e : Entry). e.row.word) es)
-all-old version w [] more old first new = none-old version w more old new
-all-old version w (e ∷ es) more old first new = by_test (bytes_eq w e.row.word) (λ same. rw (same, first.0) refl)
-    (λ other. rw other (all-old version w es more old first.1 new))
+and-false : (b : Bool) → (b && false) ≡ false
+and-false true = refl
+and-false false = refl
+
+or-false : (b : Bool) → (b || false) ≡ b
+or-false true = refl
+or-false false = refl
 
 -- the words of a version are those of the table that it has
 pub row-is_word : (version : ℕ) (b : Bool) (w : List ℕ) → has_word version (row_of b w) ≡ is_word version w
-row-is_word version b w = by_test (version == 2)
-    (λ two. all-new version w (entries b) two ∙ some-among w (entries b) ∙ rw two refl)
-    (λ old. all-old version w (entries_of_all b) entries_of_two old (search depth 60) (search depth 6) ∙ rw old refl)
+row-is_word version b w = all-of version w (entries_of_all b) (entries_of_two ++ entries_of_three) (search depth 60)
+    ∙ ap (λ c. word_in w (entries_of_all b) || c) (newer-words (nat_le 2 version) (nat_le 3 version) refl refl)
+    ∙ sym (list_any-append (bytes_eq w) words_of_all _)
+  where
+    newer-words : (two three : Bool) → nat_le 2 version ≡ two → nat_le 3 version ≡ three
+        → among version w (entries_of_two ++ entries_of_three)
+        ≡ list_any (bytes_eq w) ((if two then words_of_two else []) ++ (if three then words_of_three else []))
+    newer-words true true two three = all-of version w entries_of_two entries_of_three (search depth 20)
+        ∙ ap (λ c. word_in w entries_of_two || c) (all-of version w entries_of_three [] (search depth 6))
+        ∙ ap (λ c. word_in w entries_of_two || c) (or-false (word_in w entries_of_three))
+        ∙ sym (list_any-append (bytes_eq w) words_of_two words_of_three)
+    newer-words true false two three = all-of version w entries_of_two entries_of_three (search depth 20)
+        ∙ ap (λ c. word_in w entries_of_two || c) (none-of version w entries_of_three [] (search depth 6) ∙ and-false (not (word_in w entries_of_three)))
+        ∙ sym (list_any-append (bytes_eq w) words_of_two [])
+    newer-words false false two three = none-of version w entries_of_two entries_of_three (search depth 20)
+        ∙ ap (λ c. not (word_in w entries_of_two) && c)
+        (none-of version w entries_of_three [] (search depth 6) ∙ and-false (not (word_in w entries_of_three)))
+        ∙ and-false (not (word_in w entries_of_two))
+    newer-words false true two three = absurd (impossible two three)
+      where
+        impossible : nat_le 2 version ≡ false → nat_le 3 version ≡ true → ⊥
+        impossible two three = let most : 3 ≤ version = grind (arith, nat_tests, three) in
+            let least : version < 2 = grind (arith, nat_tests, two) in omega (arith, most, least)
 
 -- the line of a row is told by its items
 abbrev pub IsMade : Entry → Type 0
@@ -256,7 +275,7 @@ all-made b = also (made-number script _ (λ n. refl)) (also made-object (also ma
     (made-number shapes _ (λ n. refl)) (also made-plan (also made-learn (also made-show (also (made-disturb b) (also made-run (also
     (made-nothing facts _ refl) (also made-sort (also made-param (also made-table (also made-step
     (also (made-atoms goal _ (λ xs. refl)) (also made-proof (also (made-of-table save _ (λ n. refl)) (also (made-of-table certify _ (λ n. refl))
-    (also made-edit (also made-duo (also made-pursue tt))))))))))))))))))))))))))))))))))
+    (also made-edit (also made-duo (also made-pursue (also (made-number weight _ (λ n. refl)) tt)))))))))))))))))))))))))))))))))))
 
 -- the row of a word is the row of its own word
 pub has-row : (b : Bool) (w : List ℕ) → IfSome (row_of b w) (λ r. row_of b r.word ≡ Some r)

@@ -14,6 +14,8 @@ pub use Rattle.px_script.specs.declared.kinds.Manner.TheVariants.{Plain as plain
 -- What a line says, by its form. Names are their bytes.
 pub data Statement : Type 0 where
   script height nodes shapes : ℕ → Statement
+  -- how much the search goes by what its nodes lack, from version 3 on
+  weight : ℕ → Statement
   object : List (List ℕ) → Statement
   predicate : List ℕ → ℕ → Statement
   «axiom» : List SignedAtom → Statement
@@ -33,7 +35,7 @@ pub data Statement : Type 0 where
   disturb_rooms : ℕ → Bool → List WrittenRoomEdit → Statement
   run : List ℕ → List Binding → Statement
   facts : Statement
-  -- These stand only in version 2: a sort and its objects; a sort and the parameters that have it.
+  -- These stand only from version 2 on: a sort and its objects; a sort and the parameters that have it.
   sort param : List ℕ → List (List ℕ) → Statement
   -- two tables, and the numbers of whoever is next
   duo : List ℕ → List ℕ → List ℕ → Statement
@@ -81,6 +83,7 @@ line_of (fact xs) = line (codes "fact") domain plain (atoms xs ∷ [])
 line_of (height limit) = line (codes "height") setting plain (amount limit ∷ [])
 line_of (nodes limit) = line (codes "nodes") setting plain (amount limit ∷ [])
 line_of (shapes limit) = line (codes "shapes") setting plain (amount limit ∷ [])
+line_of (weight limit) = line (codes "weight") setting plain (amount limit ∷ [])
 line_of (plan n xs) = line (codes "plan") command goals (new a_plan n ∷ atoms xs ∷ [])
 line_of (learn n source) = line (codes "learn") command plain (new a_table n ∷ the (codes "from") ∷ known a_plan source ∷ [])
 line_of (show n) = line (codes "show") command plain (known a_table n ∷ [])

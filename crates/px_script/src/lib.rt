@@ -61,8 +61,10 @@ mod script;
 pub use command::{Binding, Command};
 pub use kinds::{Block, Choice, Last, Manner, Named, One, Place, Sign};
 pub use limits::{
-    DEFAULT_HEIGHT, DEFAULT_NODES, DEFAULT_SHAPES, EXECUTORS, LAST_NUMBER, LAST_PARAMETER,
-    LAST_TURN, LAST_VERSION, Limit, MOST_SCRIPT_NODES, NAME_BYTES, NUMBER_OF_NUMBERS, greatest,
+    DEFAULT_HEIGHT, DEFAULT_NODES, DEFAULT_OLD_NODES, DEFAULT_SHAPES, DEFAULT_WEIGHT, EXECUTORS,
+    LAST_NUMBER, LAST_PARAMETER, LAST_TURN, LAST_VERSION, Limit, MOST_OLD_NODES, NAME_BYTES,
+    NUMBER_OF_NUMBERS, default_nodes, default_weight, greatest, most_script_nodes,
+    most_script_weight,
 };
 pub use script::Script;
 
