@@ -15,6 +15,7 @@ use Rattle.px_script.proofs.Faultless.{IsFaultless, no-fault, only-takes-away, s
 use Rattle.px_script.proofs.Forms.{IsWellFormed, well-formed}
 use Rattle.px_script.proofs.KeptLines.{more-objects, saved-kept, in-version, sorts-filled, still-sorted, script-kept, sort-kept, few-objects, no-own, settings-kept, in-bounds, still-none, carried, Keeps, object-kept, predicate-kept, axiom-kept, fact-kept, operator-kept, show-kept, save-kept, certify-kept, facts-kept, disturb-atoms-kept, disturb-rooms-kept, run-kept, learn-kept, plan-kept, duo-kept, edit-kept}
 use Rattle.px_proof.specs.Derivation.{no_atom}
+use Rattle.px_terms.specs.Validity.{IsValid}
 use Rattle.px_table.proofs.DecidingLaws.{tables_are_decided}
 use Rattle.px_table.specs.GrowthLaws as growth
 use Rattle.px_script.proofs.KeptTables.{table-kept, step-kept, goal-kept, proof-kept, end-table}

@@ -69,7 +69,7 @@ three-most version n a b more few = by_test (nat_le version 2) (λ one. let leas
 defaults-in : (version least a b most_a most_b : ℕ) → least ≤ a → least ≤ b → a ≤ most_a → b ≤ most_b
     → (least ≤ from_three version a b) × (from_three version a b ≤ from_three version most_a most_b)
 defaults-in version least a b most_a most_b least_a least_b few_a few_b =
-    by_test (nat_le version 2) (λ one. rw (one, one) (least_a, few_a)) (λ two. rw (two, two) (least_b, few_b))
+    by_test (nat_le version 2) (λ one. rw one (least_a, few_a)) (λ two. rw two (least_b, few_b))
 
 -- ---- sorts
 

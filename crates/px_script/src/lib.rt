@@ -51,6 +51,7 @@ ghost use Rattle.px_script.specs.Scripts.{ReadsOneWay, IsScript};
 ghost use Rattle.px_script.specs.Worked.{WorkedScripts, WorkedRefusals};
 ghost use Rattle.px_script.specs.WorkedLines.{WorkedBuildings, WorkedCommands, WorkedDomains, WorkedDuos, WorkedEdits, WorkedLimits, WorkedSorts, WorkedSpellings};
 ghost use Rattle.px_script.specs.WorkedTables.{WorkedSaves, WorkedTables};
+ghost use Rattle.px_script.specs.WorkedThree.{WorkedWeights};
 ghost use Rattle.px_script.specs.WorkedLater.{WorkedLater, WorkedUnbuilt};
 
 mod command;
@@ -82,6 +83,7 @@ pub fn worked_lines()
     ensures unbuilt { WorkedUnbuilt }
     ensures tables { WorkedTables }
     ensures saves { WorkedSaves }
+    ensures weights { WorkedWeights }
     ensures later { WorkedLater }
 {}
 

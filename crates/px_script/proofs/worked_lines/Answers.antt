@@ -161,6 +161,24 @@ returns-clause-saves c = record {
   many_commands = search (after-so, refuse-so) depth 14;
 }
 
+pub returns-clause-weights : goal.returns-clause-weights
+unfolding lines_read scan_by unicode_ident encode all_within items_after with_item set_of digits
+returns-clause-weights c = record {
+  weighing = search spell;
+  most = search (after-so, fit-so, refuse-so) depth 14;
+  none = search (after-so, fit-so, refuse-so) depth 14;
+  defaults = search (after-so, fit-so, refuse-so) depth 14;
+  old_defaults = search (after-so, fit-so, refuse-so) depth 14;
+  of_a_building = search (after-so, fit-so, refuse-so) depth 14;
+  sorted = search (after-so, fit-so, refuse-so) depth 14;
+  many_objects = search (after-so, fit-so, refuse-so) depth 14;
+  new = search (after-so, fit-so, refuse-so) depth 14;
+  no_form = search (after-so, fit-so, refuse-so) depth 14;
+  out_of_order = search (after-so, fit-so, refuse-so) depth 14;
+  twice = search (after-so, fit-so, refuse-so) depth 14;
+  limits = search (after-so, fit-so, refuse-so) depth 14;
+}
+
 pub returns-clause-later : goal.returns-clause-later
 unfolding lines_read scan_by unicode_ident encode all_within items_after with_item set_of digits
 returns-clause-later c = search after-so depth 14
