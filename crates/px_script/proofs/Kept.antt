@@ -20,7 +20,7 @@ use Rattle.px_table.proofs.DecidingLaws.{tables_are_decided}
 use Rattle.px_table.specs.GrowthLaws as growth
 use Rattle.px_script.proofs.KeptTables.{table-kept, step-kept, goal-kept, proof-kept, end-table}
 use Rattle.px_script.proofs.Lists.{by_test, number-below, at-most, each-fails, same-number, at-name, is-new, each-pushed}
-use Rattle.px_script.proofs.Problems.{same-lists, alike, atoms-kept, names-more, schema-kept}
+use Rattle.px_script.proofs.Problems.{heavier, same-lists, alike, atoms-kept, names-more, schema-kept}
 use Rattle.px_script.proofs.States.{from_blocks, AreInRange, AreRolesOf, IsBegun, OperatorsInRange, AreStanding}
 
 -- ---- the lines of an operator's block, and its end
@@ -490,7 +490,7 @@ module _ (d : Declared) where
       let some : 1 ≤ p.objects = omega (arith, is.objects_are) in
       let few_objects = few-objects d.version p.objects r.names.few_objects in
       let light = buildings_are_valid p.objects p.height p.nodes p.shapes (some, few_objects) l.height l.nodes l.shapes in
-      let heavy = l.weight in let valid : IsValid q = assumption (light, heavy) in
+      let valid : IsValid q = heavier _ p.weight l.weight light in
       let laws = All-from_recursion (λ clause. AreNumbered clause.vars (map (λ lit. lit.atom) clause.lits)) (both_ways ∷ []) (refl, tt) in
       let schemas = All-from_recursion (HasShortLists d.version) room_schemas (search leb-true depth 20) in
       let count = sym (ap length is.predicates_are) in let operators = ap length is.operators_are in
