@@ -8,7 +8,7 @@ use Rattle.px_script.specs.declared.kinds.Last.{Last}
 use Rattle.px_script.specs.declared.kinds.Last.TheVariants as last
 use Rattle.px_script.proofs.Lists.{by_test}
 use Rattle.px_script.proofs.Parsing.{names_of, names_at, at_end, all_of, atom_at, binding_at, room_edit_at, which, numbers_of, pair_at, items_at, argument_of, part_at}
-use Rattle.px_script.proofs.Rows.{Row, Entry, chosen, one_of, ones_at, last_at, row_items, entries, entries_of_all, entries_of_two, is_of, entry_among, entry_of, row_of, filled, make_number, make_object, make_predicate, make_operator, make_atoms, make_nothing, make_room, make_door, make_box, make_robot, make_plan, make_learn, make_show, make_disturb, make_run, make_sort, make_param, line_by, line_at, formed_only, formed_line, statement_of, parse, disturb_row, make_duo, make_of_table, make_edit, make_pursue, make_table, make_step, make_proof}
+use Rattle.px_script.proofs.Rows.{Row, Entry, chosen, one_of, ones_at, last_at, row_items, entries, entries_of_all, entries_of_two, entries_of_three, is_of, entry_among, entry_of, row_of, filled, make_number, make_object, make_predicate, make_operator, make_atoms, make_nothing, make_room, make_door, make_box, make_robot, make_plan, make_learn, make_show, make_disturb, make_run, make_sort, make_param, line_by, line_at, formed_only, formed_line, statement_of, parse, disturb_row, make_duo, make_of_table, make_edit, make_pursue, make_table, make_step, make_proof}
 use Rattle.px_script.proofs.Forms.{IsWellFormed, well-formed, then-there, map-there, if-there, same_word, there, all-sound, names-again, names-sound, names-at-sound, parameters-again, which-sound, atoms-again, edits-again, bindings-again, atom-sound, binding-sound, room-edit-sound, numbers-again, numbers-sound, pairs-again, pair-sound, part-sound, parts-again, arguments-all-sound, arguments-all-again}
 
 -- ---- what is read by a row is spelled so: once for all words
