@@ -130,7 +130,13 @@ fn of_two(word: &'static str, place: Place, ones: &'static [One], last: Last) ->
 }
 
 /// Returns the row of a line of a table's block.
-fn in_table(word: &'static str, block: Block, manner: Manner, ones: &'static [One], last: Last) -> Row
+fn in_table(
+    word: &'static str,
+    block: Block,
+    manner: Manner,
+    ones: &'static [One],
+    last: Last,
+) -> Row
     ensures { row_view result ≡ newer 2 (spec_row word.now (Place.Inside block) manner ones.now last) }
 {
     since(2, word, Place::Inside(block), manner, ones, last)
