@@ -1,7 +1,7 @@
 //! The table of the words.
 ghost use Rattle.std.specs.Prelude.{◌≡◌, ◌++◌, IfSome};
 ghost use Rattle.std.specs.Option.{option_map};
-ghost use Rattle.px_script.proofs.Rows.{disturb_row, entries_of_tables, entries_of_three, entries_of_two, is_of, newer, row_among, row as spec_row, row_of};
+ghost use Rattle.px_script.proofs.Rows.{disturb_row, entries_of_commands, entries_of_tables, entries_of_three, entries_of_two, is_of, newer, row_among, row as spec_row, row_of};
 ghost use Rattle.px_script.specs.Limits.{is_word};
 ghost use Rattle.px_lines.specs.LineViews.{row_view};
 
@@ -181,9 +181,30 @@ fn row_of_three(word: &str) -> Option<Row>
     }
 }
 
-/// Returns the row of a word of a table's block, or of one that version 3 is the first to have.
+/// Returns the row of a command of version 2, or of a word that version 3 is the first to have.
+fn row_of_commands(word: &str) -> Option<Row>
+    ensures { option_map row_view result ≡ row_among word.now (entries_of_commands ++ entries_of_three) }
+{
+    match word {
+        "save" => Some(of_two("save", Place::Command, &TABLE, Last::Nothing)),
+        "certify" => Some(of_two("certify", Place::Command, &TABLE, Last::Nothing)),
+        "edit" => Some(of_two("edit", Place::Command, &EDIT, Last::Pairs)),
+        "duo" => Some(of_two("duo", Place::Command, &DUO, Last::Numbers)),
+        "pursue" => Some(since(
+            2,
+            "pursue",
+            Place::Command,
+            Manner::Goals,
+            &RESULT,
+            Last::Atoms,
+        )),
+        _ => row_of_three(word),
+    }
+}
+
+/// Returns the row of a word of a table's block, or of one of those.
 fn row_of_tables(word: &str) -> Option<Row>
-    ensures { option_map row_view result ≡ row_among word.now (entries_of_tables ++ entries_of_three) }
+    ensures { option_map row_view result ≡ row_among word.now (entries_of_tables ++ (entries_of_commands ++ entries_of_three)) }
 {
     match word {
         "table" => Some(of_two(
@@ -213,7 +234,7 @@ fn row_of_tables(word: &str) -> Option<Row>
             &NONE,
             Last::Proofs,
         )),
-        _ => row_of_three(word),
+        _ => row_of_commands(word),
     }
 }
 
@@ -223,23 +244,11 @@ fn row_of_two(word: &str) -> Option<Row>
 {
     match word {
         "sort" => Some(of_two("sort", Place::Domain, &SORT, Last::New(Named::Object))),
-        "duo" => Some(of_two("duo", Place::Command, &DUO, Last::Numbers)),
         "param" => Some(of_two(
             "param",
             Place::Inside(Block::Operator),
             &PARAM,
             Last::Known(Named::Parameter),
-        )),
-        "save" => Some(of_two("save", Place::Command, &TABLE, Last::Nothing)),
-        "certify" => Some(of_two("certify", Place::Command, &TABLE, Last::Nothing)),
-        "edit" => Some(of_two("edit", Place::Command, &EDIT, Last::Pairs)),
-        "pursue" => Some(since(
-            2,
-            "pursue",
-            Place::Command,
-            Manner::Goals,
-            &RESULT,
-            Last::Atoms,
         )),
         _ => row_of_tables(word),
     }
