@@ -4,6 +4,7 @@ pub mod BeginningLaws
 pub mod BegunLaws
 pub mod EffectLaws
 pub mod Endings
+pub mod FirstMoves
 pub mod FromLaws
 pub mod FrontierSteps
 pub mod GoingLaws
@@ -14,9 +15,13 @@ pub mod NoteLaws
 pub mod OfferLaws
 pub mod OriginLemmas
 pub mod Pairs
+pub mod PickLaws
 pub mod SceneLaws
+pub mod StackSums
 pub mod StepLaws
 pub mod Stepping
 pub mod StruckLaws
+pub mod TurnLaws
+pub mod ValueEndings
 pub mod Walking
 pub mod WholeLaws

@@ -16,6 +16,7 @@ ghost use Rattle.px_search.specs.declared.step.Step.{Step};
 use crate::ends::SearchErr;
 use crate::notes::Notes;
 use crate::origins::moves_to;
+use crate::picker::Picker;
 use crate::progress::{Progress, SearchOutcome};
 use crate::scene::Scene;
 use crate::step::{Origin, Step};
@@ -106,6 +107,8 @@ pub struct Explored {
     pub nodes: NodeSet,
     /// Where all nodes but the first come from, in order.
     pub origins: Vec<Origin>,
+    /// Which of them is gone through next.
+    pub picker: Picker,
 }
 
 impl Explored {
@@ -140,7 +143,14 @@ impl Explored {
         let tried = try_node(asked, &self.notes.numbers, there)?;
         match tried {
             Tried::Answered => Ok(Progress::Solved),
-            Tried::Unanswered => Ok(Progress::Unsolved),
+            Tried::Unanswered => {
+                let origin = Origin {
+                    parent: next,
+                    last: step,
+                };
+                self.picker.go_on(asked, &self.notes.numbers, origin, there)?;
+                Ok(Progress::Unsolved)
+            }
             Tried::Limited { formula, shapes } => {
                 Err(limit_at(asked, &self.notes.numbers, there, formula, shapes))
             }
@@ -245,15 +255,13 @@ impl Explored {
         ensures walked { IfOk result (ComesTo (task_for asked.now) self.new (IsExhausted (task_for asked.now))) }
         ensures ends { IfErr result (IsEnd (task_for asked.now)) }
     {
-        let mut next = 0;
-        while next < self.nodes.count() {
-            let progress = self.go_through(asked, next)?;
+        while let Some(place) = self.picker.pick(self.nodes.count()) {
+            let progress = self.go_through(asked, place)?;
             match progress {
                 Progress::Unsolved => {}
                 Progress::Solved => return Ok(Progress::Solved),
                 Progress::Full { moves } => return Ok(Progress::Full { moves }),
             }
-            next += 1;
         }
         Ok(Progress::Unsolved)
     }
@@ -261,18 +269,20 @@ impl Explored {
 
 impl Explored {
     /// Returns the nodes of a search that has found nothing yet.
-    fn new(alloc: Global, is_never_limited: bool) -> Explored
+    fn new(alloc: Global, weight: u32, is_never_limited: bool) -> Explored
         ensures { (task : Task) → (IsTrue is_never_limited → IsNeverLimited task.problem task.tables) → IsUnexplored task result }
     {
         let notes = Notes::new(alloc, is_never_limited);
         let scene = Scene::new(alloc);
         let nodes = NodeSet::new(alloc);
         let origins = Vec::new(alloc);
+        let picker = Picker::new(alloc, weight);
         Explored {
             notes,
             scene,
             nodes,
             origins,
+            picker,
         }
     }
 
@@ -286,6 +296,7 @@ impl Explored {
         ensures ends { IfErr result (IsEnd (task_for asked.now)) }
     {
         self.nodes.intern(start)?;
+        self.picker.start(asked, &self.notes.numbers, start)?;
         let progress = self.walk(asked)?;
         match progress {
             Progress::Unsolved => Ok(SearchOutcome::NoPlan),
@@ -344,7 +355,7 @@ pub fn found_by_moves(asked: &Asked, is_never_limited: bool) -> Result<Sequence<
     ensures found { IfOk result (IsFound (task_for asked.now)) }
     ensures ends { IfErr result (IsEnd (task_for asked.now)) }
 {
-    let mut explored = Explored::new(asked.alloc, is_never_limited);
+    let mut explored = Explored::new(asked.alloc, asked.problem.weight, is_never_limited);
     let outcome = match explored.search(asked) {
         Ok(outcome) => outcome,
         Err(error) => {
