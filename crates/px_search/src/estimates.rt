@@ -1,16 +1,19 @@
 //! What nodes lack, counted once for each entry in each model.
 ghost use Rattle.std.specs.Prelude.{◌≡◌, ◌+◌, List, All, IfOk, OnOk};
 ghost use Rattle.px_terms.specs.declared.atom.Atom.{Atom};
+ghost use Rattle.px_table.specs.declared.entry.Move.{Move};
 ghost use Rattle.px_table.specs.declared.node.Node.{Node};
 ghost use Rattle.px_entries.specs.Entries.{IsEntry};
 ghost use Rattle.px_numbers.specs.Numbers.{Kept, IsKeyOf, IsModelAt};
 ghost use Rattle.px_ends.specs.Lacks.{needs as needs_of};
-ghost use Rattle.px_ends.specs.Tasks.{Task};
+ghost use Rattle.px_ends.specs.Tasks.{Task, after};
 ghost use Rattle.px_support.specs.Asking.{IsAskable, task_for};
 ghost use Rattle.px_search.specs.Estimating.{AreCounted, IsCountAt, IsGoalCountAt};
 ghost use Rattle.px_search.specs.Notes.{IsEntryAt};
+ghost use Rattle.px_search.specs.Steps.{DescribesMove};
 
 use crate::notes::EntryPlace;
+use crate::step::Step;
 use indexmap::IndexMap;
 use px_lacks::{lacks, lacks_of};
 use px_numbers::{NodeKey, Numbers};
@@ -28,7 +31,7 @@ pub struct Estimates {
 }
 
 /// Returns the number in 32 bits.
-fn narrowed(count: usize) -> Result<u32, NoMemory>
+pub fn narrowed(count: usize) -> Result<u32, NoMemory>
     ensures { IfOk result (λ n. n ≡ count) }
 {
     if count > u32::MAX as usize {
@@ -38,7 +41,7 @@ fn narrowed(count: usize) -> Result<u32, NoMemory>
 }
 
 /// Returns the sum.
-fn sum(a: u32, b: u32) -> Result<u32, NoMemory>
+pub fn sum(a: u32, b: u32) -> Result<u32, NoMemory>
     ensures { IfOk result (λ n. n ≡ a + b) }
 {
     a.checked_add(b).ok_or(NoMemory)
@@ -143,5 +146,37 @@ impl Estimates {
             rest = frame.below;
         }
         Ok(count)
+    }
+
+    /// Returns how much the node lacks that the move leads to, where the node before it lacks so much.
+    pub fn needs_after(
+        &mut self,
+        asked: &Asked,
+        numbers: &Numbers,
+        before: u32,
+        last: Step,
+        there: NodeKey,
+    ) -> Result<u32, NoMemory>
+        requires asked { IsAskable asked.now }
+        requires counted { AreCounted (task_for asked.now) numbers.now self.old }
+        requires node { (node : Node) × (m : Move) × DescribesMove numbers.now last m
+            × IsKeyOf numbers.now there (after (task_for asked.now) node m)
+            × All (IsEntry asked.now.problem.now asked.now.tables.now) (after (task_for asked.now) node m).stack }
+        ensures counted { OnOk result (AreCounted (task_for asked.now) numbers.now self.new) }
+        ensures needs { IfOk result (λ n. (node : Node) (m : Move) → before ≡ needs_of (task_for asked.now) node
+            → DescribesMove numbers.now last m → IsKeyOf numbers.now there (after (task_for asked.now) node m)
+            → n ≡ needs_of (task_for asked.now) (after (task_for asked.now) node m)) }
+    {
+        match last {
+            Step::Apply => self.needs(asked, numbers, there),
+            Step::Push(entry) => {
+                let place = EntryPlace {
+                    model: there.model,
+                    entry,
+                };
+                let lacks = self.entry(asked, numbers, place)?;
+                sum(before, lacks)
+            }
+        }
     }
 }

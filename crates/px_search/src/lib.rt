@@ -35,7 +35,7 @@
 mod after;
 mod all_steps;
 mod begun;
-mod breadth_first;
+mod best_first;
 mod effects;
 mod ends;
 mod estimates;

@@ -1,15 +1,15 @@
-//! The search, breadth first.
-ghost use Rattle.std.specs.Prelude.{◌≡◌, ◌+◌, ◌<◌, ◌≤◌, ℕ, Bool, List, length, slice_get, Some, IfOk, IfErr, IsTrue, OnOk};
+//! The search, best first.
+ghost use Rattle.std.specs.Prelude.{◌≡◌, ◌+◌, ◌<◌, ◌≤◌, ◌∷◌, [], ℕ, Bool, List, length, slice_get, Some, IfOk, IfErr, IsTrue, OnOk};
 ghost use Rattle.px_base.specs.Bounds.{u32_max};
 ghost use Rattle.px_table.specs.declared.entry.Move.{Move};
 ghost use Rattle.px_table.specs.declared.node.Node.{Node};
 ghost use Rattle.px_entries.specs.Unlimited.{IsNeverLimited};
 ghost use Rattle.px_numbers.specs.Numbers.{IsKeyOf, KeepsAll};
-ghost use Rattle.px_ends.specs.Ends.{IsExhausted, IsFound, IsShapeLimit};
+ghost use Rattle.px_ends.specs.ByValue.{IsExhausted, IsFound, IsShapeLimit};
 ghost use Rattle.px_ends.specs.Tasks.{Task, initial_node};
 ghost use Rattle.px_support.specs.Asking.{IsAskable, task_for};
 ghost use Rattle.px_search.specs.Asking.{IsTriedAt};
-ghost use Rattle.px_search.specs.Looping.{ComesTo, ComesToEnd, GoesOn, IsEnd, IsExploring, IsFull, IsUnexplored, TriesAt};
+ghost use Rattle.px_search.specs.Looping.{ComesTo, ComesToEnd, GoesOn, IsEnd, IsExploring, IsFull, IsUnexplored, Picked, TriesAt};
 ghost use Rattle.px_search.specs.Steps.{AreEarlier, Trace};
 ghost use Rattle.px_search.specs.declared.step.Step.{Step};
 
@@ -38,8 +38,8 @@ fn limit_at(
     shapes: Sequence<Shape>,
 ) -> SearchErr
     requires { (node : Node) × IsKeyOf numbers.now key node }
-    ensures { (node : Node) → IsKeyOf numbers.now key node → IsShapeLimit (task_for asked.now) node formula shapes
-        → IsEnd (task_for asked.now) result }
+    ensures { (node : Node) → IsKeyOf numbers.now key node
+        → IsShapeLimit (task_for asked.now) asked.now.problem.now.weight node formula shapes → IsEnd (task_for asked.now) result }
 {
     match node_at(asked.alloc, numbers, key) {
         Ok(node) => SearchErr::ShapeLimit {
@@ -107,7 +107,7 @@ pub struct Explored {
     pub nodes: NodeSet,
     /// Where all nodes but the first come from, in order.
     pub origins: Vec<Origin>,
-    /// Which of them is gone through next.
+    /// What says which of them is gone through next.
     pub picker: Picker,
 }
 
@@ -116,12 +116,13 @@ impl Explored {
     fn make_move(&mut self, asked: &Asked, next: usize, step: Step) -> Result<Progress, SearchErr>
         requires asked { IsAskable asked.now }
         requires explored { IsExploring (task_for asked.now) self.old }
-        requires trying { (steps : List Step) × (is_all : Bool) × (i : ℕ) × TriesAt (task_for asked.now) self.old next steps is_all i
-            × (slice_get steps i ≡ Some step) }
+        requires trying { (picked : List ℕ) × (steps : List Step) × (is_all : Bool) × (i : ℕ)
+            × TriesAt (task_for asked.now) self.old picked next steps is_all i × (slice_get steps i ≡ Some step) }
         ensures explored { OnOk result (IsExploring (task_for asked.now) self.new) }
         ensures made { IfOk result (ComesTo (task_for asked.now) self.new
-            ((steps : List Step) (is_all : Bool) (i : ℕ) → TriesAt (task_for asked.now) self.old next steps is_all i
-            → slice_get steps i ≡ Some step → TriesAt (task_for asked.now) self.new next steps is_all (i + 1))) }
+            ((picked : List ℕ) (steps : List Step) (is_all : Bool) (i : ℕ)
+            → TriesAt (task_for asked.now) self.old picked next steps is_all i
+            → slice_get steps i ≡ Some step → TriesAt (task_for asked.now) self.new picked next steps is_all (i + 1))) }
         ensures ends { IfErr result (IsEnd (task_for asked.now)) }
     {
         let key = self.nodes.node(next);
@@ -132,10 +133,11 @@ impl Explored {
         if (place as usize) < count {
             return Ok(Progress::Unsolved);
         }
-        self.origins.push(Origin {
+        let origin = Origin {
             parent: next,
             last: step,
-        })?;
+        };
+        self.origins.push(origin)?;
         if count >= asked.problem.nodes as usize {
             let moves = count_to(asked.alloc, &self.notes.numbers, &self.origins)?;
             return Ok(Progress::Full { moves });
@@ -144,10 +146,6 @@ impl Explored {
         match tried {
             Tried::Answered => Ok(Progress::Solved),
             Tried::Unanswered => {
-                let origin = Origin {
-                    parent: next,
-                    last: step,
-                };
                 self.picker.go_on(asked, &self.notes.numbers, origin, there)?;
                 Ok(Progress::Unsolved)
             }
@@ -168,12 +166,13 @@ impl Explored {
     ) -> Result<Progress, SearchErr>
         requires asked { IsAskable asked.now }
         requires explored { IsExploring (task_for asked.now) self.old }
-        requires trying { (is_all : Bool) × TriesAt (task_for asked.now) self.old next steps.now.items is_all from }
+        requires trying { (picked : List ℕ) × (is_all : Bool)
+            × TriesAt (task_for asked.now) self.old picked next steps.now.items is_all from }
         requires from { from ≤ length steps.now.items }
         ensures explored { OnOk result (IsExploring (task_for asked.now) self.new) }
         ensures made { IfOk result (ComesTo (task_for asked.now) self.new
-            ((is_all : Bool) → TriesAt (task_for asked.now) self.old next steps.now.items is_all from
-            → TriesAt (task_for asked.now) self.new next steps.now.items is_all (length steps.now.items))) }
+            ((picked : List ℕ) (is_all : Bool) → TriesAt (task_for asked.now) self.old picked next steps.now.items is_all from
+            → TriesAt (task_for asked.now) self.new picked next steps.now.items is_all (length steps.now.items))) }
         ensures ends { IfErr result (IsEnd (task_for asked.now)) }
     {
         for turn in from..steps.len() {
@@ -199,10 +198,12 @@ impl Explored {
     ) -> Result<Progress, SearchErr>
         requires asked { IsAskable asked.now }
         requires explored { IsExploring (task_for asked.now) self.old }
-        requires trying { (steps : List Step) × (is_all : Bool) × (from ≡ length steps)
-            × TriesAt (task_for asked.now) self.old next steps is_all from }
+        requires trying { (picked : List ℕ) × (steps : List Step) × (is_all : Bool) × (from ≡ length steps)
+            × TriesAt (task_for asked.now) self.old picked next steps is_all from }
         ensures explored { OnOk result (IsExploring (task_for asked.now) self.new) }
-        ensures gone { IfOk result (ComesTo (task_for asked.now) self.new (GoesOn (task_for asked.now) self.new (next + 1))) }
+        ensures gone { IfOk result (ComesTo (task_for asked.now) self.new ((picked : List ℕ) (steps : List Step) (is_all : Bool)
+            → from ≡ length steps → TriesAt (task_for asked.now) self.old picked next steps is_all from
+            → GoesOn (task_for asked.now) self.new (next ∷ picked))) }
         ensures ends { IfErr result (IsEnd (task_for asked.now)) }
     {
         let key = self.nodes.node(next);
@@ -220,10 +221,11 @@ impl Explored {
     fn go_through(&mut self, asked: &Asked, next: usize) -> Result<Progress, SearchErr>
         requires asked { IsAskable asked.now }
         requires explored { IsExploring (task_for asked.now) self.old }
-        requires going { GoesOn (task_for asked.now) self.old next }
+        requires picked { (picked : List ℕ) × Picked (task_for asked.now) self.old picked next }
         requires next { next < length self.old.nodes }
         ensures explored { OnOk result (IsExploring (task_for asked.now) self.new) }
-        ensures gone { IfOk result (ComesTo (task_for asked.now) self.new (GoesOn (task_for asked.now) self.new (next + 1))) }
+        ensures gone { IfOk result (ComesTo (task_for asked.now) self.new ((picked : List ℕ)
+            → Picked (task_for asked.now) self.old picked next → GoesOn (task_for asked.now) self.new (next ∷ picked))) }
         ensures ends { IfErr result (IsEnd (task_for asked.now)) }
     {
         let key = self.nodes.node(next);
@@ -247,14 +249,16 @@ impl Explored {
         Ok(others)
     }
 
-    /// Goes through all nodes, up to the first move that leads to a solved node or to one without room.
+    /// Goes through the nodes as they are picked, up to the first move that leads to a solved node or to one without room.
     fn walk(&mut self, asked: &Asked) -> Result<Progress, SearchErr>
         requires asked { IsAskable asked.now }
         requires explored { IsExploring (task_for asked.now) self.old }
-        requires going { GoesOn (task_for asked.now) self.old 0 }
-        ensures walked { IfOk result (ComesTo (task_for asked.now) self.new (IsExhausted (task_for asked.now))) }
+        requires going { GoesOn (task_for asked.now) self.old [] }
+        ensures walked { IfOk result (ComesTo (task_for asked.now) self.new
+            (IsExhausted (task_for asked.now) asked.now.problem.now.weight)) }
         ensures ends { IfErr result (IsEnd (task_for asked.now)) }
     {
+        let mut picks: u32 = 0;
         while let Some(place) = self.picker.pick(self.nodes.count()) {
             let progress = self.go_through(asked, place)?;
             match progress {
@@ -262,15 +266,17 @@ impl Explored {
                 Progress::Solved => return Ok(Progress::Solved),
                 Progress::Full { moves } => return Ok(Progress::Full { moves }),
             }
+            picks += 1;
         }
         Ok(Progress::Unsolved)
     }
 }
 
 impl Explored {
-    /// Returns the nodes of a search that has found nothing yet.
+    /// Returns the nodes of a search with this weight that has found nothing yet.
     fn new(alloc: Global, weight: u32, is_never_limited: bool) -> Explored
-        ensures { (task : Task) → (IsTrue is_never_limited → IsNeverLimited task.problem task.tables) → IsUnexplored task result }
+        ensures { (task : Task) → task.problem.weight ≡ weight
+            → (IsTrue is_never_limited → IsNeverLimited task.problem task.tables) → IsUnexplored task result }
     {
         let notes = Notes::new(alloc, is_never_limited);
         let scene = Scene::new(alloc);
@@ -344,15 +350,15 @@ fn node_limit(asked: &Asked, explored: Explored, moves: u32) -> SearchErr
     }
 }
 
-/// Searches for a plan, breadth first: the moves to the first solved node. `is_never_limited` is whether it is known that no question
-/// about an entry meets the limit of shapes, whatever the facts are.
+/// Searches for a plan, best first: the moves to the first solved node. `is_never_limited` is whether it is known that no question about
+/// an entry meets the limit of shapes, whatever the facts are.
 ///
 /// # Errors
 /// Those of `SearchErr`.
 pub fn found_by_moves(asked: &Asked, is_never_limited: bool) -> Result<Sequence<Move>, SearchErr>
     requires asked { IsAskable asked.now }
     requires never_limited { IsTrue is_never_limited → IsNeverLimited asked.now.problem.now asked.now.tables.now }
-    ensures found { IfOk result (IsFound (task_for asked.now)) }
+    ensures found { IfOk result (IsFound (task_for asked.now) asked.now.problem.now.weight) }
     ensures ends { IfErr result (IsEnd (task_for asked.now)) }
 {
     let mut explored = Explored::new(asked.alloc, asked.problem.weight, is_never_limited);

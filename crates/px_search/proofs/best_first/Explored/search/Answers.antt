@@ -1,11 +1,11 @@
--- Proofs of the goals that `Explored::search` of src/breadth_first.rt leaves open.
+-- Proofs of the goals that `Explored::search` of src/best_first.rt leaves open.
 use Rattle.std.proofs.Common.{◌∙◌, subst}
 use Rattle.px_support.specs.Asking.{task_for}
 use Rattle.px_search.specs.Asking.{IsTriedAt}
 use Rattle.px_ends.specs.Tasks.{initial_node}
 use Rattle.px_search.proofs.LoopLaws.{start-found, start-limit}
 use Rattle.px_search.proofs.NoteLaws.{right-grows}
-use Rattle.px_search.proofs.breadth_first.Explored.search.Goals as goal
+use Rattle.px_search.proofs.best_first.Explored.search.Goals as goal
 
 pub try_node-requires-clause-node : goal.try_node-requires-clause-node
 try_node-requires-clause-node c = (initial_node (task_for c.args.asked.now), c.in_ok-start.ensures.start)
@@ -33,6 +33,7 @@ search_from-requires-clause-explored c =
       scene = given.scene;
       nodes = given.nodes;
       origins = given.origins;
+      picker = given.picker;
     }
 
 pub returns-in-Limited-clause-ends : goal.returns-in-Limited-clause-ends
