@@ -13,7 +13,6 @@ pub mod NoteLaws
 pub mod OfferLaws
 pub mod OriginLemmas
 pub mod Pairs
-pub mod PickCounts
 pub mod PickLaws
 pub mod PickerLaws
 pub mod SceneLaws

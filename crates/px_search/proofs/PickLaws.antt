@@ -1,5 +1,5 @@
 -- What a counter picks without a weight, and what an agenda picks, is the next place.
-use Rattle.std.proofs.Common.{◌≡◌, ℕ, ◌<◌, ◌≤◌, List, ◌∷◌, length, sym, subst, arith, Some, slice_get, Contains}
+use Rattle.std.proofs.Common.{◌≡◌, ℕ, ◌<◌, ◌≤◌, List, [], ◌∷◌, length, sym, subst, arith, Some, slice_get, Contains}
 use Rattle.std.specs.Prelude.{All, IsPermutation}
 use Rattle.px_table.specs.declared.entry.Move.{Move}
 use Rattle.px_order.proofs.LawProofs.{agenda_goes_on, blind_needs_no_agenda}
@@ -36,3 +36,10 @@ module _ (task : Task) where
       → IsNext (space_of task) (order_of task) found picked place × IsAgendaOf (space_of task) (order_of task) found (place ∷ picked) new
   agenda_next found picked old new worth place agenda taken least tie =
       (agenda_goes_on (space_of task)).picks (order_of task) found picked old new worth place agenda taken least tie
+
+  pub agenda_over : (found : List (List Move)) (picked : List ℕ) (ranks : List Rank)
+      → IsAgendaOf (space_of task) (order_of task) found picked ranks → ranks ≡ [] → (k : ℕ) (moves : List Move)
+      → slice_get found k ≡ Some moves → Contains picked k
+  agenda_over found picked ranks agenda none =
+      (agenda_goes_on (space_of task)).none_left (order_of task) found picked
+      (subst (λ (l : List Rank). IsAgendaOf (space_of task) (order_of task) found picked l) none agenda)

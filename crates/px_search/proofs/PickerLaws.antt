@@ -1,26 +1,38 @@
 -- What the picker keeps: it stays right where more gets numbers, and where nodes are put behind the others.
 use Rattle.std.proofs.Common.{◌≡◌, ◌+◌, ◌*◌, ◌<◌, ◌⊎◌, ℕ, zero, suc, List, [], ◌∷◌, ◌++◌, length, refl, sym, ◌∙◌, ap, subst, inl, inr, arith, Some, slice_get, Contains, length-append}
-use Rattle.std.specs.Prelude.{IsPermutation}
+use Rattle.std.specs.Prelude.{All, IsPermutation}
+use Rattle.std.proofs.lemmas.List.Elements.{All-head}
+use Rattle.std.proofs.lemmas.List.Sums.{sum_by-cons}
+use Rattle.px_terms.specs.declared.atom.Atom.{Atom}
 use Rattle.px_table.specs.declared.entry.Move.{Move}
+use Rattle.px_table.specs.declared.entry.Move.TheVariants as move
 use Rattle.px_table.specs.declared.node.Node.{Node}
+use Rattle.px_entries.specs.Entries.{IsEntry}
 use Rattle.px_order.proofs.LawProofs.{agenda_goes_on}
 use Rattle.px_order.specs.Agendas.{Rank, rank_of}
 use Rattle.px_order.specs.OpenPlaces.{IsAgendaOf}
 use Rattle.px_order.specs.Places.{place-within-list, push-cases, some-one}
-use Rattle.px_numbers.specs.Numbers.{Kept, KeepsAll}
-use Rattle.px_numbers.specs.NumberLaws.{model_at-grows}
+use Rattle.px_order.specs.RunLaws.{node-push}
+use Rattle.px_numbers.specs.declared.nodes.NodeKey.{NodeKey}
+use Rattle.px_numbers.specs.Numbers.{Kept, IsKeyOf, KeepsAll}
+use Rattle.px_numbers.specs.NumberLaws.{model_at-grows, one_at, one_model}
 use Rattle.px_ends.specs.ByValue.{space_of}
 use Rattle.px_ends.specs.Ends.{node_of}
-use Rattle.px_ends.specs.Lacks.{needs}
-use Rattle.px_ends.specs.Tasks.{Task, initial_node}
+use Rattle.px_ends.specs.Lacks.{lacks, needs}
+use Rattle.px_ends.specs.Tasks.{Task, after, initial_node}
 use Rattle.px_search.specs.declared.estimates.Estimates.{Estimates}
 use Rattle.px_search.specs.declared.picker.Picker.{Picker}
 use Rattle.px_search.specs.declared.picker.Picker.TheVariants.{InOrder, ByValue}
 use Rattle.px_search.specs.declared.picker.Ranking.{Ranking}
 use Rattle.px_search.specs.declared.picker.Reckoned.{Reckoned}
+use Rattle.px_search.specs.declared.step.Origin.{Origin}
+use Rattle.px_search.specs.declared.step.Step.{Step}
+use Rattle.px_search.specs.declared.step.Step.TheVariants as step
 use Rattle.px_search.specs.Estimating.{AreCounted, IsCountAt, IsGoalCountAt}
-use Rattle.px_search.specs.Picking.{AreWithin, IsPickerOf, IsPut, IsRanking}
+use Rattle.px_search.specs.Notes.{IsEntryAt}
+use Rattle.px_search.specs.Picking.{AreWithin, IsOnward, IsPickerOf, IsPut, IsRanking}
 use Rattle.px_search.specs.Searching.{order_of}
+use Rattle.px_search.specs.Steps.{DescribesMove}
 use Rattle.px_search.proofs.Pairs.{each-grows}
 
 module _ (task : Task) where
@@ -118,3 +130,90 @@ module _ (task : Task) where
       long = each-more (λ r l. r.moves ≡ length l) ranking.long long_is;
       estimates = subst (AreCounted task kept) (sym put.estimates) ranking.estimates;
     }
+
+  -- ---- the node that goes on from another
+
+  pub onward-node : (kept : Kept) (found : List (List Move)) (origin : Origin) (there : NodeKey) (moves : List Move)
+      → (onward : IsOnward task kept found origin there moves) → node_of task moves ≡ after task (node_of task onward.parent) onward.m
+  onward-node kept found origin there moves onward =
+      ap (node_of task) onward.moves_are ∙ node-push (space_of task) (order_of task) (initial_node task) onward.parent onward.m
+
+  pub ranking-onward : (kept : Kept) (found : List (List Move)) (picked : List ℕ) (origin : Origin) (there : NodeKey) (moves : List Move)
+      (old new : Ranking) (estimates : Estimates) (one : Reckoned) (lacking count : ℕ) → IsRanking task kept found picked old
+      → IsOnward task kept found origin there moves → AreWithin found picked → slice_get old.reckoned.items origin.parent ≡ Some one
+      → ((node : Node) (m : Move) → one.needs ≡ needs task node → DescribesMove kept origin.last m → IsKeyOf kept there (after task node m)
+      → lacking ≡ needs task (after task node m))
+      → count ≡ one.moves + 1 → AreCounted task kept estimates
+      → IsPut task.problem.weight (record { needs = lacking; moves = count }) (record old { estimates = estimates }) new
+      → IsRanking task kept (found ++ moves ∷ []) picked new
+  ranking-onward kept found picked origin there moves old new estimates one lacking count ranking onward within at_one says count_is counted
+      put =
+      let node = onward-node kept found origin there moves onward in
+      ranking-more kept found picked (record { needs = lacking; moves = count }) moves (record old { estimates = estimates }) new
+      (record {
+        agenda = ranking.agenda;
+        count = ranking.count;
+        lacking = ranking.lacking;
+        long = ranking.long;
+        estimates = counted;
+      }) put
+      (says (node_of task onward.parent) onward.m (ranking.lacking origin.parent one onward.parent at_one onward.parent_at) onward.step
+      (subst (IsKeyOf kept there) node onward.stands) ∙ ap (needs task) (sym node))
+      (omega (
+        arith,
+        count_is,
+        ranking.long origin.parent one onward.parent at_one onward.parent_at,
+        ap length onward.moves_are,
+        length-append onward.parent (onward.m ∷ []),
+      )) within
+
+  -- the pair that the node after is
+  pub onward-stands : (kept : Kept) (found : List (List Move)) (origin : Origin) (there : NodeKey) (moves : List Move)
+      → (onward : IsOnward task kept found origin there moves) → IsKeyOf kept there (after task (node_of task onward.parent) onward.m)
+  onward-stands kept found origin there moves onward =
+      subst (IsKeyOf kept there) (onward-node kept found origin there moves onward) onward.stands
+
+  pub onward-entries : (kept : Kept) (found : List (List Move)) (origin : Origin) (there : NodeKey) (moves : List Move)
+      → (onward : IsOnward task kept found origin there moves)
+      → All (IsEntry task.problem task.tables) (after task (node_of task onward.parent) onward.m).stack
+  onward-entries kept found origin there moves onward =
+      subst (λ (x : Node). All (IsEntry task.problem task.tables) x.stack) (onward-node kept found origin there moves onward) onward.entries
+
+  pub onward-within : (kept : Kept) (found : List (List Move)) (picked : List ℕ) (origin : Origin) (there : NodeKey) (moves : List Move)
+      (ranking : Ranking) → IsRanking task kept found picked ranking → IsOnward task kept found origin there moves
+      → origin.parent < length ranking.reckoned.items
+  onward-within kept found picked origin there moves ranking is onward =
+      omega (arith, is.count, place-within-list found origin.parent onward.parent onward.parent_at)
+
+  -- ---- the node after a push
+
+  pub pushed_entry : (kept : Kept) (last : Step) (number : ℕ) (there : NodeKey) (node : Node) (m : Move) → last ≡ step.Push number
+      → DescribesMove kept last m → IsKeyOf kept there (after task node m)
+      → All (IsEntry task.problem task.tables) (after task node m).stack
+      → IsEntryAt task kept (record { model = there.model; entry = number })
+  pushed_entry kept last number there node m is describes stands entries =
+      by m (subst (λ (s : Step). DescribesMove kept s m) is describes) stands entries
+    where
+      by : (m : Move) → DescribesMove kept (step.Push number) m → IsKeyOf kept there (after task node m)
+          → All (IsEntry task.problem task.tables) (after task node m).stack
+          → IsEntryAt task kept (record { model = there.model; entry = number })
+      by move.Apply wrong stands entries = absurd wrong
+      by (move.Push e) at stands entries =
+          (node.model, e, stands.model, at, All-head (IsEntry task.problem task.tables) e node.stack entries)
+
+  pub pushed_needs : (kept : Kept) (last : Step) (number : ℕ) (there : NodeKey) (before more all : ℕ) (node : Node) (m : Move)
+      → last ≡ step.Push number → IsCountAt task kept (record { model = there.model; entry = number }) more → all ≡ before + more
+      → before ≡ needs task node → DescribesMove kept last m → IsKeyOf kept there (after task node m)
+      → all ≡ needs task (after task node m)
+  pushed_needs kept last number there before more all node m is (model, entry, model_at, entry_at, more_is) all_is before_is describes stands =
+      by m (subst (λ (s : Step). DescribesMove kept s m) is describes) stands
+    where
+      by : (m : Move) → DescribesMove kept (step.Push number) m → IsKeyOf kept there (after task node m)
+          → all ≡ needs task (after task node m)
+      by move.Apply wrong stands = absurd wrong
+      by (move.Push e) at stands =
+          let same_model : model ≡ node.model = one_model kept there.model model node.model model_at stands.model in
+          let same_entry : entry ≡ e = one_at kept.entries number entry e entry_at at in
+          let more_here : more ≡ lacks task node.model e =
+          more_is ∙ ap (λ (l : List Atom). lacks task l entry) same_model ∙ ap (lacks task node.model) same_entry in
+          omega (arith, all_is, before_is, more_here, sum_by-cons (lacks task node.model) e node.stack)
