@@ -2,7 +2,7 @@
 use Rattle.std.proofs.Common.{◌≡◌, ℕ, Bool, true, zero, suc, ◌+◌, ◌<◌, ◌≤◌, List, [], ◌∷◌, ◌++◌, map, take, length, refl, sym, ◌∙◌, ap, subst, inl, inr, arith, Some, slice_get, Contains}
 use Rattle.std.specs.Prelude.{All}
 use Rattle.std.proofs.lemmas.List.{length-append, length-map, map-append}
-use Rattle.std.proofs.lemmas.List.Elements.{All-tail, All-cons, Contains-push}
+use Rattle.std.proofs.lemmas.List.Elements.{All-tail, All-cons}
 use Rattle.px_terms.specs.declared.atom.Atom.{Atom}
 use Rattle.px_terms.specs.Operators.{results_of}
 use Rattle.px_proof.specs.declared.shape.Tick.{Tick}
@@ -19,7 +19,7 @@ use Rattle.px_numbers.specs.Numbers.{Kept, AreEachOnce, IsKeyOf, KeepsAll, AllSt
 use Rattle.px_numbers.specs.NumberLaws.{one_at, node_of_key, seen, unseen, all_stand-grows, all_stand-push}
 use Rattle.px_order.specs.Places.{at_end, contains_place, place_of, still_there}
 use Rattle.px_order.specs.RunLaws.{behind, made, made-push, node-push}
-use Rattle.px_order.specs.Runs.{IsNew, IsNext, Reaches}
+use Rattle.px_order.specs.Runs.{IsNew, IsNext}
 use Rattle.px_ends.specs.ByValue.{space_of, IsExhausted, IsFound, IsNodeLimit, IsShapeLimit}
 use Rattle.px_ends.specs.Ends.{AreMoves, node_of}
 use Rattle.px_ends.specs.Moves.{CanMake, reached}
@@ -463,7 +463,8 @@ module _ (task : Task) where
               found = g.found ++ more_moves ∷ [];
               making = one_tried (g.found ++ more_moves ∷ [])
                   (making_found task g.found next picked t.list t.list_at t.begun.moves i m g.making at_m
-                  (searching_found task g.found next picked g.making.searching t.list t.list_at m is_new (room_there room) t_new.0 t_new.1));
+                  (searching_found task g.found next picked g.making.searching t.list t.list_at m is_new (room_there room) t_new.0
+                  t_new.1));
               numbered = numbered-more;
               picking = picking;
             };

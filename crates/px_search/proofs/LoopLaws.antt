@@ -160,7 +160,8 @@ module _ (task : Task) where
       step-stand =
           subst (λ (l : List NodeKey). (nodes : List Node) × AllStand kept l nodes) (sym fresh.1) (
             map (node_of task) (st.t.going.found ++ step-moves ∷ []),
-            (numbered-more task kept once keys origins picker picked next steps is_all i s st.t st.m st.at_m st.step_is there st.stands).stand,
+            (numbered-more task kept once keys origins picker picked next steps is_all i s st.t st.m st.at_m st.step_is there
+                st.stands).stand,
           )
 
       pub step-new : (made : List Origin) (tried : Tried) (later : Picker) → made ≡ origins ++ origin ∷ []

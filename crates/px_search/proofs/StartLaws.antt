@@ -1,5 +1,5 @@
 -- The ends of a search at the initial node.
-use Rattle.std.proofs.Common.{◌≡◌, ℕ, zero, suc, ◌<◌, ◌≤◌, ◌⊎◌, List, [], ◌∷◌, ◌++◌, length, refl, sym, subst, inl, inr, arith, Some, slice_get, Contains}
+use Rattle.std.proofs.Common.{◌≡◌, ℕ, zero, suc, ◌≤◌, List, [], ◌∷◌, refl, sym, subst, inl, inr, arith, Some, slice_get, Contains}
 use Rattle.px_terms.specs.declared.atom.Atom.{Atom}
 use Rattle.px_proof.specs.declared.shape.Tick.{Tick}
 use Rattle.px_table.specs.declared.entry.Move.{Move}
@@ -53,7 +53,8 @@ module _ (task : Task) (room : 1 ≤ task.problem.nodes) where
           omega (arith, r.2.1)
       unlimited moves q (inr (tests, tries)) met =
           let r = (asked_by_run (space_of task) (aim_of task)).tested (order_of task) linear [] [] stop moves tests in
-          below met.0 met.1 (subst (λ (x : List Move). MeetsLimit task.problem (goal_there task x) met.0 met.1) (sym (only-place r.0 moves r.1))
+          below met.0 met.1
+          (subst (λ (x : List Move). MeetsLimit task.problem (goal_there task x) met.0 met.1) (sym (only-place r.0 moves r.1))
           (subst (λ (x : Question). MeetsLimit task.problem x met.0 met.1) tries.1 met.2))
 
   -- trying the goal there meets the limit

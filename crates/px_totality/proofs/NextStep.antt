@@ -207,17 +207,25 @@ module _ {N M Q : Type 0} (space : Space N M) (order : Order N M) (linear : IsLi
     new_list = f.moves ++ f.m ∷ []
 
     comes-further : Comes space order (found ++ new_list ∷ []) picked
-    comes-further = (suc s.comes.0, (found, picked, s.comes.1, inr (record {
-      place = f.place;
-      earlier = f.earlier;
-      last = f.last;
-      moves = f.moves;
-      stands = f.stands;
-      m = f.m;
-      is_new = f.is_new;
-      found_is = refl;
-      picked_is = refl;
-    })))
+    comes-further = (
+      suc s.comes.0,
+      (
+        found,
+        picked,
+        s.comes.1,
+        inr (record {
+          place = f.place;
+          earlier = f.earlier;
+          last = f.last;
+          moves = f.moves;
+          stands = f.stands;
+          m = f.m;
+          is_new = f.is_new;
+          found_is = refl;
+          picked_is = refl;
+        }),
+      ),
+    )
 
     stopped : aim.solved (node_of new_list) ⊎ (length found ≡ aim.limit) → Stopped
     stopped stops = record {

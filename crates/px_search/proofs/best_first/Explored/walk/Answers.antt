@@ -1,5 +1,5 @@
 -- Proofs of the goals that `Explored::walk` of src/best_first.rt leaves open.
-use Rattle.std.proofs.Common.{◌≡◌, ◌<◌, ◌∷◌, ◌∙◌, ℕ, List, length, sym, subst, arith}
+use Rattle.std.proofs.Common.{◌<◌, ◌∷◌, ◌∙◌, ℕ, List, sym, subst, arith}
 use Rattle.px_order.specs.Places.{place-within-list}
 use Rattle.px_ends.proofs.PickCounts.{picks_left}
 use Rattle.px_ends.specs.ByValue.{space_of}
