@@ -37,8 +37,8 @@
 //! - [`worked_lines`] and [`worked_texts`]: what the definition says of small lines, and of small texts from their bytes, to be
 //!   compared with what a reader expects.
 //!
-//! The modules of `proofs` that px_lines and px_reader cite (`Scanning`, `Parsing`, `Rows`, `Faultless`, `States` and lemmas) aren't part
-//! of what a script is: of public calls only those of px_lines speak of them.
+//! The modules of `proofs` that px_lines, px_reader and px_saved cite (`Scanning`, `Parsing`, `Rows`, `Faultless`, `States`, `Kept` and
+//! lemmas) aren't part of what a script is: of public calls only those of px_lines speak of them.
 #![tactic(auto)]
 
 ghost use Rattle.std.specs.Prelude.{List, ℕ};
