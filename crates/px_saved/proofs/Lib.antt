@@ -1,0 +1,3 @@
+-- What is shown on the way to the law.
+pub mod Words
+pub mod Written

@@ -1,0 +1,2 @@
+//! What is saved is read back.
+#![tactic(auto)]
