@@ -1,3 +1,6 @@
 -- What is shown on the way to the law.
 pub mod Words
 pub mod Written
+pub mod Numbers
+pub mod Lines
+pub mod Fits

@@ -1,7 +1,9 @@
 -- How a table's block is written, as statements; and that each line of its text is read as its statement's lexemes.
 use Rattle.std.specs.Prelude.{◌-◌, ◌^◌}
-use Rattle.px_script.proofs.Common.{◌≡◌, ℕ, zero, suc, ◌+◌, ◌<◌, ◌≤◌, Bool, true, false, List, [], ◌∷◌, ◌++◌, map, length, refl, sym, ap, ◌∙◌, subst, arith, append_assoc, append-nil, codes, flat_map, flat_map-append, IsUtf8, decimal, nat_lt, AllByRecursion, unwrap_or, slice_get, if◌then◌else◌, Lexeme, name, number, sign, variable, Argument, named, open_variable, anything, SignedAtom, WrittenAtom, bare, Part, a_fact, an_ancestor, an_axiom, spell_argument, spell_atom, spell_part, spell_terms, with_commas, parenthesised, Statement, spelling, table, step, goal, proof, end, NameLists, Term, Obj, Var, Any, Atom}
+use Rattle.px_script.proofs.Common.{◌≡◌, ℕ, zero, suc, ◌+◌, ◌<◌, ◌≤◌, Bool, true, false, List, [], ◌∷◌, ◌++◌, map, length, refl, sym, ap, ◌∙◌, subst, arith, append_assoc, append-nil, codes, flat_map, flat_map-append, IsUtf8, decimal, nat_lt, AllByRecursion, unwrap_or, slice_get, if◌then◌else◌, Lexeme, name, number, sign, variable, Argument, named, open_variable, anything, SignedAtom, WrittenAtom, Part, a_fact, an_ancestor, an_axiom, spell_argument, spell_atom, spell_part, spell_terms, with_commas, parenthesised, Statement, spelling, table, step, goal, proof, end, NameLists, Term, Obj, Var, Any, Atom}
 use Rattle.px_script.specs.Common.{OpInst}
+use Rattle.px_script.specs.declared.kinds.Sign.TheVariants.{Bare as bare}
+use lib.Utf8.{encode}
 use Rattle.std.specs.Str.{chars, is_utf8}
 use Rattle.px_script.specs.Items.{spell, proofs}
 use Rattle.px_script.proofs.Lists.{by_test}
@@ -18,35 +20,35 @@ use Rattle.unicode_ident.proofs.Computing.{unicode_ident}
 -- ---- the words of a block
 
 letter_f : IsWord (codes "f") (name (codes "f"))
-unfolding unicode_ident chars is_utf8
+unfolding unicode_ident chars is_utf8 encode
 letter_f = keyword (codes "f") refl refl
 
 letter_a : IsWord (codes "a") (name (codes "a"))
-unfolding unicode_ident chars is_utf8
+unfolding unicode_ident chars is_utf8 encode
 letter_a = keyword (codes "a") refl refl
 
 letter_s : IsWord (codes "s") (name (codes "s"))
-unfolding unicode_ident chars is_utf8
+unfolding unicode_ident chars is_utf8 encode
 letter_s = keyword (codes "s") refl refl
 
 word_table : IsWord (codes "table") (name (codes "table"))
-unfolding unicode_ident chars is_utf8
+unfolding unicode_ident chars is_utf8 encode
 word_table = keyword (codes "table") refl refl
 
 word_step : IsWord (codes "step") (name (codes "step"))
-unfolding unicode_ident chars is_utf8
+unfolding unicode_ident chars is_utf8 encode
 word_step = keyword (codes "step") refl refl
 
 word_goal : IsWord (codes "goal") (name (codes "goal"))
-unfolding unicode_ident chars is_utf8
+unfolding unicode_ident chars is_utf8 encode
 word_goal = keyword (codes "goal") refl refl
 
 word_proof : IsWord (codes "proof") (name (codes "proof"))
-unfolding unicode_ident chars is_utf8
+unfolding unicode_ident chars is_utf8 encode
 word_proof = keyword (codes "proof") refl refl
 
 word_end : IsWord (codes "end") (name (codes "end"))
-unfolding unicode_ident chars is_utf8
+unfolding unicode_ident chars is_utf8 encode
 word_end = keyword (codes "end") refl refl
 
 module _ (names : NameLists) (params : ℕ) where
@@ -71,8 +73,8 @@ module _ (names : NameLists) (params : ℕ) where
     pub written_parts : Derivation → List Part
     written_parts (fact leaf) = a_fact leaf.column leaf.index (written_atom leaf.atom) ∷ []
     written_parts (ancestor i) = an_ancestor i ∷ []
-    written_parts (derivation.step number theta place parts) =
-        an_axiom number place (count_of parts) (map written_term theta) ∷ all_written_parts parts
+    written_parts (derivation.step clause theta place parts) =
+        an_axiom clause place (count_of parts) (map written_term theta) ∷ all_written_parts parts
     written_parts (gap atom) = []
     written_parts open_place = []
 
@@ -113,8 +115,8 @@ module _ (names : NameLists) (params : ℕ) where
     pub ProofHasText : Derivation → Type 0
     ProofHasText (fact leaf) = (leaf.column < 2 ^ 31) × (leaf.index < 2 ^ 31) × AtomHasText leaf.atom
     ProofHasText (ancestor i) = i < 2 ^ 31
-    ProofHasText (derivation.step number theta place parts) =
-        (number < 2 ^ 31) × (place < 2 ^ 31) × (count_of parts < 2 ^ 31) × AllByRecursion HasText theta × ProofsHaveText parts
+    ProofHasText (derivation.step clause theta place parts) =
+        (clause < 2 ^ 31) × (place < 2 ^ 31) × (count_of parts < 2 ^ 31) × AllByRecursion HasText theta × ProofsHaveText parts
     ProofHasText (gap atom) = ⊥
     ProofHasText open_place = ⊥
 
@@ -217,6 +219,16 @@ module _ (names : NameLists) (params : ℕ) where
         (space-reads (atom_text names (InBlock params) atom ++ (after_spaces words ++ tail)) _ _
         (atom-reads (after_spaces words ++ tail) lexemes more atom is (spaces-end words tail ends)))
 
+    spaced-instance : (inst : OpInst) (words : List (List ℕ)) (lexemes : List Lexeme) → StepHasText inst → Spaced words lexemes
+        → Spaced (instance_text names (InBlock params) inst ∷ words)
+        (name (name_text names kind.Operator inst.op) ∷ (parenthesised (map spell_argument (map written_term inst.args)) ++ lexemes))
+    spaced-instance inst words lexemes is more =
+        rw (append_assoc (name_text names kind.Operator inst.op ++ in_parentheses (map the_text inst.args)) (after_spaces words) tail,
+          append_assoc (name_text names kind.Operator inst.op) (in_parentheses (map the_text inst.args)) (after_spaces words ++ tail))
+        (space-reads (name_text names kind.Operator inst.op ++ (in_parentheses (map the_text inst.args) ++ (after_spaces words ++ tail))) _ _
+        (named-reads (after_spaces words ++ tail) lexemes more (name_text names kind.Operator inst.op) inst.args is.operator is.arguments
+        (spaces-end words tail ends)))
+
     spaced-terms : (theta : List Term) (words : List (List ℕ)) (lexemes : List Lexeme) → AllByRecursion HasText theta
         → Spaced words lexemes → Spaced (terms_text names (InBlock params) theta ∷ words) (spell_terms (map written_term theta) ++ lexemes)
     spaced-terms theta words lexemes is more =
@@ -234,14 +246,14 @@ module _ (names : NameLists) (params : ℕ) where
     mutual
       proof-read : (d : Derivation) (words : List (List ℕ)) (lexemes : List Lexeme) → ProofHasText d → Spaced words lexemes
           → Spaced (proof_words names (InBlock params) d ++ words) (flat_map spell_part (written_parts d) ++ lexemes)
-      proof-read (fact leaf) words lexemes is more = rw (append-nil (spell_atom (written_atom leaf.atom)))
+      proof-read (fact leaf) words lexemes is more = rw (append-nil (parenthesised (map spell_argument (map written_term leaf.atom.args))))
           (spaced (codes "f") _ _ _ letter_f (spaced (decimal leaf.column) _ _ _ (number-word leaf.column is.0)
           (spaced (decimal leaf.index) _ _ _ (number-word leaf.index is.1) (spaced-atom leaf.atom words lexemes is.2 more))))
       proof-read (ancestor i) words lexemes is more =
           spaced (codes "a") _ _ _ letter_a (spaced (decimal i) words _ lexemes (number-word i is) more)
-      proof-read (derivation.step number theta place parts) words lexemes is more =
+      proof-read (derivation.step clause theta place parts) words lexemes is more =
           rw (append_assoc (spell_terms (map written_term theta)) (flat_map spell_part (all_written_parts parts)) lexemes)
-          (spaced (codes "s") _ _ _ letter_s (spaced (decimal number) _ _ _ (number-word number is.0)
+          (spaced (codes "s") _ _ _ letter_s (spaced (decimal clause) _ _ _ (number-word clause is.0)
           (spaced (decimal place) _ _ _ (number-word place is.1) (spaced (decimal (count_of parts)) _ _ _
           (number-word (count_of parts) is.2) (spaced-terms theta (all_proof_words names (InBlock params) parts ++ words) _ is.3
           (proofs-read parts words lexemes is.4 more))))))
@@ -271,15 +283,13 @@ module _ (names : NameLists) (params : ℕ) where
   pub table-line : (text : List ℕ) → IsText text → params < 2 ^ 31
       → Reads (line_bytes (codes "table") (text ∷ decimal params ∷ [])) (spelling (table text params))
   table-line text is few = line-read (codes "table") (text ∷ decimal params ∷ []) _ word_table
-      (spaced [] nothing-ends text _ _ _ (text-word text is)
-      (spaced [] nothing-ends (decimal params) [] _ [] (number-word params few) nothing-reads))
+      (spaced [] nothing-ends text (decimal params ∷ []) (name text) (number params ∷ []) (text-word text is)
+      (spaced [] nothing-ends (decimal params) [] (number params) [] (number-word params few) nothing-reads))
 
   pub step-line : (inst : OpInst) → StepHasText inst
       → Reads (line_bytes (codes "step") (instance_text names (InBlock params) inst ∷ [])) (spelling (written_step inst))
   step-line inst is = line-read (codes "step") (instance_text names (InBlock params) inst ∷ []) _ word_step
-      (rw (append_assoc (name_text names kind.Operator inst.op) (in_parentheses (map the_text inst.args)) [],
-        append_assoc (name_text names kind.Operator inst.op) (in_parentheses (map the_text inst.args) ++ []) [])
-      (space-reads _ _ _ (named-reads [] [] nothing-reads (name_text names kind.Operator inst.op) inst.args is.operator is.arguments nothing-ends)))
+      (spaced-instance [] nothing-ends inst [] [] is nothing-reads)
 
   pub goal-line : (atoms : List Atom) → AllByRecursion AtomHasText atoms
       → Reads (line_bytes (codes "goal") (map (atom_text names (InBlock params)) atoms)) (spelling (written_goal atoms))
