@@ -8,7 +8,7 @@ use Rattle.px_proof.specs.declared.proof.Leaf.{Leaf}
 use Rattle.px_proof.specs.Derivation.{Derivation, Derivations, fact, ancestor, gap, open_place, none, also, derivations, height, greatest_height, leaves_of, all_leaves_of, leaf_atoms}
 use Rattle.px_proof.specs.Derivation as derivation
 use Rattle.px_proof.specs.Literals.{complement_of, positive_of, substitute_literal}
-use Rattle.px_proof.specs.PlaceLaws.{slice_get-within, All-front, All-back, All-got, Contains-mapped}
+use Rattle.px_proof.specs.PlaceLaws.{length-remove, slice_get-within, All-front, All-back, All-got, Contains-mapped}
 use Rattle.px_proof.specs.Proves.{IsObjectOrParameter, Proves, ProvesEach, from_atoms, instance_of, parts_of}
 use Rattle.px_printer.specs.Blocks.{count_of}
 use Rattle.px_table.specs.declared.mark.Mark.{Mark}
@@ -20,12 +20,14 @@ use Rattle.px_table.specs.Tables.{IsStepOf}
 use Rattle.px_terms.specs.declared.clause.Clause.{Clause}
 use Rattle.px_terms.specs.declared.clause.Lit.{Lit}
 use Rattle.px_terms.specs.Operators.{adds, precondition, schema_of, no_schema}
-use Rattle.px_terms.specs.Substitution.{substitute, substitute_atom}
+use Rattle.px_terms.specs.Substitution.{substitute_atom}
+use Rattle.px_terms.specs.Language.{substitute}
+use Rattle.std.proofs.lemmas.List.Elements.{All-take, All-drop, All-append}
 use Rattle.px_terms.specs.Validity.{HasArity, IsAtomOf, IsTermOf, IsValid, IsAxiomOf, IsSchemaOf}
 use Rattle.px_terms.specs.Clauses.{IsClause}
 use Rattle.px_script.specs.Common.{OpInst, Schema}
 use Rattle.px_script.specs.Ranges.{HasShortLists}
-use Rattle.px_script.proofs.Common.{◌≡◌, ℕ, zero, suc, ◌+◌, ◌<◌, ◌≤◌, List, [], ◌∷◌, ◌++◌, map, length, refl, sym, ap, ◌∙◌, subst, inl, inr, arith, Some, All, AllByRecursion, Contains, slice_get, slice_index_or, flat_map, length-map, cases_lt, All-head, All-tail, All-at, All-each, All-map, All-nil, All-cons, append-nil, append_assoc, Term, Obj, Var, Any, Atom, Problem}
+use Rattle.px_script.proofs.Common.{◌≡◌, ℕ, zero, suc, ◌+◌, ◌<◌, ◌≤◌, List, [], ◌∷◌, ◌++◌, map, length, refl, sym, ap, ◌∙◌, subst, inl, inr, arith, Some, All, AllByRecursion, Contains, slice_get, slice_index_or, flat_map, take, drop, length-map, cases_lt, All-head, All-tail, All-at, All-each, All-map, All-nil, All-cons, append-nil, append_assoc, Term, Obj, Var, Any, Atom, Problem}
 
 -- what all have, item by item
 pub by-recursion : {A : Type 0} (P : A → Type 0) (xs : List A) → All P xs → AllByRecursion P xs
@@ -67,7 +69,7 @@ module _ (problem : Problem) (params : ℕ) where
   pub terms-fit : (bound : ℕ) (ts : List Term) → All (IsTermOf problem bound) ts → NoneWithout ts → AllByRecursion (TermFits bound) ts
   terms-fit bound ts all bare = elim (cases_lt 0 problem.objects) [
     | inl some ↦ each ts (by-recursion (IsTermOf problem bound) ts all) (omega (arith, some))
-    | inr no ↦ subst (AllByRecursion (TermFits bound)) (sym (bare (omega (arith, no)))) tt
+    | inr past ↦ subst (AllByRecursion (TermFits bound)) (sym (bare (omega (arith, past)))) tt
   ]
     where
       each : (ts : List Term) → AllByRecursion (IsTermOf problem bound) ts → 1 ≤ problem.objects → AllByRecursion (TermFits bound) ts
@@ -112,19 +114,21 @@ module _ (problem : Problem) (params : ℕ) where
             (All-at (IsAxiomOf problem) problem.axioms clause valid.axioms has).lits here in
         ap (map (substitute theta)) (no-terms clause.vars lit.atom.args vars none_there of.1)))
 
-    removed-all : {X : Type 0} (Q : X → Type 0) (xs : List X) (i : ℕ) → AllByRecursion Q xs → AllByRecursion Q (remove xs i)
-    removed-all Q [] i all = all
-    removed-all Q (x ∷ xs) zero all = all.1
-    removed-all Q (x ∷ xs) (suc i) all = (all.0, removed-all Q xs i all.1)
+    removed-all : {X : Type 0} (Q : X → Type 0) (xs : List X) (i : ℕ) → All Q xs → All Q (remove xs i)
+    removed-all Q xs i all = All-append Q (take i xs) (drop (suc i) xs) (All-take Q i xs all) (All-drop Q (suc i) xs all)
+
+    got-there : {X : Type 0} (xs : List X) (k : ℕ) (x : X) → slice_get xs k ≡ Some x → Contains xs x
+    got-there [] k x e = absurd (cc)
+    got-there (y ∷ xs) zero x e = subst (Contains (y ∷ xs)) (some_same e) (Contains-first y xs)
+    got-there (y ∷ xs) (suc k) x e = Contains-later y xs x (got-there xs k x e)
+
+    empty : (ts : List Term) → length ts ≡ 0 → ts ≡ []
+    empty [] e = refl
+    empty (t ∷ ts) e = absurd (omega (arith, e))
 
     complements : (lits : List Lit) → AllByRecursion IsBare lits → AllByRecursion IsBare (map complement_of lits)
     complements [] all = tt
     complements (lit ∷ lits) all = (all.0, complements lits all.1)
-
-    removed-short : {X : Type 0} (xs : List X) (i : ℕ) → length (remove xs i) ≤ length xs
-    removed-short [] i = omega arith
-    removed-short (x ∷ xs) zero = omega arith
-    removed-short (x ∷ xs) (suc i) = let r = removed-short xs i in omega (arith, r)
 
     module _ (atoms : List Atom) where
       mutual
@@ -143,13 +147,13 @@ module _ (problem : Problem) (params : ℕ) where
             let few = valid.arena.most in
             let size = (All-at IsClause problem.axioms clause valid.arena.each has).size in
             let place_within = slice_get-within (instance_of clause.lits theta) place lit uses.literal_at in
-            let counted = length-map (substitute_literal theta) clause.lits in
-            let all = by-recursion IsBare (instance_of clause.lits theta) (clause-bare clause has theta) in
-            let bares = complements (remove (instance_of clause.lits theta) place)
-                (removed-all IsBare (instance_of clause.lits theta) place all) in
+            let counted = length-map clause.lits (substitute_literal theta) in
+            let left = remove (instance_of clause.lits theta) place in
+            let all = removed-all IsBare (instance_of clause.lits theta) place (clause-bare clause has theta) in
+            let bares = complements left (by-recursion IsBare left all) in
             let inner = proofs-fit (lit ∷ path) (parts_of clause.lits theta place) parts proves.2 leaves (omega (arith, low)) bares in
-            let short = removed-short (instance_of clause.lits theta) place in
-            let same = length-map complement_of (remove (instance_of clause.lits theta) place) in
+            let short = length-remove (instance_of clause.lits theta) place place_within in
+            let same = length-map left complement_of in
             let none_chosen : NoneWithout theta = λ none_there. empty theta (uses.terms ∙
                 All-at (λ (c : Clause). c.vars ≡ 0) problem.axioms clause (valid.no_objects none_there).1 has) in
             (
@@ -175,15 +179,6 @@ module _ (problem : Problem) (params : ℕ) where
         proofs-fit path [] (also d ds) proves leaves low bare = absurd proves
         proofs-fit path (lit ∷ lits) none proves leaves low bare = absurd proves
 
-      got-there : {X : Type 0} (xs : List X) (k : ℕ) (x : X) → slice_get xs k ≡ Some x → Contains xs x
-      got-there [] k x e = cc
-      got-there (y ∷ xs) zero x e = subst (Contains (y ∷ xs)) (some_same e) (Contains-first y xs)
-      got-there (y ∷ xs) (suc k) x e = Contains-later y xs x (got-there xs k x e)
-
-      empty : (ts : List Term) → length ts ≡ 0 → ts ≡ []
-      empty [] e = refl
-      empty (t ∷ ts) e = absurd (omega (arith, e))
-
     -- ---- rows
 
     -- the atoms have no arguments where there are no objects
@@ -206,11 +201,11 @@ module _ (problem : Problem) (params : ℕ) where
     module _ (short_lists : All (HasShortLists 2) problem.schemas) (steps : List OpInst) where
       -- an operator adds few atoms
       few-adds : (inst : OpInst) → length (adds problem inst) ≤ 16
-      few-adds inst = let same = length-map (substitute_atom inst.args) (schema_of problem inst).add in
+      few-adds inst = let same = length-map (schema_of problem inst).add (substitute_atom inst.args) in
           elim (cases_lt inst.op (length problem.schemas)) [
             | inl within ↦ (let is = short_lists inst.op no_schema within in omega (arith, same, is.2))
-            | inr past ↦ (let no : length (schema_of problem inst).add ≡ 0 = ap (λ (s : Schema). length s.add) (get_or_past problem.schemas inst.op no_schema past) in
-                omega (arith, same, no))
+            | inr past ↦ (let none_there : length (schema_of problem inst).add ≡ 0 = ap (λ (s : Schema). length s.add) (get_or_past problem.schemas inst.op no_schema past) in
+                omega (arith, same, none_there))
           ]
 
       mark-small : (mark : Mark) → mark.row ≤ 9999 → IsNamed problem steps mark → IsSmall mark.column × IsSmall mark.index
@@ -219,7 +214,7 @@ module _ (problem : Problem) (params : ℕ) where
             let within = slice_get-within (adds problem inst) mark.index mark.atom from.2 in
             let earlier = named.earlier in
             (omega (arith, earlier, small), omega (arith, within, few)))
-        | inr no ↦ (let zero_index = named.initial (omega (arith, no)) in (omega (arith, no), omega (arith, zero_index)))
+        | inr past ↦ (let zero_index = named.initial (omega (arith, past)) in (omega (arith, past), omega (arith, zero_index)))
       ]
 
       -- the leaves of a row are small and the problem's, by their marks
@@ -264,7 +259,8 @@ module _ (problem : Problem) (params : ℕ) where
         rows-fit first [] [] prove ops atoms named low small = absurd prove
         rows-fit first [] (row ∷ []) prove ops atoms named low small = (
           row-fits (map (substitute_atom (variables params ++ prove.0)) goal) row prove.2
-              (leaves-fit first row (omega (arith, small)) (All-front _ (row_marks first row) [] atoms) (All-front _ (row_marks first row) [] named))
+              (leaves-fit first row (omega (arith, small)) (All-front (λ (m : Mark). IsAtomOf problem params m.atom) (row_marks first row) [] atoms)
+              (All-front (IsNamed problem steps) (row_marks first row) [] named))
               (All-head (All (λ (d : Derivation). height d ≤ 56)) row [] low) (goal-bare (variables params ++ prove.0) goal bare),
           tt,
         )
@@ -272,10 +268,10 @@ module _ (problem : Problem) (params : ℕ) where
         rows-fit first (inst ∷ left) [] prove ops atoms named low small = absurd prove
         rows-fit first (inst ∷ left) (row ∷ rows) prove ops atoms named low small = (
           row-fits (precondition problem inst) row prove.0
-              (leaves-fit first row (omega (arith, small)) (All-front _ (row_marks first row) (marks_from (suc first) rows) atoms)
-              (All-front _ (row_marks first row) (marks_from (suc first) rows) named))
+              (leaves-fit first row (omega (arith, small)) (All-front (λ (m : Mark). IsAtomOf problem params m.atom) (row_marks first row) (marks_from (suc first) rows) atoms)
+              (All-front (IsNamed problem steps) (row_marks first row) (marks_from (suc first) rows) named))
               (All-head (All (λ (d : Derivation). height d ≤ 56)) row rows low) (precondition-bare inst ops.0),
-          rows-fit (suc first) left rows prove.1 ops.1 (All-back _ (row_marks first row) (marks_from (suc first) rows) atoms)
-              (All-back _ (row_marks first row) (marks_from (suc first) rows) named)
+          rows-fit (suc first) left rows prove.1 ops.1 (All-back (λ (m : Mark). IsAtomOf problem params m.atom) (row_marks first row) (marks_from (suc first) rows) atoms)
+              (All-back (IsNamed problem steps) (row_marks first row) (marks_from (suc first) rows) named)
               (All-tail (All (λ (d : Derivation). height d ≤ 56)) row rows low) (omega (arith, small)),
         )

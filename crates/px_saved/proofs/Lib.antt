@@ -4,3 +4,4 @@ pub mod Written
 pub mod Numbers
 pub mod Lines
 pub mod Fits
+pub mod Parts

@@ -203,40 +203,40 @@ module _ (names : NameLists) (params : ℕ) where
 
   -- The bytes end here, after words each after a space.
   module _ (tail : List ℕ) (ends : Ends tail) where
-    abbrev Spaced : List (List ℕ) → List Lexeme → Type 0
-    Spaced words lexemes = Reads (after_spaces words ++ tail) lexemes
+    record Spaced (words : List (List ℕ)) (lexemes : List Lexeme) : Type 0 where
+      reads : Reads (after_spaces words ++ tail) lexemes
 
     spaced : (word : List ℕ) (words : List (List ℕ)) (lexeme : Lexeme) (lexemes : List Lexeme) → IsWord word lexeme
         → Spaced words lexemes → Spaced (word ∷ words) (lexeme ∷ lexemes)
-    spaced word words lexeme lexemes is more = rw (append_assoc word (after_spaces words) tail)
+    spaced word words lexeme lexemes is more = record { reads = rw (append_assoc word (after_spaces words) tail)
         (space-reads (word ++ (after_spaces words ++ tail)) lexeme lexemes
-        (word-before word (after_spaces words ++ tail) lexeme lexemes is (spaces-end words tail ends) more))
+        (word-before word (after_spaces words ++ tail) lexeme lexemes is (spaces-end words tail ends) more.reads)) }
 
     spaced-atom : (atom : Atom) (words : List (List ℕ)) (lexemes : List Lexeme) → AtomHasText atom → Spaced words lexemes
         → Spaced (atom_text names (InBlock params) atom ∷ words) (spell_atom (written_atom atom) ++ lexemes)
-    spaced-atom atom words lexemes is more =
+    spaced-atom atom words lexemes is more = record { reads =
         rw (append_assoc (atom_text names (InBlock params) atom) (after_spaces words) tail)
         (space-reads (atom_text names (InBlock params) atom ++ (after_spaces words ++ tail)) _ _
-        (atom-reads (after_spaces words ++ tail) lexemes more atom is (spaces-end words tail ends)))
+        (atom-reads (after_spaces words ++ tail) lexemes more.reads atom is (spaces-end words tail ends))) }
 
     spaced-instance : (inst : OpInst) (words : List (List ℕ)) (lexemes : List Lexeme) → StepHasText inst → Spaced words lexemes
         → Spaced (instance_text names (InBlock params) inst ∷ words)
         (name (name_text names kind.Operator inst.op) ∷ (parenthesised (map spell_argument (map written_term inst.args)) ++ lexemes))
-    spaced-instance inst words lexemes is more =
+    spaced-instance inst words lexemes is more = record { reads =
         rw (append_assoc (name_text names kind.Operator inst.op ++ in_parentheses (map the_text inst.args)) (after_spaces words) tail,
           append_assoc (name_text names kind.Operator inst.op) (in_parentheses (map the_text inst.args)) (after_spaces words ++ tail))
         (space-reads (name_text names kind.Operator inst.op ++ (in_parentheses (map the_text inst.args) ++ (after_spaces words ++ tail))) _ _
-        (named-reads (after_spaces words ++ tail) lexemes more (name_text names kind.Operator inst.op) inst.args is.operator is.arguments
-        (spaces-end words tail ends)))
+        (named-reads (after_spaces words ++ tail) lexemes more.reads (name_text names kind.Operator inst.op) inst.args is.operator is.arguments
+        (spaces-end words tail ends))) }
 
     spaced-terms : (theta : List Term) (words : List (List ℕ)) (lexemes : List Lexeme) → AllByRecursion HasText theta
         → Spaced words lexemes → Spaced (terms_text names (InBlock params) theta ∷ words) (spell_terms (map written_term theta) ++ lexemes)
-    spaced-terms theta words lexemes is more =
+    spaced-terms theta words lexemes is more = record { reads =
         rw (append_assoc (terms_text names (InBlock params) theta) (after_spaces words) tail)
         (space-reads (terms_text names (InBlock params) theta ++ (after_spaces words ++ tail)) _ _
-        (terms-read (after_spaces words ++ tail) lexemes more theta is))
+        (terms-read (after_spaces words ++ tail) lexemes more.reads theta is)) }
 
-    atoms-read : (atoms : List Atom) → AllByRecursion AtomHasText atoms → Reads tail []
+    atoms-read : (atoms : List Atom) → AllByRecursion AtomHasText atoms → Spaced [] []
         → Spaced (map (atom_text names (InBlock params)) atoms) (flat_map spell_atom (map written_atom atoms))
     atoms-read [] is more = more
     atoms-read (atom ∷ atoms) is more = spaced-atom atom (map (atom_text names (InBlock params)) atoms) _ is.0 (atoms-read atoms is.1 more)
@@ -276,31 +276,35 @@ module _ (names : NameLists) (params : ℕ) where
 
   -- a line of a word of the language and words after it
   line-read : (word : List ℕ) (words : List (List ℕ)) (lexemes : List Lexeme) → IsWord word (name word)
-      → Reads (after_spaces words ++ []) lexemes → Reads (line_bytes word words) (name word ∷ lexemes)
+      → Spaced [] nothing-ends words lexemes → Reads (line_bytes word words) (name word ∷ lexemes)
   line-read word words lexemes is more = subst (λ bytes. Reads (word ++ bytes) (name word ∷ lexemes)) (append-nil (after_spaces words))
-      (word-before word (after_spaces words ++ []) (name word) lexemes is (spaces-end words [] nothing-ends) more)
+      (word-before word (after_spaces words ++ []) (name word) lexemes is (spaces-end words [] nothing-ends) more.reads)
+
+  nothing-more : Spaced [] nothing-ends [] []
+  nothing-more = record { reads = nothing-reads }
 
   pub table-line : (text : List ℕ) → IsText text → params < 2 ^ 31
       → Reads (line_bytes (codes "table") (text ∷ decimal params ∷ [])) (spelling (table text params))
   table-line text is few = line-read (codes "table") (text ∷ decimal params ∷ []) _ word_table
       (spaced [] nothing-ends text (decimal params ∷ []) (name text) (number params ∷ []) (text-word text is)
-      (spaced [] nothing-ends (decimal params) [] (number params) [] (number-word params few) nothing-reads))
+      (spaced [] nothing-ends (decimal params) [] (number params) [] (number-word params few) nothing-more))
 
   pub step-line : (inst : OpInst) → StepHasText inst
       → Reads (line_bytes (codes "step") (instance_text names (InBlock params) inst ∷ [])) (spelling (written_step inst))
   step-line inst is = line-read (codes "step") (instance_text names (InBlock params) inst ∷ []) _ word_step
-      (spaced-instance [] nothing-ends inst [] [] is nothing-reads)
+      (spaced-instance [] nothing-ends inst [] [] is nothing-more)
 
   pub goal-line : (atoms : List Atom) → AllByRecursion AtomHasText atoms
       → Reads (line_bytes (codes "goal") (map (atom_text names (InBlock params)) atoms)) (spelling (written_goal atoms))
   goal-line atoms is = rw (append-nil (flat_map spell_atom (map written_atom atoms)))
-      (line-read (codes "goal") (map (atom_text names (InBlock params)) atoms) _ word_goal (atoms-read [] nothing-ends atoms is nothing-reads))
+      (line-read (codes "goal") (map (atom_text names (InBlock params)) atoms) _ word_goal (atoms-read [] nothing-ends atoms is nothing-more))
 
   pub proof-line : (row : List Derivation) → ProofsHaveText (derivations row)
       → Reads (line_bytes (codes "proof") (all_proof_words names (InBlock params) (derivations row))) (spelling (written_row row))
   proof-line row is = line-read (codes "proof") (all_proof_words names (InBlock params) (derivations row)) _ word_proof
-      (subst (λ words. Reads (after_spaces words ++ []) (spell (proofs (all_written_parts (derivations row))) ++ [])) (append-nil (all_proof_words names (InBlock params) (derivations row)))
-      (proofs-read [] nothing-ends (derivations row) [] [] is nothing-reads))
+      (subst (λ words. Spaced [] nothing-ends words (spell (proofs (all_written_parts (derivations row))) ++ []))
+      (append-nil (all_proof_words names (InBlock params) (derivations row)))
+      (proofs-read [] nothing-ends (derivations row) [] [] is nothing-more))
 
   pub end-line : Reads (line_bytes (codes "end") []) (spelling end)
-  end-line = line-read (codes "end") [] [] word_end nothing-reads
+  end-line = line-read (codes "end") [] [] word_end nothing-more
