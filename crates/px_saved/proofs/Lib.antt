@@ -5,3 +5,6 @@ pub mod Numbers
 pub mod Lines
 pub mod Fits
 pub mod Parts
+pub mod Clean
+pub mod Ground
+pub mod Block

@@ -8,8 +8,8 @@ use Rattle.px_names.specs.NameLaws.{number_of_name, bytes_eq-other}
 use Rattle.px_names.specs.declared.kind.Kind.TheVariants as kind
 use Rattle.px_printer.specs.Texts.{name_text}
 use Rattle.px_script.specs.Declarations.{letter_numbers}
-use Rattle.px_script.proofs.Common.{◌≡◌, ◌≢◌, ℕ, zero, suc, ◌+◌, ◌<◌, ◌≤◌, Bool, true, false, not, ◌||◌, List, [], ◌∷◌, ◌++◌, map, length, get_or, refl, sym, ap, ◌∙◌, subst, arith, append_assoc, nat_lt, Option, None, Some, All, AllByRecursion, slice_get, position, unwrap_or, list_any, range_with_len, bytes_eq, bytes_eq-itself, list_any-append, list_any_at, decimal, NameLists, has_name, AreDistinct, number_in, length-append, cases_lt, inl, inr, both_answers, term_of, Argument, named, open_variable, anything, Term, Obj, Var, Any, Atom, nat_tests, cond}
-use Rattle.px_script.proofs.Lists.{by_test, number-new}
+use Rattle.px_script.proofs.Common.{◌≡◌, ◌≢◌, ℕ, zero, suc, ◌+◌, ◌<◌, ◌≤◌, Bool, true, false, not, ◌||◌, List, [], ◌∷◌, ◌++◌, map, length, get_or, refl, sym, ap, ◌∙◌, subst, arith, append_assoc, nat_lt, Option, None, Some, All, AllByRecursion, slice_get, position, unwrap_or, is_some, list_any, range_with_len, bytes_eq, bytes_eq-itself, list_any-append, list_any_at, decimal, NameLists, has_name, AreDistinct, number_in, length-append, cases_lt, inl, inr, both_answers, term_of, Argument, named, open_variable, anything, Term, Obj, Var, Any, Atom, nat_tests, cond}
+use Rattle.px_script.proofs.Lists.{by_test, number-new, known-last, some-position}
 use Rattle.px_saved.proofs.Written.{written_variable, written_term}
 
 -- ---- names
@@ -81,6 +81,32 @@ goal-number params own w below few = let parts = goes-on 103 w own below in
     ap (λ names. number_in n (letter_numbers 112 params ++ names)) parts.1
     ∙ ap (number_in n) (sym (append_assoc (letter_numbers 112 params) (letter_numbers 103 w) (n ∷ parts.0)))
     ∙ at ∙ long ∙ omega (arith, count-of 112 params, count-of 103 w)
+
+-- the place of a variable among those of its letter, and of another letter
+found-there : (o : Option ℕ) → is_some o ≡ true → o ≡ Some (unwrap_or o 0)
+found-there None e = cc
+found-there (Some k) e = refl
+
+found-nowhere : (o : Option ℕ) → is_some o ≡ false → o ≡ None
+found-nowhere None e = refl
+found-nowhere (Some k) e = cc
+
+pub own-position : (letter most w : ℕ) → w < most → most < 2 ^ 30
+    → position (bytes_eq (letter ∷ decimal (w + 1))) (letter_numbers letter most) ≡ Some w
+own-position letter most w below few = let parts = goes-on letter w most below in
+    let n = letter ∷ decimal (w + 1) in let new = later-new letter (w + 1) w (omega arith) (omega (arith, below, few)) in
+    let known : has_name n (letter_numbers letter most) ≡ true =
+    ap (has_name n) parts.1 ∙ known-last n (letter_numbers letter w) parts.0 in
+    let at : number_in n (letter_numbers letter most) ≡ w =
+    ap (number_in n) parts.1 ∙ number-new n (letter_numbers letter w) parts.0 new ∙ count-of letter w in
+    found-there (position (bytes_eq n) (letter_numbers letter most)) (some-position (bytes_eq n) (letter_numbers letter most) ∙ known)
+    ∙ ap Some at
+
+pub other-position : (letter other k most : ℕ) → letter ≢ other
+    → position (bytes_eq (letter ∷ decimal k)) (letter_numbers other most) ≡ None
+other-position letter other k most apart = let n = letter ∷ decimal k in
+    found-nowhere (position (bytes_eq n) (letter_numbers other most))
+    (some-position (bytes_eq n) (letter_numbers other most) ∙ other-new letter other k most apart)
 
 -- each of them is known by its letter and number
 pub is-numbered : (letter most k : ℕ) → 1 ≤ k → k ≤ most → is_numbered_by letter most (letter ∷ decimal k) ≡ true
