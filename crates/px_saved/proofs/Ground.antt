@@ -43,6 +43,11 @@ pub record IsGround (d : Declared) : Type 0 where
 abbrev pub AreTexts : List (List ℕ) → Type 0
 AreTexts names = (n : ℕ) → n < length names → IsText (unwrap_or (slice_get names n) [])
 
+-- the number of a goal's variable by its place among them
+abbrev place : Option ℕ → ℕ
+place None = 0
+place (Some k) = k + 1
+
 module _ (d : Declared) (rs : List (List ℕ)) (name : List ℕ) (params : ℕ) (ground : IsGround d) (few : params ≤ 9999)
     (objects_text : AreTexts d.names.objects) (predicates_text : AreTexts d.names.predicates) (operators_text : AreTexts d.names.operators)
     where
@@ -54,11 +59,11 @@ module _ (d : Declared) (rs : List (List ℕ)) (name : List ℕ) (params : ℕ) 
 
   -- in the table's block
   abbrev pub inside : ℕ → BlockKind → Declared
-  inside n kind = record (with_names a_table (name ∷ []) d) { block = Some (record { line = n; kind = kind }); begun = true }
+  inside n block = record (with_names a_table (name ∷ []) d) { block = Some (record { line = n; kind = block }); begun = true }
 
   -- the block is of a table with so many parameters
   abbrev pub IsOfTable : BlockKind → Type 0
-  IsOfTable kind = (operator_in kind ≡ None) × (table_parameters kind ≡ params)
+  IsOfTable block = (operator_in block ≡ None) × (table_parameters block ≡ params)
 
   -- ---- terms
 
@@ -82,9 +87,9 @@ module _ (d : Declared) (rs : List (List ℕ)) (name : List ℕ) (params : ℕ) 
   spelled bound small (Var v) fits = let below = fits.0 in omega (arith, below, small)
   spelled bound small Any fits = absurd fits.0
 
-  module _ (n : ℕ) (kind : BlockKind) (of_table : IsOfTable kind) where
+  module _ (n : ℕ) (block : BlockKind) (of_table : IsOfTable block) where
     abbrev x : Declared
-    x = inside n kind
+    x = inside n block
 
     pub terms-read : (ts : List Term) → AllByRecursion (IsSpelled the_names params 12) ts
         → map (table_term x) (map (written_term the_names params) ts) ≡ ts
@@ -93,14 +98,14 @@ module _ (d : Declared) (rs : List (List ℕ)) (name : List ℕ) (params : ℕ) 
         (map (written_term the_names params) ts))
         ∙ terms-back the_names params 12 ts all ground.objects_apart (omega (arith, few)) (omega arith)
 
-    parameter-taken : (v : ℕ) → v < params → is_numbered_by 112 (table_parameters kind) (written_variable the_names params v) ≡ true
+    parameter-taken : (v : ℕ) → v < params → is_numbered_by 112 (table_parameters block) (written_variable the_names params v) ≡ true
     parameter-taken v below = let own : nat_lt v params ≡ true = grind (arith, nat_tests, below) in
         subst (λ m. is_numbered_by 112 m (written_variable the_names params v) ≡ true) (sym of_table.1)
         (rw own (is-numbered 112 params (v + 1) (omega arith) (omega (arith, below))))
 
     good-term : (t : Term) → TermFits the_problem params params t → IsGood x table_terms (written_term the_names params t)
     good-term (Obj k) fits = record {
-      known = ap (λ b. b || has_name (name_text the_names kind.Object k) (parameters_of (operator_in kind)))
+      known = ap (λ b. b || has_name (name_text the_names kind.Object k) (parameters_of (operator_in block)))
           (name-known d.names.objects k (below-objects k fits.0));
       taken = refl;
       early = λ empty. refl;
@@ -115,26 +120,26 @@ module _ (d : Declared) (rs : List (List ℕ)) (name : List ℕ) (params : ℕ) 
     good-terms (t ∷ ts) all = (good-term t all.0, good-terms ts all.1)
 
     goal-taken : (bound v : ℕ) → bound ≤ params + 12 → v < bound
-        → (is_numbered_by 112 (table_parameters kind) (written_variable the_names params v)
+        → (is_numbered_by 112 (table_parameters block) (written_variable the_names params v)
         || is_numbered_by 103 12 (written_variable the_names params v)) ≡ true
-    goal-taken own v small below = by_test (nat_lt v params)
+    goal-taken bound v small below = by_test (nat_lt v params)
         (λ e. let first : v < params = grind (arith, nat_tests, e) in
         ap (λ b. b || is_numbered_by 103 12 (written_variable the_names params v)) (parameter-taken v first))
         (λ e. let later : params ≤ v = grind (arith, nat_tests, e) in
-        or_right (is_numbered_by 112 (table_parameters kind) (written_variable the_names params v)) _
+        or_right (is_numbered_by 112 (table_parameters block) (written_variable the_names params v)) _
         (rw e (is-numbered 103 12 (v - params + 1) (omega arith) (omega (arith, below, later, small)))))
 
     good-goal-term : (bound : ℕ) → bound ≤ params + 12 → (t : Term) → TermFits the_problem params bound t
         → IsGood x table_goals (written_term the_names params t)
     good-goal-term bound small (Obj k) fits = record {
-      known = ap (λ b. b || has_name (name_text the_names kind.Object k) (parameters_of (operator_in kind)))
+      known = ap (λ b. b || has_name (name_text the_names kind.Object k) (parameters_of (operator_in block)))
           (name-known d.names.objects k (below-objects k fits.0));
       taken = refl;
       early = λ empty. refl;
     }
     good-goal-term bound small (Var v) fits = record {
       known = refl;
-      taken = goal-taken own v small fits.0;
+      taken = goal-taken bound v small fits.0;
       early = λ empty. absurd (no-empty fits.1 empty);
     }
     good-goal-term bound small Any fits = absurd fits.0
@@ -210,9 +215,9 @@ module _ (d : Declared) (rs : List (List ℕ)) (name : List ℕ) (params : ℕ) 
     goal-place bound small (Obj k) fits = refl
     goal-place bound small (Var v) fits = by_test (nat_lt v params)
         (λ e. let first : v < params = grind (arith, nat_tests, e) in
-        rw (e, other-position 112 103 (v + 1) 12 (λ same. omega (arith, same))) (omega (arith, first)))
+        rw e (ap place (other-position 112 103 (v + 1) 12 (λ same. omega (arith, same))) ∙ omega (arith, first)))
         (λ e. let later : params ≤ v = grind (arith, nat_tests, e) in let below = fits.0 in
-        rw (e, own-position 103 12 (v - params) (omega (arith, below, later, small)) (omega arith)) (omega (arith, later)))
+        rw e (ap place (own-position 103 12 (v - params) (omega (arith, below, later, small)) (omega arith)) ∙ omega (arith, later)))
     goal-place bound small Any fits = absurd fits.0
 
     goal-places : (bound : ℕ) → bound ≤ params + 12 → (ts : List Term) → AllByRecursion (TermFits the_problem params bound) ts

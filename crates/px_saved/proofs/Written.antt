@@ -51,6 +51,11 @@ word_end : IsWord (codes "end") (name (codes "end"))
 unfolding unicode_ident chars is_utf8 encode
 word_end = keyword (codes "end") refl refl
 
+-- the text is one of a name
+pub record IsText (text : List ℕ) : Type 0 where
+  pub utf8 : IsUtf8 text
+  pub name : is_name_text text ≡ true
+
 module _ (names : NameLists) (params : ℕ) where
   -- ---- what is written
 
@@ -92,11 +97,6 @@ module _ (names : NameLists) (params : ℕ) where
   written_row row = proof (all_written_parts (derivations row))
 
   -- ---- what has a text
-
-  -- the text is one of a name
-  pub record IsText (text : List ℕ) : Type 0 where
-    pub utf8 : IsUtf8 text
-    pub name : is_name_text text ≡ true
 
   abbrev pub HasText : Term → Type 0
   HasText (Obj n) = IsText (name_text names kind.Object n)
