@@ -8,3 +8,5 @@ pub mod Parts
 pub mod Clean
 pub mod Ground
 pub mod Block
+pub mod Printed
+pub mod Law

@@ -5,7 +5,7 @@ use Rattle.px_names.specs.declared.kind.Kind.TheVariants as kind
 use Rattle.px_printer.specs.Blocks.{block_text}
 use Rattle.px_printer.specs.Texts.{HasName, name_text}
 use Rattle.px_script.specs.Content.{ScriptValue}
-use Rattle.px_script.specs.Limits as limit
+use Rattle.px_script.specs.declared.limits.Limit.TheVariants as limit
 use Rattle.px_script.specs.Limits.{greatest}
 use Rattle.px_script.specs.Ranges.{IsSavedTable}
 use Rattle.px_script.specs.Scripts.{IsScript}
@@ -23,7 +23,7 @@ pub record IsReadyFor (problem : Problem) (names : NameLists) (name : List ℕ) 
   pub objects : script.names.objects ≡ names.objects
   pub predicates : script.names.predicates ≡ names.predicates
   pub operators : script.names.operators ≡ names.operators
-  pub room : length script.saved < greatest 2 limit.tables
+  pub room : length script.saved < greatest 2 limit.Tables
   pub fresh : ¬ Contains script.names.results name
 
 -- the script with a table of that name last
@@ -40,7 +40,7 @@ pub record IsReadBack (problem : Problem) (names : NameLists) (name : List ℕ) 
 
 -- a name that a script may declare, by its length
 abbrev pub IsShortName : List ℕ → Type 0
-IsShortName name = length name ≤ greatest 2 limit.name_bytes
+IsShortName name = length name ≤ greatest 2 limit.NameBytes
 
 -- the block of a table within the limits of a block, under a name that is short, is read back
 abbrev pub SavedIsReadBack : Type 0
