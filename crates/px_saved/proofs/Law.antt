@@ -388,10 +388,12 @@ module _ (stage : Stage) (words : HasBlocks stage) (problem : Problem) (names : 
         results = names.results;
       } in
       let last_is = made-back (problem_here d) g.valid g.short_lists table here in
+      let last_declared : Declared = last stage words d names.results name table g objects_text predicates_text operators_text here is_text
+          short fresh (omega (arith, some_room)) in
       record {
-        last = last stage words d names.results name table g objects_text predicates_text operators_text here is_text short fresh
-            (omega (arith, some_room));
-        spells = subst (λ ns. Spells stage (bytes ++ 10 ∷ block_text ns name table.params table.steps table.goal (rows_of table.proofs)) _) same_names after;
+        last = last_declared;
+        spells = subst (λ ns. Spells stage (bytes ++ 10 ∷ block_text ns name table.params table.steps table.goal (rows_of table.proofs))
+            last_declared) same_names after;
         is = λ i. record (content_of d) {
           names = record d.names { results = d.names.results ++ name ∷ [] };
           saved = d.saved ++ (length d.names.results, sym last_is i) ∷ [];
