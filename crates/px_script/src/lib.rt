@@ -50,7 +50,8 @@ ghost use Rattle.px_script.specs.Statements.{Statement};
 ghost use Rattle.px_script.specs.Scripts.{ReadsOneWay, IsScript};
 ghost use Rattle.px_script.specs.Worked.{WorkedScripts, WorkedRefusals};
 ghost use Rattle.px_script.specs.WorkedLines.{WorkedBuildings, WorkedCommands, WorkedDomains, WorkedDuos, WorkedEdits, WorkedLimits, WorkedSorts, WorkedSpellings};
-ghost use Rattle.px_script.specs.WorkedLater.{WorkedLater, WorkedTables, WorkedUnbuilt};
+ghost use Rattle.px_script.specs.WorkedTables.{WorkedTables};
+ghost use Rattle.px_script.specs.WorkedLater.{WorkedLater, WorkedUnbuilt};
 
 mod command;
 mod kinds;
