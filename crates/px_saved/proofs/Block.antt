@@ -10,10 +10,9 @@ use Rattle.px_table.specs.declared.table.Table.{Table}
 use Rattle.px_table.specs.Deciding.{rows_are_table}
 use Rattle.px_table.specs.WellSorted.{sorts_by_places}
 use Rattle.px_script.specs.Common.{OpInst}
-use Rattle.px_script.specs.Declarations.{WrittenTable, of_table_steps, of_table_rows, with_names, table_made, problem_here, table_variables, goal_variables}
+use Rattle.px_script.specs.Declarations.{of_table_rows, problem_here, table_variables, goal_variables}
 use Rattle.px_script.specs.Faults.{heights_of, highest}
 use Rattle.px_script.specs.declared.kinds.Manner.TheVariants.{TableTerms as table_terms, TableGoals as table_goals}
-use Rattle.px_script.specs.declared.kinds.Named.TheVariants.{Table as a_table}
 use Rattle.px_script.specs.Items.{atoms_of_part, terms_of_part}
 use Rattle.px_script.specs.Ranges.{last_goal_variable}
 use Rattle.px_script.proofs.Common.{◌≡◌, ℕ, zero, suc, ◌+◌, ◌<◌, ◌≤◌, Bool, true, false, not, ◌||◌, List, [], ◌∷◌, ◌++◌, map, length, refl, sym, ap, ◌∙◌, subst, arith, append_assoc, append-nil, Option, None, Some, All, AllByRecursion, codes, decimal, nat_lt, nat_tests, flat_map, list_any, is_empty, has_name, bytes_eq, bytes_eq-itself, NameLists, Statement, table, step, goal, proof, end, line_of, is_word, is_formed, Declared, BlockKind, Stage, is_built, fault_at, Passes, PassAll, Atom, Problem, is_variable, spelling, Argument, SignedAtom, Part, atom_of, length-map}
@@ -21,9 +20,10 @@ use Rattle.px_saved.proofs.Written.{written_term, written_atom, written_step, wr
 use Rattle.px_saved.proofs.Words.{Reads}
 use Rattle.px_saved.proofs.Fits.{AtomFits, StepFits, ProofsFit}
 use Rattle.px_saved.proofs.Parts.{row-back, row-low, row-whole}
+use Rattle.px_saved.proofs.Between.{ended, inside, of_rows, of_steps, written}
 use Rattle.px_saved.proofs.Clean.{IsClean, clean-line, IsGood, IsGoodAtom, arguments-known, arguments-taken, arguments-early, arguments-of-atoms, atoms-known, atoms-arity, atoms-signed, all-both}
 use Rattle.px_saved.proofs.Ground as ground
-use Rattle.px_saved.proofs.Ground.{IsGround, AreTexts}
+use Rattle.px_saved.proofs.Ground.{IsGround}
 
 -- the words of a table's block are built
 pub record HasBlocks (stage : Stage) : Type 0 where
@@ -41,8 +41,7 @@ few-of : (most n : ℕ) → n ≤ most → nat_lt most n ≡ false
 few-of most n few = grind (arith, nat_tests, few)
 
 module _ (stage : Stage) (words : HasBlocks stage) (d : Declared) (rs : List (List ℕ)) (name : List ℕ) (one : Table) (g : IsGround d)
-    (few : one.params ≤ 9999) (objects_text : AreTexts d.names.objects) (predicates_text : AreTexts d.names.predicates)
-    (operators_text : AreTexts d.names.operators) where
+    (few : one.params ≤ 9999) where
   abbrev params : ℕ
   params = one.params
 
@@ -51,30 +50,6 @@ module _ (stage : Stage) (words : HasBlocks stage) (d : Declared) (rs : List (Li
 
   abbrev problem : Problem
   problem = problem_here d
-
-  -- in the block: after so many steps, and after so many rows
-  abbrev of_steps : List OpInst → BlockKind
-  of_steps steps = of_table_steps (record {
-    name = length d.names.results;
-    parameters = params;
-    steps = steps;
-    goal = [];
-    goal_vars = 0;
-    rows = [];
-  })
-
-  abbrev written : List (List Derivation) → WrittenTable
-  written rows = record {
-    name = length d.names.results;
-    parameters = params;
-    steps = one.steps;
-    goal = one.goal;
-    goal_vars = one.goal_vars;
-    rows = rows;
-  }
-
-  abbrev in_block : ℕ → BlockKind → Declared
-  in_block n kind = record (with_names a_table (name ∷ []) d) { block = Some (record { line = n; kind = kind }); begun = true }
 
   is-word : (w : List ℕ) → is_word 2 w ≡ true → is_word d.version w ≡ true
   is-word w is = subst (λ v. is_word v w ≡ true) (sym g.version) is
@@ -95,7 +70,7 @@ module _ (stage : Stage) (words : HasBlocks stage) (d : Declared) (rs : List (Li
       whole = refl;
     }
 
-    pub table-passes : (n : ℕ) → Passes stage n d (chars (line_bytes names params (codes "table") (name ∷ decimal params ∷ []))) (in_block n (of_steps []))
+    pub table-passes : (n : ℕ) → Passes stage n d (chars (line_bytes names params (codes "table") (name ∷ decimal params ∷ []))) (inside d name n (of_steps d one []))
     table-passes n = (
       spelling (table name params),
       (table-line names params name is_text (omega (arith, few))).lexes,
@@ -103,7 +78,7 @@ module _ (stage : Stage) (words : HasBlocks stage) (d : Declared) (rs : List (Li
         table name params,
         (refl, rw (is-word (codes "table") refl) refl),
         clean-line stage d (table name params) table-clean,
-        sym (λ i. record (in_block n (of_steps [])) { own_domain = or-false d.own_domain i }),
+        sym (λ i. record (inside d name n (of_steps d one [])) { own_domain = or-false d.own_domain i }),
       ),
     )
 
@@ -111,21 +86,21 @@ module _ (stage : Stage) (words : HasBlocks stage) (d : Declared) (rs : List (Li
 
   module _ (m n : ℕ) (so_far : List OpInst) (inst : OpInst) (fits : StepFits problem params inst) (room : length so_far + 1 ≤ 64) where
     abbrev x : Declared
-    x = in_block n (of_steps so_far)
+    x = inside d name n (of_steps d one so_far)
 
     abbrev arguments : List Argument
     arguments = map (written_term names params) inst.args ++ []
 
     good : AllByRecursion (IsGood x table_terms) arguments
     good = all-both (IsGood x table_terms) (map (written_term names params) inst.args) []
-        (ground.good-step d rs name params g few objects_text predicates_text operators_text n (of_steps so_far) (refl, refl) inst fits) tt
+        (ground.good-step d rs name params g few n (of_steps d one so_far) (refl, refl) inst fits) tt
 
     step-clean : IsClean stage x (written_step names params inst)
     step-clean = record {
       order = rw (g.commands, arguments-early x table_terms arguments good) refl;
       built = ap not words.steps;
       known = rw (arguments-known x table_terms arguments good,
-        ground.operator-known d rs name params g few objects_text predicates_text operators_text n (of_steps so_far) (refl, refl) inst fits) refl;
+        ground.operator-known d rs name params g few n (of_steps d one so_far) (refl, refl) inst fits) refl;
       single = refl;
       arity = refl;
       bound = arguments-taken x table_terms arguments good;
@@ -134,17 +109,17 @@ module _ (stage : Stage) (words : HasBlocks stage) (d : Declared) (rs : List (Li
     }
 
     pub step-passes : Passes stage m x (chars (line_bytes names params (codes "step") (instance_text names (InBlock params) inst ∷ [])))
-        (in_block n (of_steps (so_far ++ inst ∷ [])))
+        (inside d name n (of_steps d one (so_far ++ inst ∷ [])))
     step-passes = (
       spelling (written_step names params inst),
       (step-line names params inst
-          (ground.step-text d rs name params g few objects_text predicates_text operators_text n (of_steps so_far) (refl, refl) inst fits)).lexes,
+          (ground.step-text d rs name params g few n (of_steps d one so_far) (refl, refl) inst fits)).lexes,
       (
         written_step names params inst,
         (refl, rw (is-word (codes "step") refl) refl),
         clean-line stage x (written_step names params inst) step-clean,
-        sym (λ i. record (in_block n (of_steps (so_far ++ ground.step-read d rs name params g few objects_text predicates_text operators_text
-            n (of_steps so_far) (refl, refl) inst fits i ∷ []))) { own_domain = or-false d.own_domain i }),
+        sym (λ i. record (inside d name n (of_steps d one (so_far ++ ground.step-read d rs name params g few
+            n (of_steps d one so_far) (refl, refl) inst fits i ∷ []))) { own_domain = or-false d.own_domain i }),
       ),
     )
 
@@ -156,13 +131,13 @@ module _ (stage : Stage) (words : HasBlocks stage) (d : Declared) (rs : List (Li
   module _ (m n : ℕ) (fits : GoalFits) (some : 1 ≤ length one.goal) (few_atoms : length one.goal ≤ 16)
       (few_variables : one.goal_vars ≤ 12) (last : one.goal_vars ≡ last_goal_variable one) where
     abbrev at_goal : Declared
-    at_goal = in_block n (of_steps one.steps)
+    at_goal = inside d name n (of_steps d one one.steps)
 
     abbrev atoms : List SignedAtom
     atoms = map (written_atom names params) one.goal
 
     good-atoms : AllByRecursion (IsGoodAtom at_goal table_goals) atoms
-    good-atoms = ground.good-goal d rs name params g few objects_text predicates_text operators_text n (of_steps one.steps) (refl, refl)
+    good-atoms = ground.good-goal d rs name params g few n (of_steps d one one.steps) (refl, refl)
         (params + one.goal_vars) (omega (arith, few_variables)) one.goal fits
 
     abbrev all_atoms : List SignedAtom
@@ -195,26 +170,26 @@ module _ (stage : Stage) (words : HasBlocks stage) (d : Declared) (rs : List (Li
     }
 
     pub goal-passes : Passes stage m at_goal (chars (line_bytes names params (codes "goal") (map (atom_text names (InBlock params)) one.goal)))
-        (in_block n (of_table_rows (written [])))
+        (inside d name n (of_rows d one []))
     goal-passes = (
       spelling (written_goal names params one.goal),
-      (goal-line names params one.goal (ground.goal-text d rs name params g few objects_text predicates_text operators_text n (of_steps one.steps)
+      (goal-line names params one.goal (ground.goal-text d rs name params g few n (of_steps d one one.steps)
           (refl, refl) (params + one.goal_vars) (omega (arith, few_variables)) one.goal fits)).lexes,
       (
         written_goal names params one.goal,
         (refl, rw (is-word (codes "goal") refl, some-atoms one.goal some, atoms-signed at_goal table_goals all_atoms good-all) refl),
         clean-line stage at_goal (written_goal names params one.goal) goal-clean,
-        sym (λ i. record (in_block n (of_table_rows (record (written []) { goal = goal-is i; goal_vars = vars-are i })))
+        sym (λ i. record (inside d name n (of_table_rows (record (written d one []) { goal = goal-is i; goal_vars = vars-are i })))
             { own_domain = or-false d.own_domain i }),
       ),
     )
       where
         goal-is : map (atom_of at_goal (table_variables at_goal)) atoms ≡ one.goal
-        goal-is = ground.goal-read d rs name params g few objects_text predicates_text operators_text n (of_steps one.steps) (refl, refl)
+        goal-is = ground.goal-read d rs name params g few n (of_steps d one one.steps) (refl, refl)
             (params + one.goal_vars) (omega (arith, few_variables)) one.goal fits
 
         vars-are : goal_variables at_goal atoms ≡ one.goal_vars
-        vars-are = ground.variables-read d rs name params g few objects_text predicates_text operators_text n (of_steps one.steps) (refl, refl)
+        vars-are = ground.variables-read d rs name params g few n (of_steps d one one.steps) (refl, refl)
             (params + one.goal_vars) (omega (arith, few_variables)) one.goal fits ∙ sym last
 
   -- ---- rows
@@ -222,20 +197,20 @@ module _ (stage : Stage) (words : HasBlocks stage) (d : Declared) (rs : List (Li
   module _ (m n : ℕ) (so_far : List (List Derivation)) (row : List Derivation) (fits : ProofsFit problem params (derivations row))
       (low : All (λ p. height p ≤ 56) row) where
     abbrev at_row : Declared
-    at_row = in_block n (of_table_rows (written so_far))
+    at_row = inside d name n (of_rows d one so_far)
 
     abbrev parts : List Part
     parts = all_written_parts names params (derivations row)
 
-    fine : ground.AreFine d rs name params g few objects_text predicates_text operators_text n (of_table_rows (written so_far)) (refl, refl) (derivations row)
-    fine = ground.all-fine d rs name params g few objects_text predicates_text operators_text n (of_table_rows (written so_far)) (refl, refl)
+    fine : ground.AreFine d rs name params g few n (of_rows d one so_far) (refl, refl) (derivations row)
+    fine = ground.all-fine d rs name params g few n (of_rows d one so_far) (refl, refl)
         (derivations row) fits
 
     abbrev row_atoms : List SignedAtom
     row_atoms = flat_map atoms_of_part parts
 
     row-atoms : AllByRecursion (IsGoodAtom at_row table_terms) row_atoms
-    row-atoms = ground.part-atoms d rs name params g few objects_text predicates_text operators_text n (of_table_rows (written so_far)) (refl, refl)
+    row-atoms = ground.part-atoms d rs name params g few n (of_rows d one so_far) (refl, refl)
         parts fine.good
 
     row-all : AllByRecursion (IsGoodAtom at_row table_terms) (row_atoms ++ [])
@@ -248,7 +223,7 @@ module _ (stage : Stage) (words : HasBlocks stage) (d : Declared) (rs : List (Li
     row-arguments = all-both (IsGood at_row table_terms) (flat_map (λ y. y.atom.arguments) row_atoms ++ flat_map terms_of_part parts) []
         (all-both (IsGood at_row table_terms) (flat_map (λ y. y.atom.arguments) row_atoms) (flat_map terms_of_part parts)
         (arguments-of-atoms at_row table_terms row_atoms row-atoms)
-        (ground.part-terms d rs name params g few objects_text predicates_text operators_text n (of_table_rows (written so_far)) (refl, refl)
+        (ground.part-terms d rs name params g few n (of_rows d one so_far) (refl, refl)
         parts fine.good)) tt
 
     row-clean : IsClean stage at_row (written_row names params row)
@@ -262,7 +237,7 @@ module _ (stage : Stage) (words : HasBlocks stage) (d : Declared) (rs : List (Li
       limits = (
         refl,
         (
-          ground.part-numbers d rs name params g few objects_text predicates_text operators_text n (of_table_rows (written so_far)) (refl, refl)
+          ground.part-numbers d rs name params g few n (of_rows d one so_far) (refl, refl)
               parts fine.good,
           (few-of 56 (highest (heights_of parts)) (row-low names params row fine.whole low), tt),
         ),
@@ -271,7 +246,7 @@ module _ (stage : Stage) (words : HasBlocks stage) (d : Declared) (rs : List (Li
     }
 
     pub row-passes : Passes stage m at_row (chars (line_bytes names params (codes "proof") (all_proof_words names (InBlock params) (derivations row))))
-        (in_block n (of_table_rows (written (so_far ++ row ∷ []))))
+        (inside d name n (of_rows d one (so_far ++ row ∷ []))))
     row-passes = (
       spelling (written_row names params row),
       (proof-line names params row fine.text).lexes,
@@ -279,7 +254,7 @@ module _ (stage : Stage) (words : HasBlocks stage) (d : Declared) (rs : List (Li
         written_row names params row,
         (refl, rw (is-word (codes "proof") refl, row-whole names params row fine.whole, atoms-signed at_row table_terms (row_atoms ++ []) row-all) refl),
         clean-line stage at_row (written_row names params row) row-clean,
-        sym (λ i. record (in_block n (of_table_rows (written (so_far ++ row-back names params at_row row fine.reads i ∷ []))))
+        sym (λ i. record (inside d name n (of_rows d one (so_far ++ row-back names params at_row row fine.reads i ∷ [])))
             { own_domain = or-false d.own_domain i }),
       ),
     )
@@ -289,14 +264,7 @@ module _ (stage : Stage) (words : HasBlocks stage) (d : Declared) (rs : List (Li
   module _ (m n : ℕ) (rows : List (List Derivation)) (is : rows_are_table problem params (sorts_by_places problem one.steps params) one.steps one.goal
       one.goal_vars rows ≡ true) where
     abbrev at_end : Declared
-    at_end = in_block n (of_table_rows (written rows))
-
-    -- the lines before, with the table last
-    abbrev pub after_block : Declared
-    after_block = record (with_names a_table (name ∷ []) d) {
-      saved = d.saved ++ (length d.names.results, table_made problem (written rows)) ∷ [];
-      begun = true;
-    }
+    at_end = inside d name n (of_rows d one rows)
 
     end-clean : IsClean stage at_end end
     end-clean = record {
@@ -310,7 +278,7 @@ module _ (stage : Stage) (words : HasBlocks stage) (d : Declared) (rs : List (Li
       whole = ap not is;
     }
 
-    pub end-passes : Passes stage m at_end (chars (line_bytes names params (codes "end") [])) after_block
+    pub end-passes : Passes stage m at_end (chars (line_bytes names params (codes "end") [])) ended d name one rows
     end-passes = (
       spelling end,
       (end-line names params).lexes,
@@ -318,6 +286,6 @@ module _ (stage : Stage) (words : HasBlocks stage) (d : Declared) (rs : List (Li
         end,
         (refl, rw (is-word (codes "end") refl) refl),
         clean-line stage at_end end end-clean,
-        sym (λ i. record after_block { schemas = append-nil d.schemas i; own_domain = or-false d.own_domain i; block = sym g.closed i }),
+        sym (λ i. record ended d name one rows { schemas = append-nil d.schemas i; own_domain = or-false d.own_domain i; block = sym g.closed i }),
       ),
     )

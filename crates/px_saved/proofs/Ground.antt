@@ -10,19 +10,23 @@ use Rattle.px_table.specs.declared.table.Table.{Table}
 use Rattle.px_terms.specs.Validity.{IsTermOf, HasArity, IsValid}
 use Rattle.px_script.specs.Causes.{is_numbered_by}
 use Rattle.px_script.specs.Common.{OpInst}
-use Rattle.px_script.specs.Declarations.{problem_here, letter_numbers, table_variables, table_term, with_names, operator_in, table_parameters, goal_number, goal_variables, instance_of_step}
+use Rattle.px_script.specs.Declarations.{problem_here, letter_numbers, table_variables, table_term, operator_in, table_parameters, goal_number, goal_variables, instance_of_step}
 use Rattle.px_script.specs.Faults.{numbers_of_part}
 use Rattle.px_script.specs.Items.{atoms_of_part, terms_of_part}
 use Rattle.px_script.specs.Ranges.{goal_place, last_goal_variable}
 use Rattle.px_script.proofs.Common.{◌≡◌, ℕ, zero, suc, ◌+◌, ◌<◌, ◌≤◌, ◌==◌, Bool, true, false, not, ◌||◌, List, [], ◌∷◌, ◌++◌, map, length, refl, sym, ap, ◌∙◌, subst, inl, inr, arith, Option, None, Some, All, AllByRecursion, fold, is_some, slice_get, map-append, length-map, slice_index, position, unwrap_or, list_any, flat_map, nat_lt, nat_tests, bytes_eq, or_right, or_parts, both_answers, decimal, is_empty, has_name, AreDistinct, HasShortLists, NameLists, Argument, SignedAtom, Part, a_fact, an_ancestor, an_axiom, named, open_variable, anything, is_signed, Declared, OpenBlock, BlockKind, OpenOperator, parameters_of, number_in, atom_of, term_of, Problem, Term, Obj, Var, Any, Atom}
 use Rattle.px_script.specs.declared.kinds.Manner.TheVariants.{TableTerms as table_terms, TableGoals as table_goals}
-use Rattle.px_script.specs.declared.kinds.Named.TheVariants.{Table as a_table}
 use Rattle.px_script.proofs.Lists.{by_test, some-position}
+use Rattle.px_saved.proofs.Between.{inside}
 use Rattle.px_saved.proofs.Written.{IsText, HasText, AtomHasText, StepHasText, ProofHasText, ProofsHaveText, written_term, written_atom, written_variable, written_parts, all_written_parts}
 use Rattle.px_saved.proofs.Numbers.{number-back, name-known, is-numbered, terms-back, own-position, other-position, IsSpelled}
 use Rattle.px_saved.proofs.Fits.{TermFits, AtomFits, StepFits, ProofFits, ProofsFit}
 use Rattle.px_saved.proofs.Parts.{ProofReads, ProofsRead, IsWhole, AreWhole}
 use Rattle.px_saved.proofs.Clean.{IsGood, IsGoodAtom, all-both, none-any}
+
+-- each name of the list is a text of a name
+abbrev pub AreTexts : List (List ℕ) → Type 0
+AreTexts names = (n : ℕ) → n < length names → IsText (unwrap_or (slice_get names n) [])
 
 -- What the lines before the block leave: they are of version 2, without commands, with no block open, and each number has its name.
 pub record IsGround (d : Declared) : Type 0 where
@@ -38,28 +42,21 @@ pub record IsGround (d : Declared) : Type 0 where
   pub objects_apart : AreDistinct d.names.objects
   pub predicates_apart : AreDistinct d.names.predicates
   pub operators_apart : AreDistinct d.names.operators
-
--- each name of the list is a text of a name
-abbrev pub AreTexts : List (List ℕ) → Type 0
-AreTexts names = (n : ℕ) → n < length names → IsText (unwrap_or (slice_get names n) [])
+  pub objects_text : AreTexts d.names.objects
+  pub predicates_text : AreTexts d.names.predicates
+  pub operators_text : AreTexts d.names.operators
 
 -- the number of a goal's variable by its place among them
 abbrev place : Option ℕ → ℕ
 place None = 0
 place (Some k) = k + 1
 
-module _ (d : Declared) (rs : List (List ℕ)) (name : List ℕ) (params : ℕ) (ground : IsGround d) (few : params ≤ 9999)
-    (objects_text : AreTexts d.names.objects) (predicates_text : AreTexts d.names.predicates) (operators_text : AreTexts d.names.operators)
-    where
+module _ (d : Declared) (rs : List (List ℕ)) (name : List ℕ) (params : ℕ) (ground : IsGround d) (few : params ≤ 9999) where
   abbrev pub the_names : NameLists
   the_names = record d.names { results = rs }
 
   abbrev pub the_problem : Problem
   the_problem = problem_here d
-
-  -- in the table's block
-  abbrev pub inside : ℕ → BlockKind → Declared
-  inside n block = record (with_names a_table (name ∷ []) d) { block = Some (record { line = n; kind = block }); begun = true }
 
   -- the block is of a table with so many parameters
   abbrev pub IsOfTable : BlockKind → Type 0
@@ -78,7 +75,7 @@ module _ (d : Declared) (rs : List (List ℕ)) (name : List ℕ) (params : ℕ) 
   below-objects n below = omega (arith, below, ground.objects)
 
   has-text : (bound : ℕ) → bound ≤ params + 12 → (t : Term) → TermFits the_problem params bound t → HasText the_names params t
-  has-text bound small (Obj n) fits = objects_text n (below-objects n fits.0)
+  has-text bound small (Obj n) fits = ground.objects_text n (below-objects n fits.0)
   has-text bound small (Var v) fits = let below = fits.0 in omega (arith, below, few, small)
   has-text bound small Any fits = absurd fits.0
 
@@ -89,7 +86,7 @@ module _ (d : Declared) (rs : List (List ℕ)) (name : List ℕ) (params : ℕ) 
 
   module _ (n : ℕ) (block : BlockKind) (of_table : IsOfTable block) where
     abbrev x : Declared
-    x = inside n block
+    x = inside d name n block
 
     pub terms-read : (ts : List Term) → AllByRecursion (IsSpelled the_names params 12) ts
         → map (table_term x) (map (written_term the_names params) ts) ≡ ts
@@ -204,7 +201,7 @@ module _ (d : Declared) (rs : List (List ℕ)) (name : List ℕ) (params : ℕ) 
 
     atom-text : (bound : ℕ) → bound ≤ params + 12 → (atom : Atom) → AtomFits the_problem params bound atom → AtomHasText the_names params atom
     atom-text bound small atom fits = record {
-      predicate = predicates_text atom.pred (below-predicates atom.pred fits.0.0);
+      predicate = ground.predicates_text atom.pred (below-predicates atom.pred fits.0.0);
       arguments = terms-text bound small atom.args fits.1;
     }
 
@@ -259,7 +256,7 @@ module _ (d : Declared) (rs : List (List ℕ)) (name : List ℕ) (params : ℕ) 
 
     pub step-text : (inst : OpInst) → StepFits the_problem params inst → StepHasText the_names params inst
     step-text inst fits = record {
-      operator = operators_text inst.op (omega (arith, fits.0, ground.operators));
+      operator = ground.operators_text inst.op (omega (arith, fits.0, ground.operators));
       arguments = terms-text params (omega arith) inst.args fits.1;
     }
 

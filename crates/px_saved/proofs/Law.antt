@@ -24,15 +24,17 @@ use Rattle.px_terms.specs.Operators.{schema_of, no_schema}
 use Rattle.px_terms.specs.Validity.{IsValid, IsAtomOf}
 use Rattle.px_script.specs.Common.{OpInst}
 use Rattle.px_script.specs.Content.{content_of}
-use Rattle.px_script.specs.Declarations.{problem_here, problem_of, table_made, of_table_steps, of_table_rows, with_names, BlockKind}
-use Rattle.px_script.specs.declared.kinds.Named.TheVariants.{Table as a_table}
+use Rattle.px_script.specs.Declarations.{problem_here, problem_of, table_made}
+use Rattle.px_script.specs.Stages.{stage_now}
 use Rattle.px_script.specs.Ranges.{IsSavedTable, IsInRange}
 use Rattle.px_script.specs.Scripts.{IsScript, Spells}
 use Rattle.px_script.proofs.Common.{◌≡◌, ℕ, zero, suc, ◌+◌, ◌<◌, ◌≤◌, Bool, true, false, not, ◌&&◌, List, [], ◌∷◌, ◌++◌, map, length, get_or, refl, sym, ap, ◌∙◌, subst, inl, inr, arith, append_assoc, append-nil, Option, None, Some, All, AllByRecursion, and_parts, codes, slice_get, unwrap_or, flat_map, is_empty, has_name, both_answers, map-append, IsUtf8, NameLists, AreDistinct, Declared, ScriptValue, Stage, PassAll, Atom, Problem, Term, cases_lt, IfSome, predicate_arities, nothing_declared, lines_of, decimal, own_problem, Thing, Passes, length-append, Lexeme}
+use Rattle.px_script.proofs.Kept.{declared-in-range, lines-kept, start-in-range}
 use Rattle.px_script.proofs.Lists.{by_test}
 use Rattle.px_script.proofs.States.{AreInRange, IsBegun}
-use Rattle.px_saved.specs.ReadBack.{IsReadyFor, IsReadBack, with_table}
-use Rattle.px_saved.proofs.Block.{HasBlocks, table-passes, step-passes, goal-passes, row-passes, end-passes, after_block}
+use Rattle.px_saved.specs.ReadBack.{IsReadyFor, SavedIsReadBack, with_table}
+use Rattle.px_saved.proofs.Between.{ended, inside, of_rows, of_steps, written}
+use Rattle.px_saved.proofs.Block.{HasBlocks, table-passes, step-passes, goal-passes, row-passes, end-passes}
 use Rattle.px_saved.proofs.Fits.{by-recursion, terms-fit, AtomFits, StepFits, ProofsFit, NoneWithout, rows-fit}
 use Rattle.px_saved.proofs.Ground as ground
 use Rattle.px_saved.proofs.Ground.{IsGround, AreTexts}
@@ -55,7 +57,8 @@ none-is-empty : {A : Type 0} (xs : List A) → xs ≡ [] → is_empty xs ≡ tru
 none-is-empty xs e = ap is_empty e
 
 module _ (d : Declared) (r : AreInRange d) (range : IsInRange (content_of d)) (closed : d.block ≡ None) (version : d.version ≡ 2)
-    (commands : d.commands ≡ []) where
+    (commands : d.commands ≡ []) (objects_text : AreTexts d.names.objects) (predicates_text : AreTexts d.names.predicates)
+    (operators_text : AreTexts d.names.operators) where
   arities-are : d.arities ≡ (problem_here d).arities
   arities-are = by d.things r.building
     where
@@ -78,6 +81,9 @@ module _ (d : Declared) (r : AreInRange d) (range : IsInRange (content_of d)) (c
     objects_apart = range.names.objects.distinct;
     predicates_apart = range.names.predicates.distinct;
     operators_apart = range.names.operators.distinct;
+    objects_text = objects_text;
+    predicates_text = predicates_text;
+    operators_text = operators_text;
   }
 
 -- ---- what a table within the limits has
@@ -152,7 +158,6 @@ module _ (problem : Problem) (valid : IsValid problem) (short_lists : All (range
       (subst (All (IsNamed problem table.steps)) is-table.marks is-table.named)
       saved.low (let short = saved.short in omega (arith, short))
 
-  -- the table that its rows make is the table
   proofs-back : (row : List Proof) → map proof_of (map derivation_of row) ≡ row
   proofs-back [] = refl
   proofs-back (p ∷ row) = λ i. comes_back p i ∷ proofs-back row i
@@ -161,18 +166,9 @@ module _ (problem : Problem) (valid : IsValid problem) (short_lists : All (range
   rows-back [] = refl
   rows-back (row ∷ rows) = λ i. proofs-back row i ∷ rows-back rows i
 
-  abbrev made : Table
-  made = table_made problem (record {
-    name = 0;
-    parameters = table.params;
-    steps = table.steps;
-    goal = table.goal;
-    goal_vars = table.goal_vars;
-    rows = rows_of table.proofs;
-  })
-
-  pub made-back : made ≡ table
-  made-back = let back = rows-back table.proofs in let marks = ap (λ rows. marks_from 1 (rows_of rows)) back ∙ sym is-table.marks in
+  -- the table that its rows make is the table
+  pub made-back : (d : Declared) → table_made problem (written d table (rows_of table.proofs)) ≡ table
+  made-back d = let back = rows-back table.proofs in let marks = ap (λ rows. marks_from 1 (rows_of rows)) back ∙ sym is-table.marks in
       λ i. record {
         params = table.params;
         steps = table.steps;
@@ -186,7 +182,6 @@ module _ (problem : Problem) (valid : IsValid problem) (short_lists : All (range
 -- ---- all lines of a block
 
 module _ (stage : Stage) (words : HasBlocks stage) (d : Declared) (rs : List (List ℕ)) (name : List ℕ) (table : Table) (g : IsGround d)
-    (objects_text : AreTexts d.names.objects) (predicates_text : AreTexts d.names.predicates) (operators_text : AreTexts d.names.operators)
     (saved : IsSavedTable 2 (problem_here d) table) (is_text : IsText name) (short : length name ≤ 64)
     (fresh : has_name name d.names.results ≡ false) (room : length d.saved + 1 ≤ 32) where
   abbrev few : table.params ≤ 9999
@@ -201,35 +196,9 @@ module _ (stage : Stage) (words : HasBlocks stage) (d : Declared) (rs : List (Li
   abbrev rows : List (List Derivation)
   rows = rows_of table.proofs
 
-  abbrev in_block : ℕ → BlockKind → Declared
-  in_block n kind = record (with_names a_table (name ∷ []) d) { block = Some (record { line = n; kind = kind }); begun = true }
-
-  abbrev steps_so_far : List OpInst → BlockKind
-  steps_so_far steps = of_table_steps (record {
-    name = length d.names.results;
-    parameters = params;
-    steps = steps;
-    goal = [];
-    goal_vars = 0;
-    rows = [];
-  })
-
-  abbrev rows_so_far : List (List Derivation) → BlockKind
-  rows_so_far so_far = of_table_rows (record {
-    name = length d.names.results;
-    parameters = params;
-    steps = table.steps;
-    goal = table.goal;
-    goal_vars = table.goal_vars;
-    rows = so_far;
-  })
-
   -- the lines before, with the table last
   abbrev pub last : Declared
-  last = record (with_names a_table (name ∷ []) d) {
-    saved = d.saved ++ (length d.names.results, made (problem_here d) g.valid g.short_lists table saved) ∷ [];
-    begun = true;
-  }
+  last = ended d name table rows
 
   abbrev end_line : List (List ℕ)
   end_line = end_bytes names name params ∷ []
@@ -237,45 +206,36 @@ module _ (stage : Stage) (words : HasBlocks stage) (d : Declared) (rs : List (Li
   rows-pass : (m n : ℕ) (so_far left : List (List Derivation)) → so_far ++ left ≡ rows
       → AllByRecursion (λ (row : List Derivation). ProofsFit (problem_here d) params (derivations row)) left
       → AllByRecursion (All (λ p. height p ≤ 56)) left
-      → PassAll stage m (in_block n (rows_so_far so_far)) (map chars (map (row_bytes names name params) left ++ end_line)) last
+      → PassAll stage m (inside d name n (of_rows d table so_far)) (map chars (map (row_bytes names name params) left ++ end_line)) last
   rows-pass m n so_far [] whole fits low =
       let so_far_is : so_far ≡ rows = sym (append-nil so_far) ∙ whole in
       let now = subst (λ rs. rows_are_table (problem_here d) params (sorts_by_places (problem_here d) table.steps params) table.steps table.goal
           table.goal_vars rs ≡ true) (sym so_far_is) (rows-made (problem_here d) g.valid g.short_lists table saved) in
-      let ends = end-passes stage words d rs name table g few objects_text predicates_text operators_text m n so_far now in
+      let ends = end-passes stage words d rs name table g few m n so_far now in
       (
         last,
-        subst (λ rs. Passes stage m (in_block n (rows_so_far so_far)) (chars (end_bytes names name params)) (record (with_names a_table (name ∷ []) d) {
-          saved = d.saved ++ (length d.names.results, table_made (problem_here d) (record {
-            name = 0;
-            parameters = params;
-            steps = table.steps;
-            goal = table.goal;
-            goal_vars = table.goal_vars;
-            rows = rs;
-          })) ∷ [];
-          begun = true;
-        })) so_far_is ends,
+        subst (λ rs. Passes stage m (inside d name n (of_rows d table so_far)) (chars (end_bytes names name params)) (ended d name table rs))
+            so_far_is ends,
         refl,
       )
   rows-pass m n so_far (row ∷ left) whole fits low = (
-    in_block n (rows_so_far (so_far ++ row ∷ [])),
-    row-passes stage words d rs name table g few objects_text predicates_text operators_text m n so_far row fits.0 low.0,
+    inside d name n (of_rows d table (so_far ++ row ∷ [])),
+    row-passes stage words d rs name table g few m n so_far row fits.0 low.0,
     rows-pass (m + 1) n (so_far ++ row ∷ []) left (append_assoc so_far (row ∷ []) left ∙ whole) fits.1 low.1,
   )
 
   steps-pass : (m n : ℕ) (so_far left : List OpInst) → so_far ++ left ≡ table.steps
       → AllByRecursion (StepFits (problem_here d) params) left
-      → PassAll stage m (in_block n (steps_so_far so_far))
+      → PassAll stage m (inside d name n (of_steps d table so_far))
       (map chars (map (step_bytes names name params) left ++ (goal_bytes names name params table.goal ∷ (map (row_bytes names name params) rows ++ end_line))))
       last
   steps-pass m n so_far [] whole fits =
       let so_far_is : so_far ≡ table.steps = sym (append-nil so_far) ∙ whole in
-      let goal = goal-passes stage words d rs name table g few objects_text predicates_text operators_text m n
+      let goal = goal-passes stage words d rs name table g few m n
           (goal-fits (problem_here d) g.valid g.short_lists table saved) saved.some saved.few_atoms saved.few_variables saved.last_occurs in
       (
-        in_block n (rows_so_far []),
-        subst (λ steps. Passes stage m (in_block n (steps_so_far steps)) (chars (goal_bytes names name params table.goal)) (in_block n (rows_so_far [])))
+        inside d name n (of_rows d table []),
+        subst (λ steps. Passes stage m (inside d name n (of_steps d table steps)) (chars (goal_bytes names name params table.goal)) (inside d name n (of_rows d table [])))
             (sym so_far_is) goal,
         rows-pass (m + 1) n [] rows refl (all-rows-fit (problem_here d) g.valid g.short_lists table saved)
             (by-recursion (All (λ (p : Derivation). height p ≤ 56)) rows saved.low),
@@ -285,15 +245,15 @@ module _ (stage : Stage) (words : HasBlocks stage) (d : Declared) (rs : List (Li
       let count = length-append so_far (inst ∷ left) in let same = ap length whole in omega (arith, count, same) in
       let most = saved.short in
       (
-        in_block n (steps_so_far (so_far ++ inst ∷ [])),
-        step-passes stage words d rs name table g few objects_text predicates_text operators_text m n so_far inst fits.0 (omega (arith, long, most)),
+        inside d name n (of_steps d table (so_far ++ inst ∷ [])),
+        step-passes stage words d rs name table g few m n so_far inst fits.0 (omega (arith, long, most)),
         steps-pass (m + 1) n (so_far ++ inst ∷ []) left (append_assoc so_far (inst ∷ []) left ∙ whole) fits.1,
       )
 
   pub block-passes : (m : ℕ) → PassAll stage m d (map chars (block_lines names name params table.steps table.goal rows)) last
   block-passes m = (
-    in_block m (steps_so_far []),
-    table-passes stage words d rs name table g few objects_text predicates_text operators_text is_text short fresh room m,
+    inside d name m (of_steps d table []),
+    table-passes stage words d rs name table g few is_text short fresh room m,
     steps-pass (m + 1) m [] table.steps refl (steps-fit (problem_here d) g.valid g.short_lists table saved),
   )
 
@@ -310,7 +270,7 @@ module _ (stage : Stage) (words : HasBlocks stage) (d : Declared) (rs : List (Li
   steps-text [] all = tt
   steps-text (inst ∷ steps) all = (
     of-reads (step_bytes names name params inst) _ (step-line names params inst
-        (ground.step-text d rs name params g few objects_text predicates_text operators_text 0 (steps_so_far []) (refl, refl) inst all.0)),
+        (ground.step-text d rs name params g few 0 (of_steps d table []) (refl, refl) inst all.0)),
     steps-text steps all.1,
   )
 
@@ -319,7 +279,7 @@ module _ (stage : Stage) (words : HasBlocks stage) (d : Declared) (rs : List (Li
   rows-text [] all = tt
   rows-text (row ∷ left) all = (
     of-reads (row_bytes names name params row) _ (proof-line names params row
-        (ground.all-fine d rs name params g few objects_text predicates_text operators_text 0 (rows_so_far []) (refl, refl) (derivations row) all.0).text),
+        (ground.all-fine d rs name params g few 0 (of_rows d table []) (refl, refl) (derivations row) all.0).text),
     rows-text left all.1,
   )
 
@@ -328,7 +288,7 @@ module _ (stage : Stage) (words : HasBlocks stage) (d : Declared) (rs : List (Li
       let front = of-reads (table_bytes names name params) _ (table-line names params name is_text (omega (arith, few))) in
       let few_variables = saved.few_variables in
       let goal = of-reads (goal_bytes names name params table.goal) _ (goal-line names params table.goal
-          (ground.goal-text d rs name params g few objects_text predicates_text operators_text 0 (steps_so_far []) (refl, refl)
+          (ground.goal-text d rs name params g few 0 (of_steps d table []) (refl, refl)
           (params + table.goal_vars) (omega (arith, few_variables)) table.goal (goal-fits (problem_here d) g.valid g.short_lists table saved))) in
       let ends = of-reads (end_bytes names name params) _ (end-line names params) in
       (
@@ -371,15 +331,15 @@ module _ (stage : Stage) (words : HasBlocks stage) (problem : Problem) (names : 
       → IsScript stage (bytes ++ 10 ∷ block_text names name table.params table.steps table.goal (rows_of table.proofs))
       (with_table name table (content_of d))
   read-back bytes d r range spells ready =
-      let g = the-ground d r range spells.closed ready.version ready.commands in
       let here : IsSavedTable 2 (problem_here d) table = subst (λ p. IsSavedTable 2 p table) (sym ready.problem_is) saved in
       let objects_text = subst AreTexts (sym ready.objects) (texts-of kind.Object names.objects are.objects) in
       let predicates_text = subst AreTexts (sym ready.predicates) (texts-of kind.Predicate names.predicates are.predicates) in
       let operators_text = subst AreTexts (sym ready.operators) (texts-of kind.Operator names.operators are.operators) in
+      let g = the-ground d r range spells.closed ready.version ready.commands objects_text predicates_text operators_text in
       let is_text = texts-of kind.Result names.results are.results number has in
       let fresh = not-there name d.names.results ready.fresh in
       let some_room = ready.room in
-      let after = spells-after stage words d names.results name table g objects_text predicates_text operators_text here is_text short fresh
+      let after = spells-after stage words d names.results name table g here is_text short fresh
           (omega (arith, some_room)) bytes spells in
       let same_names : record d.names { results = names.results } ≡ names = λ i. record {
         objects = ready.objects i;
@@ -387,8 +347,8 @@ module _ (stage : Stage) (words : HasBlocks stage) (problem : Problem) (names : 
         operators = ready.operators i;
         results = names.results;
       } in
-      let last_is = made-back (problem_here d) g.valid g.short_lists table here in
-      let last_declared : Declared = last stage words d names.results name table g objects_text predicates_text operators_text here is_text
+      let last_is = made-back (problem_here d) g.valid g.short_lists table here d in
+      let last_declared : Declared = last stage words d names.results name table g here is_text
           short fresh (omega (arith, some_room)) in
       record {
         last = last_declared;
@@ -402,3 +362,16 @@ module _ (stage : Stage) (words : HasBlocks stage) (problem : Problem) (names : 
     where
       not-there : (n : List ℕ) (ns : List (List ℕ)) → ¬ Contains ns n → has_name n ns ≡ false
       not-there n ns none_there = by_test (has_name n ns) (λ e. absurd (none_there ((has_name-decides n ns).0 e))) (λ e. e)
+
+words-now : HasBlocks stage_now
+words-now = record { tables = refl; steps = refl; goals = refl; proofs = refl; ends = refl }
+
+pub saved_is_read_back : SavedIsReadBack
+saved_is_read_back problem names number table are has short saved = record { again = λ bytes script is ready.
+    let name = name_text names kind.Result number in
+    let text = block_text names name table.params table.steps table.goal (rows_of table.proofs) in
+    let r = lines-kept stage_now 1 nothing_declared (lines_of (bytes ++ 10 ∷ [])) is.last start-in-range is.spells.lines in
+    let range = declared-in-range is.last r is.spells.closed in
+    subst (λ s. IsScript stage_now (bytes ++ 10 ∷ text) (with_table name table s)) (sym is.is)
+    (read-back stage_now words-now problem names number table are has short saved bytes is.last r range is.spells
+    (subst (IsReadyFor problem names name) is.is ready)) }

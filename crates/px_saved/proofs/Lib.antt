@@ -6,6 +6,7 @@ pub mod Lines
 pub mod Fits
 pub mod Parts
 pub mod Clean
+pub mod Between
 pub mod Ground
 pub mod Block
 pub mod Printed
