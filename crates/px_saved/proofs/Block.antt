@@ -70,7 +70,8 @@ module _ (stage : Stage) (words : HasBlocks stage) (d : Declared) (rs : List (Li
       whole = refl;
     }
 
-    pub table-passes : (n : ℕ) → Passes stage n d (chars (line_bytes names params (codes "table") (name ∷ decimal params ∷ []))) (inside d name n (of_steps d one []))
+    pub table-passes : (n : ℕ) → Passes stage n d (chars (line_bytes names params (codes "table") (name ∷ decimal params ∷ [])))
+        (inside d name n (of_steps d one []))
     table-passes n = (
       spelling (table name params),
       (table-line names params name is_text (omega (arith, few))).lexes,
@@ -99,8 +100,10 @@ module _ (stage : Stage) (words : HasBlocks stage) (d : Declared) (rs : List (Li
     step-clean = record {
       order = rw (g.commands, arguments-early x table_terms arguments good) refl;
       built = ap not words.steps;
-      known = rw (arguments-known x table_terms arguments good,
-        ground.operator-known d rs name params g few n (of_steps d one so_far) (refl, refl) inst fits) refl;
+      known = rw (
+        arguments-known x table_terms arguments good,
+        ground.operator-known d rs name params g few n (of_steps d one so_far) (refl, refl) inst fits,
+      ) refl;
       single = refl;
       arity = refl;
       bound = arguments-taken x table_terms arguments good;
@@ -157,19 +160,26 @@ module _ (stage : Stage) (words : HasBlocks stage) (d : Declared) (rs : List (Li
     some-atoms [] long = absurd (omega (arith, long))
     some-atoms (atom ∷ more) long = refl
 
+    short : length atoms ≤ 16
+    short = let count = length-map one.goal (written_atom names params) in omega (arith, count, few_atoms)
+
     goal-clean : IsClean stage at_goal (written_goal names params one.goal)
     goal-clean = record {
       order = rw (g.commands, arguments-early at_goal table_goals goal_arguments good-arguments) refl;
       built = ap not words.goals;
-      known = rw (atoms-known at_goal table_goals all_atoms good-all, arguments-known at_goal table_goals goal_arguments good-arguments) refl;
+      known = rw (
+        atoms-known at_goal table_goals all_atoms good-all,
+        arguments-known at_goal table_goals goal_arguments good-arguments,
+      ) refl;
       single = refl;
       arity = atoms-arity at_goal table_goals all_atoms good-all;
       bound = arguments-taken at_goal table_goals goal_arguments good-arguments;
-      limits = (refl, (few-of 16 (length atoms) (let count = length-map one.goal (written_atom names params) in omega (arith, count, few_atoms)), tt));
+      limits = (refl, (few-of 16 (length atoms) short, tt));
       whole = refl;
     }
 
-    pub goal-passes : Passes stage m at_goal (chars (line_bytes names params (codes "goal") (map (atom_text names (InBlock params)) one.goal)))
+    pub goal-passes : Passes stage m at_goal
+        (chars (line_bytes names params (codes "goal") (map (atom_text names (InBlock params)) one.goal)))
         (inside d name n (of_rows d one []))
     goal-passes = (
       spelling (written_goal names params one.goal),
@@ -230,7 +240,10 @@ module _ (stage : Stage) (words : HasBlocks stage) (d : Declared) (rs : List (Li
     row-clean = record {
       order = rw (g.commands, arguments-early at_row table_terms row_arguments row-arguments) refl;
       built = ap not words.proofs;
-      known = rw (atoms-known at_row table_terms (row_atoms ++ []) row-all, arguments-known at_row table_terms row_arguments row-arguments) refl;
+      known = rw (
+        atoms-known at_row table_terms (row_atoms ++ []) row-all,
+        arguments-known at_row table_terms row_arguments row-arguments,
+      ) refl;
       single = refl;
       arity = atoms-arity at_row table_terms (row_atoms ++ []) row-all;
       bound = arguments-taken at_row table_terms row_arguments row-arguments;
@@ -245,14 +258,22 @@ module _ (stage : Stage) (words : HasBlocks stage) (d : Declared) (rs : List (Li
       whole = refl;
     }
 
-    pub row-passes : Passes stage m at_row (chars (line_bytes names params (codes "proof") (all_proof_words names (InBlock params) (derivations row))))
-        (inside d name n (of_rows d one (so_far ++ row ∷ []))))
+    pub row-passes : Passes stage m at_row
+        (chars (line_bytes names params (codes "proof") (all_proof_words names (InBlock params) (derivations row))))
+        (inside d name n (of_rows d one (so_far ++ row ∷ [])))
     row-passes = (
       spelling (written_row names params row),
       (proof-line names params row fine.text).lexes,
       (
         written_row names params row,
-        (refl, rw (is-word (codes "proof") refl, row-whole names params row fine.whole, atoms-signed at_row table_terms (row_atoms ++ []) row-all) refl),
+        (
+          refl,
+          rw (
+            is-word (codes "proof") refl,
+            row-whole names params row fine.whole,
+            atoms-signed at_row table_terms (row_atoms ++ []) row-all,
+          ) refl,
+        ),
         clean-line stage at_row (written_row names params row) row-clean,
         sym (λ i. record (inside d name n (of_rows d one (so_far ++ row-back names params at_row row fine.reads i ∷ [])))
             { own_domain = or-false d.own_domain i }),
@@ -261,7 +282,8 @@ module _ (stage : Stage) (words : HasBlocks stage) (d : Declared) (rs : List (Li
 
   -- ---- the end
 
-  module _ (m n : ℕ) (rows : List (List Derivation)) (is : rows_are_table problem params (sorts_by_places problem one.steps params) one.steps one.goal
+  module _ (m n : ℕ) (rows : List (List Derivation))
+      (is : rows_are_table problem params (sorts_by_places problem one.steps params) one.steps one.goal
       one.goal_vars rows ≡ true) where
     abbrev at_end : Declared
     at_end = inside d name n (of_rows d one rows)
@@ -286,6 +308,10 @@ module _ (stage : Stage) (words : HasBlocks stage) (d : Declared) (rs : List (Li
         end,
         (refl, rw (is-word (codes "end") refl) refl),
         clean-line stage at_end end end-clean,
-        sym (λ i. record ended d name one rows { schemas = append-nil d.schemas i; own_domain = or-false d.own_domain i; block = sym g.closed i }),
+        sym (λ i. record (ended d name one rows) {
+          schemas = append-nil d.schemas i;
+          own_domain = or-false d.own_domain i;
+          block = sym g.closed i;
+        }),
       ),
     )

@@ -80,16 +80,20 @@ module _ (d : Declared) (manner : Manner) where
   pub arguments-early : (arguments : List Argument) → AllGood arguments
       → ((list_any is_variable arguments || false) && is_empty d.names.objects) ≡ false
   arguments-early args all = by_test (is_empty d.names.objects)
-      (λ empty. rw (none-any is_variable args (all-implied (IsGood d manner) (λ a. is_variable a ≡ false) (λ a good. good.early empty) args all)) refl)
+      (λ empty. rw (none-any is_variable args
+      (all-implied (IsGood d manner) (λ a. is_variable a ≡ false) (λ a good. good.early empty) args all)) refl)
       (λ some. and-false (list_any is_variable args || false) (is_empty d.names.objects) some)
 
-  pub atoms-known : (atoms : List SignedAtom) → AllGoodAtoms atoms → list_any (λ x. not (has_name x.atom.predicate d.names.predicates)) atoms ≡ false
+  pub atoms-known : (atoms : List SignedAtom) → AllGoodAtoms atoms
+      → list_any (λ x. not (has_name x.atom.predicate d.names.predicates)) atoms ≡ false
   atoms-known xs all = none-any (λ x. not (has_name x.atom.predicate d.names.predicates)) xs
-      (all-implied (IsGoodAtom d manner) (λ x. not (has_name x.atom.predicate d.names.predicates) ≡ false) (λ x good. ap not good.known) xs all)
+      (all-implied (IsGoodAtom d manner) (λ x. not (has_name x.atom.predicate d.names.predicates) ≡ false)
+      (λ x good. ap not good.known) xs all)
 
   pub atoms-arity : (atoms : List SignedAtom) → AllGoodAtoms atoms
       → list_any (λ x. not (length x.atom.arguments == slice_index d.arities (number_in x.atom.predicate d.names.predicates))) atoms ≡ false
-  atoms-arity xs all = none-any (λ x. not (length x.atom.arguments == slice_index d.arities (number_in x.atom.predicate d.names.predicates))) xs
+  atoms-arity xs all = none-any
+      (λ x. not (length x.atom.arguments == slice_index d.arities (number_in x.atom.predicate d.names.predicates))) xs
       (all-implied (IsGoodAtom d manner)
       (λ x. not (length x.atom.arguments == slice_index d.arities (number_in x.atom.predicate d.names.predicates)) ≡ false)
       (λ x good. ap not good.arity) xs all)

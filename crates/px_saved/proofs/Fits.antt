@@ -108,10 +108,11 @@ module _ (problem : Problem) (params : ℕ) where
 
     clause-bare : (clause : Clause) → Contains problem.axioms clause → (theta : List Term) → All IsBare (instance_of clause.lits theta)
     clause-bare clause has theta =
-        All-map IsBare (substitute_literal theta) clause.lits (All-each (λ (lit : Lit). IsBare (substitute_literal theta lit)) clause.lits (λ lit here none_there.
+        All-map IsBare (substitute_literal theta) clause.lits
+        (All-each (λ (lit : Lit). IsBare (substitute_literal theta lit)) clause.lits (λ lit here none_there.
         let vars : clause.vars ≡ 0 = All-at (λ (c : Clause). c.vars ≡ 0) problem.axioms clause (valid.no_objects none_there).1 has in
         let of : IsAtomOf problem clause.vars lit.atom = All-at (λ (l : Lit). IsAtomOf problem clause.vars l.atom) clause.lits lit
-            (All-at (IsAxiomOf problem) problem.axioms clause valid.axioms has).lits here in
+        (All-at (IsAxiomOf problem) problem.axioms clause valid.axioms has).lits here in
         ap (map (substitute theta)) (no-terms clause.vars lit.atom.args vars none_there of.1)))
 
     removed-all : {X : Type 0} (Q : X → Type 0) (xs : List X) (i : ℕ) → All Q xs → All Q (remove xs i)
@@ -155,8 +156,7 @@ module _ (problem : Problem) (params : ℕ) where
             let short = length-remove (instance_of clause.lits theta) place place_within in
             let same = length-map left complement_of in
             let none_chosen : NoneWithout theta = λ none_there. empty theta (uses.terms ∙
-                All-at (λ (c : Clause). c.vars ≡ 0) problem.axioms clause (valid.no_objects none_there).1 has) in
-            (
+            All-at (λ (c : Clause). c.vars ≡ 0) problem.axioms clause (valid.no_objects none_there).1 has) in (
               omega (arith, within, few),
               omega (arith, place_within, counted, size.1),
               omega (arith, inner.1, same, short, counted, size.1),
@@ -172,9 +172,9 @@ module _ (problem : Problem) (params : ℕ) where
         proofs-fit path [] none proves leaves low bare = (tt, refl)
         proofs-fit path (lit ∷ lits) (also d ds) proves leaves low bare =
             let one = proof-fits path lit d proves.0 (All-front LeafFits (leaves_of d) (all_leaves_of ds) leaves)
-                (omega (arith, low)) bare.0 in
+            (omega (arith, low)) bare.0 in
             let more = proofs-fit path lits ds proves.1 (All-back LeafFits (leaves_of d) (all_leaves_of ds) leaves)
-                (omega (arith, low)) bare.1 in
+            (omega (arith, low)) bare.1 in
             ((one, more.0), omega (arith, more.1))
         proofs-fit path [] (also d ds) proves leaves low bare = absurd proves
         proofs-fit path (lit ∷ lits) none proves leaves low bare = absurd proves
@@ -204,7 +204,8 @@ module _ (problem : Problem) (params : ℕ) where
       few-adds inst = let same = length-map (schema_of problem inst).add (substitute_atom inst.args) in
           elim (cases_lt inst.op (length problem.schemas)) [
             | inl within ↦ (let is = short_lists inst.op no_schema within in omega (arith, same, is.2))
-            | inr past ↦ (let none_there : length (schema_of problem inst).add ≡ 0 = ap (λ (s : Schema). length s.add) (get_or_past problem.schemas inst.op no_schema past) in
+            | inr past ↦ (let none_there : length (schema_of problem inst).add ≡ 0 =
+                ap (λ (s : Schema). length s.add) (get_or_past problem.schemas inst.op no_schema past) in
                 omega (arith, same, none_there))
           ]
 
@@ -217,14 +218,17 @@ module _ (problem : Problem) (params : ℕ) where
         | inr past ↦ (let zero_index = named.initial (omega (arith, past)) in (omega (arith, past), omega (arith, zero_index)))
       ]
 
+      abbrev OfProblem : Mark → Type 0
+      OfProblem mark = IsAtomOf problem params mark.atom
+
       -- the leaves of a row are small and the problem's, by their marks
-      leaves-fit : (r : ℕ) (row : List Derivation) → r ≤ 9999 → All (λ (m : Mark). IsAtomOf problem params m.atom) (row_marks r row)
+      leaves-fit : (r : ℕ) (row : List Derivation) → r ≤ 9999 → All OfProblem (row_marks r row)
           → All (IsNamed problem steps) (row_marks r row) → All LeafFits (row_leaves row)
       leaves-fit r row small atoms named = All-each LeafFits (row_leaves row) (λ leaf has.
           let there = Contains-each_once mark_eq mark_eq-decides (map (mark_of r) (row_leaves row)) (mark_of r leaf)
-              (Contains-mapped (mark_of r) (row_leaves row) leaf has) in
+          (Contains-mapped (mark_of r) (row_leaves row) leaf has) in
           let numbers = mark-small (mark_of r leaf) small (All-at (IsNamed problem steps) (row_marks r row) (mark_of r leaf) named there) in
-          (numbers.0, numbers.1, (All-at (λ (m : Mark). IsAtomOf problem params m.atom) (row_marks r row) (mark_of r leaf) atoms there).0))
+          (numbers.0, numbers.1, (All-at OfProblem (row_marks r row) (mark_of r leaf) atoms there).0))
 
       -- what a step needs has no terms where there are no objects
       precondition-bare : (inst : OpInst) → inst.op < length problem.schemas → AtomsBare (precondition problem inst)
@@ -253,13 +257,13 @@ module _ (problem : Problem) (params : ℕ) where
         pub rows-fit : (first : ℕ) (left : List OpInst) (rows : List (List Derivation))
             → RowsProve IsName problem params left goal goal_vars rows
             → AllByRecursion (λ (inst : OpInst). inst.op < length problem.schemas) left
-            → All (λ (m : Mark). IsAtomOf problem params m.atom) (marks_from first rows)
+            → All OfProblem (marks_from first rows)
             → All (IsNamed problem steps) (marks_from first rows)
             → All (All (λ d. height d ≤ 56)) rows → first + length left ≤ 9999 → RowsFit rows
         rows-fit first [] [] prove ops atoms named low small = absurd prove
         rows-fit first [] (row ∷ []) prove ops atoms named low small = (
           row-fits (map (substitute_atom (variables params ++ prove.0)) goal) row prove.2
-              (leaves-fit first row (omega (arith, small)) (All-front (λ (m : Mark). IsAtomOf problem params m.atom) (row_marks first row) [] atoms)
+              (leaves-fit first row (omega (arith, small)) (All-front OfProblem (row_marks first row) [] atoms)
               (All-front (IsNamed problem steps) (row_marks first row) [] named))
               (All-head (All (λ (d : Derivation). height d ≤ 56)) row [] low) (goal-bare (variables params ++ prove.0) goal bare),
           tt,
@@ -268,10 +272,10 @@ module _ (problem : Problem) (params : ℕ) where
         rows-fit first (inst ∷ left) [] prove ops atoms named low small = absurd prove
         rows-fit first (inst ∷ left) (row ∷ rows) prove ops atoms named low small = (
           row-fits (precondition problem inst) row prove.0
-              (leaves-fit first row (omega (arith, small)) (All-front (λ (m : Mark). IsAtomOf problem params m.atom) (row_marks first row) (marks_from (suc first) rows) atoms)
+              (leaves-fit first row (omega (arith, small)) (All-front OfProblem (row_marks first row) (marks_from (suc first) rows) atoms)
               (All-front (IsNamed problem steps) (row_marks first row) (marks_from (suc first) rows) named))
               (All-head (All (λ (d : Derivation). height d ≤ 56)) row rows low) (precondition-bare inst ops.0),
-          rows-fit (suc first) left rows prove.1 ops.1 (All-back (λ (m : Mark). IsAtomOf problem params m.atom) (row_marks first row) (marks_from (suc first) rows) atoms)
+          rows-fit (suc first) left rows prove.1 ops.1 (All-back OfProblem (row_marks first row) (marks_from (suc first) rows) atoms)
               (All-back (IsNamed problem steps) (row_marks first row) (marks_from (suc first) rows) named)
               (All-tail (All (λ (d : Derivation). height d ≤ 56)) row rows low) (omega (arith, small)),
         )

@@ -158,7 +158,7 @@ module _ (d : Declared) (rs : List (List ℕ)) (name : List ℕ) (params : ℕ) 
         == slice_index d.arities (number_in (name_text the_names kind.Predicate atom.pred) d.names.predicates)) ≡ true
     arity-right atom has =
         let arity : slice_index d.arities (number_in (name_text the_names kind.Predicate atom.pred) d.names.predicates)
-            ≡ slice_index the_problem.arities atom.pred = λ i. slice_index (ground.arities i) (predicate-back atom.pred has.0 i) in
+        ≡ slice_index the_problem.arities atom.pred = λ i. slice_index (ground.arities i) (predicate-back atom.pred has.0 i) in
         let count = length-map atom.args (written_term the_names params) in
         same-number _ _ (count ∙ has.1 ∙ sym arity)
       where
@@ -199,7 +199,8 @@ module _ (d : Declared) (rs : List (List ℕ)) (name : List ℕ) (params : ℕ) 
     terms-text bound small [] all = tt
     terms-text bound small (t ∷ ts) all = (has-text bound small t all.0, terms-text bound small ts all.1)
 
-    atom-text : (bound : ℕ) → bound ≤ params + 12 → (atom : Atom) → AtomFits the_problem params bound atom → AtomHasText the_names params atom
+    atom-text : (bound : ℕ) → bound ≤ params + 12 → (atom : Atom) → AtomFits the_problem params bound atom
+        → AtomHasText the_names params atom
     atom-text bound small atom fits = record {
       predicate = ground.predicates_text atom.pred (below-predicates atom.pred fits.0.0);
       arguments = terms-text bound small atom.args fits.1;
@@ -234,7 +235,8 @@ module _ (d : Declared) (rs : List (List ℕ)) (name : List ℕ) (params : ℕ) 
 
     -- the greatest number of a variable is that of the goal's last
     pub variables-read : (bound : ℕ) → bound ≤ params + 12 → (atoms : List Atom) → AllByRecursion (AtomFits the_problem params bound) atoms
-        → goal_variables x (map (written_atom the_names params) atoms) ≡ fold max 0 (map (goal_place params) (flat_map (λ atom. atom.args) atoms))
+        → goal_variables x (map (written_atom the_names params) atoms)
+        ≡ fold max 0 (map (goal_place params) (flat_map (λ atom. atom.args) atoms))
     variables-read bound small atoms all = ap (fold max 0) (all-places bound small atoms all)
 
     pub goal-read : (bound : ℕ) → bound ≤ params + 12 → (atoms : List Atom) → AllByRecursion (AtomFits the_problem params bound) atoms
@@ -313,7 +315,13 @@ module _ (d : Declared) (rs : List (List ℕ)) (name : List ℕ) (params : ℕ) 
       fine (derivation.step clause theta place ps) fits = let inner = all-fine ps fits.4 in record {
         reads = (terms-read theta (terms-spelled params (omega arith) theta fits.3), inner.reads);
         whole = inner.whole;
-        text = (omega (arith, fits.0), omega (arith, fits.1), omega (arith, fits.2), terms-text params (omega arith) theta fits.3, inner.text);
+        text = (
+          omega (arith, fits.0),
+          omega (arith, fits.1),
+          omega (arith, fits.2),
+          terms-text params (omega arith) theta fits.3,
+          inner.text,
+        );
         good = (
           (small-number clause fits.0, small-number place fits.1, small-number (count_of ps) fits.2, good-terms theta fits.3),
           inner.good,
@@ -332,20 +340,23 @@ module _ (d : Declared) (rs : List (List ℕ)) (name : List ℕ) (params : ℕ) 
       }
 
     -- what the parts of a row have
-    pub part-atoms : (parts : List Part) → AllByRecursion IsGoodPart parts → AllByRecursion (IsGoodAtom x table_terms) (flat_map atoms_of_part parts)
+    pub part-atoms : (parts : List Part) → AllByRecursion IsGoodPart parts
+        → AllByRecursion (IsGoodAtom x table_terms) (flat_map atoms_of_part parts)
     part-atoms [] all = tt
     part-atoms (a_fact column index y ∷ parts) all = (all.0.2, part-atoms parts all.1)
     part-atoms (an_ancestor k ∷ parts) all = part-atoms parts all.1
     part-atoms (an_axiom k place count ts ∷ parts) all = part-atoms parts all.1
 
-    pub part-terms : (parts : List Part) → AllByRecursion IsGoodPart parts → AllByRecursion (IsGood x table_terms) (flat_map terms_of_part parts)
+    pub part-terms : (parts : List Part) → AllByRecursion IsGoodPart parts
+        → AllByRecursion (IsGood x table_terms) (flat_map terms_of_part parts)
     part-terms [] all = tt
     part-terms (a_fact column index y ∷ parts) all = part-terms parts all.1
     part-terms (an_ancestor k ∷ parts) all = part-terms parts all.1
     part-terms (an_axiom k place count ts ∷ parts) all =
         all-both (IsGood x table_terms) ts (flat_map terms_of_part parts) all.0.3 (part-terms parts all.1)
 
-    pub part-numbers : (parts : List Part) → AllByRecursion IsGoodPart parts → list_any (nat_lt 9999) (flat_map numbers_of_part parts) ≡ false
+    pub part-numbers : (parts : List Part) → AllByRecursion IsGoodPart parts
+        → list_any (nat_lt 9999) (flat_map numbers_of_part parts) ≡ false
     part-numbers [] all = refl
     part-numbers (a_fact column index y ∷ parts) all = rw (all.0.0, all.0.1) (part-numbers parts all.1)
     part-numbers (an_ancestor k ∷ parts) all = rw all.0 (part-numbers parts all.1)

@@ -93,20 +93,26 @@ module _ (problem : Problem) (valid : IsValid problem) (short_lists : All (range
   is-table : IsTable problem table
   is-table = (tables_are_decided problem table).0 saved.is_one
 
-  pub rows-made : rows_are_table problem table.params (sorts_by_places problem table.steps table.params) table.steps table.goal table.goal_vars
-      (rows_of table.proofs) ≡ true
-  rows-made = subst (λ sorts. rows_are_table problem table.params sorts table.steps table.goal table.goal_vars (rows_of table.proofs) ≡ true)
-      saved.sorts (and_parts _ _ saved.is_one).0
+  -- with parameters of these sorts these rows make a table
+  abbrev pub MakesTable : List ℕ → List (List Derivation) → Type 0
+  MakesTable sorts rows = rows_are_table problem table.params sorts table.steps table.goal table.goal_vars rows ≡ true
+
+  pub rows-made : MakesTable (sorts_by_places problem table.steps table.params) (rows_of table.proofs)
+  rows-made = subst (λ sorts. MakesTable sorts (rows_of table.proofs)) saved.sorts (and_parts _ _ saved.is_one).0
 
   none-of : (ts : List Term) → length ts ≡ 0 → ts ≡ []
   none-of [] e = refl
   none-of (t ∷ ts) e = absurd (omega (arith, e))
 
   step-fits : (inst : OpInst) → IsStepOf problem table.params inst → StepFits problem table.params inst
-  step-fits inst is = (is.op, terms-fit problem table.params table.params inst.args is.terms
-    (λ none_there. none-of inst.args (is.count ∙ (valid.no_objects none_there).0 inst.op no_schema is.op)))
+  step-fits inst is = (
+    is.op,
+    terms-fit problem table.params table.params inst.args is.terms
+        (λ none_there. none-of inst.args (is.count ∙ (valid.no_objects none_there).0 inst.op no_schema is.op)),
+  )
 
-  steps-of : (steps : List OpInst) → AllByRecursion (IsStepOf problem table.params) steps → AllByRecursion (StepFits problem table.params) steps
+  steps-of : (steps : List OpInst) → AllByRecursion (IsStepOf problem table.params) steps
+      → AllByRecursion (StepFits problem table.params) steps
   steps-of [] all = tt
   steps-of (inst ∷ steps) all = (step-fits inst all.0, steps-of steps all.1)
 
@@ -209,13 +215,13 @@ module _ (stage : Stage) (words : HasBlocks stage) (d : Declared) (rs : List (Li
       → PassAll stage m (inside d name n (of_rows d table so_far)) (map chars (map (row_bytes names name params) left ++ end_line)) last
   rows-pass m n so_far [] whole fits low =
       let so_far_is : so_far ≡ rows = sym (append-nil so_far) ∙ whole in
-      let now = subst (λ rs. rows_are_table (problem_here d) params (sorts_by_places (problem_here d) table.steps params) table.steps table.goal
-          table.goal_vars rs ≡ true) (sym so_far_is) (rows-made (problem_here d) g.valid g.short_lists table saved) in
-      let ends = end-passes stage words d rs name table g few m n so_far now in
-      (
+      let now = subst (MakesTable (problem_here d) g.valid g.short_lists table saved
+      (sorts_by_places (problem_here d) table.steps params)) (sym so_far_is)
+      (rows-made (problem_here d) g.valid g.short_lists table saved) in
+      let ends = end-passes stage words d rs name table g few m n so_far now in (
         last,
-        subst (λ rs. Passes stage m (inside d name n (of_rows d table so_far)) (chars (end_bytes names name params)) (ended d name table rs))
-            so_far_is ends,
+        subst (λ rs. Passes stage m (inside d name n (of_rows d table so_far)) (chars (end_bytes names name params))
+            (ended d name table rs)) so_far_is ends,
         refl,
       )
   rows-pass m n so_far (row ∷ left) whole fits low = (
@@ -227,24 +233,23 @@ module _ (stage : Stage) (words : HasBlocks stage) (d : Declared) (rs : List (Li
   steps-pass : (m n : ℕ) (so_far left : List OpInst) → so_far ++ left ≡ table.steps
       → AllByRecursion (StepFits (problem_here d) params) left
       → PassAll stage m (inside d name n (of_steps d table so_far))
-      (map chars (map (step_bytes names name params) left ++ (goal_bytes names name params table.goal ∷ (map (row_bytes names name params) rows ++ end_line))))
+      (map chars (map (step_bytes names name params) left
+      ++ (goal_bytes names name params table.goal ∷ (map (row_bytes names name params) rows ++ end_line))))
       last
   steps-pass m n so_far [] whole fits =
       let so_far_is : so_far ≡ table.steps = sym (append-nil so_far) ∙ whole in
       let goal = goal-passes stage words d rs name table g few m n
-          (goal-fits (problem_here d) g.valid g.short_lists table saved) saved.some saved.few_atoms saved.few_variables saved.last_occurs in
-      (
+      (goal-fits (problem_here d) g.valid g.short_lists table saved) saved.some saved.few_atoms saved.few_variables saved.last_occurs in (
         inside d name n (of_rows d table []),
-        subst (λ steps. Passes stage m (inside d name n (of_steps d table steps)) (chars (goal_bytes names name params table.goal)) (inside d name n (of_rows d table [])))
-            (sym so_far_is) goal,
+        subst (λ steps. Passes stage m (inside d name n (of_steps d table steps)) (chars (goal_bytes names name params table.goal))
+            (inside d name n (of_rows d table []))) (sym so_far_is) goal,
         rows-pass (m + 1) n [] rows refl (all-rows-fit (problem_here d) g.valid g.short_lists table saved)
             (by-recursion (All (λ (p : Derivation). height p ≤ 56)) rows saved.low),
       )
   steps-pass m n so_far (inst ∷ left) whole fits =
       let long : length so_far + 1 + length left ≡ length table.steps =
       let count = length-append so_far (inst ∷ left) in let same = ap length whole in omega (arith, count, same) in
-      let most = saved.short in
-      (
+      let most = saved.short in (
         inside d name n (of_steps d table (so_far ++ inst ∷ [])),
         step-passes stage words d rs name table g few m n so_far inst fits.0 (omega (arith, long, most)),
         steps-pass (m + 1) n (so_far ++ inst ∷ []) left (append_assoc so_far (inst ∷ []) left ∙ whole) fits.1,
@@ -274,7 +279,8 @@ module _ (stage : Stage) (words : HasBlocks stage) (d : Declared) (rs : List (Li
     steps-text steps all.1,
   )
 
-  rows-text : (left : List (List Derivation)) → AllByRecursion (λ (row : List Derivation). ProofsFit (problem_here d) params (derivations row)) left
+  rows-text : (left : List (List Derivation))
+      → AllByRecursion (λ (row : List Derivation). ProofsFit (problem_here d) params (derivations row)) left
       → AllByRecursion IsLineText (map (row_bytes names name params) left)
   rows-text [] all = tt
   rows-text (row ∷ left) all = (
@@ -288,14 +294,13 @@ module _ (stage : Stage) (words : HasBlocks stage) (d : Declared) (rs : List (Li
       let front = of-reads (table_bytes names name params) _ (table-line names params name is_text (omega (arith, few))) in
       let few_variables = saved.few_variables in
       let goal = of-reads (goal_bytes names name params table.goal) _ (goal-line names params table.goal
-          (ground.goal-text d rs name params g few 0 (of_steps d table []) (refl, refl)
-          (params + table.goal_vars) (omega (arith, few_variables)) table.goal (goal-fits (problem_here d) g.valid g.short_lists table saved))) in
-      let ends = of-reads (end_bytes names name params) _ (end-line names params) in
-      (
+      (ground.goal-text d rs name params g few 0 (of_steps d table []) (refl, refl)
+      (params + table.goal_vars) (omega (arith, few_variables)) table.goal
+      (goal-fits (problem_here d) g.valid g.short_lists table saved))) in
+      let ends = of-reads (end_bytes names name params) _ (end-line names params) in (
         front,
         all-both IsLineText (map (step_bytes names name params) table.steps) _
-            (steps-text table.steps (steps-fit (problem_here d) g.valid g.short_lists table saved))
-            (
+            (steps-text table.steps (steps-fit (problem_here d) g.valid g.short_lists table saved)) (
               goal,
               all-both IsLineText (map (row_bytes names name params) rows) end_line
                   (rows-text rows (all-rows-fit (problem_here d) g.valid g.short_lists table saved)) (ends, tt),
@@ -311,7 +316,7 @@ module _ (stage : Stage) (words : HasBlocks stage) (d : Declared) (rs : List (Li
       let text : IsUtf8 (joined lines) = joined-text lines (all-implied IsLineText IsUtf8 (λ line is. is.0) lines block-text) in
       let inside = all-implied IsLineText (λ line. is_in_line line ≡ true) (λ line is. is.1) lines block-text in
       let whole : IsUtf8 (bytes ++ 10 ∷ joined lines) = subst IsUtf8 (append_assoc bytes (10 ∷ []) (joined lines))
-          (IsUtf8-append (bytes ++ 10 ∷ []) (joined lines) spells.text text) in
+      (IsUtf8-append (bytes ++ 10 ∷ []) (joined lines) spells.text text) in
       subst (λ t. Spells stage (bytes ++ 10 ∷ t) last) (sym (block-is-lines names name params table.steps table.goal rows)) (record {
         text = whole;
         lines = lines-after stage bytes lines d last inside spells.lines block-passes;
@@ -340,7 +345,7 @@ module _ (stage : Stage) (words : HasBlocks stage) (problem : Problem) (names : 
       let fresh = not-there name d.names.results ready.fresh in
       let some_room = ready.room in
       let after = spells-after stage words d names.results name table g here is_text short fresh
-          (omega (arith, some_room)) bytes spells in
+      (omega (arith, some_room)) bytes spells in
       let same_names : record d.names { results = names.results } ≡ names = λ i. record {
         objects = ready.objects i;
         predicates = ready.predicates i;
@@ -349,7 +354,7 @@ module _ (stage : Stage) (words : HasBlocks stage) (problem : Problem) (names : 
       } in
       let last_is = made-back (problem_here d) g.valid g.short_lists table here d in
       let last_declared : Declared = last stage words d names.results name table g here is_text
-          short fresh (omega (arith, some_room)) in
+      short fresh (omega (arith, some_room)) in
       record {
         last = last_declared;
         spells = subst (λ ns. Spells stage (bytes ++ 10 ∷ block_text ns name table.params table.steps table.goal (rows_of table.proofs))
@@ -367,11 +372,13 @@ words-now : HasBlocks stage_now
 words-now = record { tables = refl; steps = refl; goals = refl; proofs = refl; ends = refl }
 
 pub saved_is_read_back : SavedIsReadBack
-saved_is_read_back problem names number table are has short saved = record { again = λ bytes script is ready.
-    let name = name_text names kind.Result number in
-    let text = block_text names name table.params table.steps table.goal (rows_of table.proofs) in
-    let r = lines-kept stage_now 1 nothing_declared (lines_of (bytes ++ 10 ∷ [])) is.last start-in-range is.spells.lines in
-    let range = declared-in-range is.last r is.spells.closed in
-    subst (λ s. IsScript stage_now (bytes ++ 10 ∷ text) (with_table name table s)) (sym is.is)
-    (read-back stage_now words-now problem names number table are has short saved bytes is.last r range is.spells
-    (subst (IsReadyFor problem names name) is.is ready)) }
+saved_is_read_back problem names number table are has short saved = record {
+  again = λ bytes script is ready.
+      let name = name_text names kind.Result number in
+      let text = block_text names name table.params table.steps table.goal (rows_of table.proofs) in
+      let r = lines-kept stage_now 1 nothing_declared (lines_of (bytes ++ 10 ∷ [])) is.last start-in-range is.spells.lines in
+      let range = declared-in-range is.last r is.spells.closed in
+      subst (λ s. IsScript stage_now (bytes ++ 10 ∷ text) (with_table name table s)) (sym is.is)
+      (read-back stage_now words-now problem names number table are has short saved bytes is.last r range is.spells
+      (subst (IsReadyFor problem names name) is.is ready));
+}

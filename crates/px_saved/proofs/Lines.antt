@@ -8,6 +8,7 @@ use Rattle.px_script.specs.Lines.{mark, without_mark, without_return}
 use Rattle.px_script.proofs.Common.{◌≡◌, ℕ, zero, suc, ◌+◌, ◌<◌, ◌==◌, Bool, true, false, cond, ◌&&◌, not, List, [], ◌∷◌, ◌++◌, map, length, get_or, take, drop, refl, sym, ap, ◌∙◌, subst, arith, append_assoc, map-append, flat_map, list_all, All, AllByRecursion, All-from_recursion, slice_index, bytes_eq, and_parts, not-true, not-false, if◌then◌else◌, lines_of, Lexeme, Lexes, IsIgnored, Declared, nothing_declared, Stage, Passes, PassAll}
 use Rattle.px_script.proofs.Lexing.{Begins-shorter}
 use Rattle.px_script.proofs.Lists.{by_test}
+use Rattle.px_saved.proofs.Clean.{and-false}
 use Rattle.px_saved.proofs.Words.{is_inside, is_in_line}
 
 abbrev feed : ℕ → Bool
@@ -28,20 +29,12 @@ split-append (x ∷ xs) text = by_test (x == 10) (λ e. rw e (ap (λ l. [] ∷ l
 no-feed : (line : List ℕ) → is_in_line line ≡ true → AllByRecursion (λ b. feed b ≡ false) line
 no-feed [] inside = tt
 no-feed (c ∷ cs) inside = let both = and_parts (is_inside c) (list_all is_inside cs) inside in
-    (not-true-is (c == 10) (and_parts (not (c == 10)) (not (c == 13)) both.0).0, no-feed cs both.1)
-  where
-    not-true-is : (b : Bool) → not b ≡ true → b ≡ false
-    not-true-is true e = cc
-    not-true-is false e = refl
+    (not-true (c == 10) (and_parts (not (c == 10)) (not (c == 13)) both.0).0, no-feed cs both.1)
 
 no-return : (line : List ℕ) (k : ℕ) → is_in_line line ≡ true → (slice_index line k == 13) ≡ false
 no-return [] k inside = refl
 no-return (c ∷ cs) zero inside = let both = and_parts (is_inside c) (list_all is_inside cs) inside in
-    not-true-is (c == 13) (and_parts (not (c == 10)) (not (c == 13)) both.0).1
-  where
-    not-true-is : (b : Bool) → not b ≡ true → b ≡ false
-    not-true-is true e = cc
-    not-true-is false e = refl
+    not-true (c == 13) (and_parts (not (c == 10)) (not (c == 13)) both.0).1
 no-return (c ∷ cs) (suc k) inside = no-return cs k (and_parts (is_inside c) (list_all is_inside cs) inside).1
 
 kept-whole : (line : List ℕ) → is_in_line line ≡ true → without_return line ≡ line
@@ -59,10 +52,6 @@ split-joined (line ∷ lines) inside = ap (slice_split feed) (append_assoc line 
     ∙ ap (λ l. line ∷ l) (split-joined lines inside.1)
 
 -- ---- the byte order mark
-
-and-false : (a b : Bool) → b ≡ false → (a && b) ≡ false
-and-false true b e = e
-and-false false b e = refl
 
 -- What stands before the line feed, without a mark, is the same whatever comes after it.
 record Apart (front : List ℕ) : Type 0 where
@@ -130,7 +119,8 @@ module _ (stage : Stage) where
       ap (λ t. map line_of_bytes (slice_split feed t)) (a.same (joined lines)) ∙ ap (map line_of_bytes) (split-append a.rest (joined lines))
       ∙ map-append line_of_bytes (slice_split feed a.rest) (slice_split feed (joined lines))
       ∙ ap (λ t. front_lines ++ map line_of_bytes t) (split-joined lines inside)
-      ∙ ap (λ t. front_lines ++ t) (map-append line_of_bytes lines ([] ∷ []) ∙ ap (λ t. t ++ line_of_bytes [] ∷ []) (all-whole lines inside)) in
+      ∙ ap (λ t. front_lines ++ t)
+      (map-append line_of_bytes lines ([] ∷ []) ∙ ap (λ t. t ++ line_of_bytes [] ∷ []) (all-whole lines inside)) in
       let before_last = without-last 1 nothing_declared before front_lines
       (subst (λ t. PassAll stage 1 nothing_declared t before) old_lines old) in
       subst (λ t. PassAll stage 1 nothing_declared t after) (sym new_lines)

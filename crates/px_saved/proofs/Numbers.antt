@@ -46,16 +46,22 @@ other-new letter other k most apart = from 1 most
 -- the list goes on after its first variables
 goes-on : (letter n most : ℕ) → n < most
     → (more : List (List ℕ)) × (letter_numbers letter most ≡ letter_numbers letter n ++ (letter ∷ decimal (n + 1)) ∷ more)
-goes-on letter n most below = let r = from 1 n most below in (r.0, r.1 ∙ ap (λ k. letter_numbers letter n ++ (letter ∷ decimal k) ∷ r.0) (omega arith))
+goes-on letter n most below = let r = from 1 n most below in
+    (r.0, r.1 ∙ ap (λ k. letter_numbers letter n ++ (letter ∷ decimal k) ∷ r.0) (omega arith))
   where
     from : (first n most : ℕ) → n < most → (more : List (List ℕ))
         × (map (λ j. letter ∷ decimal j) (range_with_len first most)
         ≡ map (λ j. letter ∷ decimal j) (range_with_len first n) ++ (letter ∷ decimal (first + n)) ∷ more)
     from first n zero few = absurd (omega (arith, few))
-    from first zero (suc most) few = (map (λ j. letter ∷ decimal j) (range_with_len (first + 1) most),
-      ap (λ k. (letter ∷ decimal k) ∷ map (λ j. letter ∷ decimal j) (range_with_len (first + 1) most)) (omega arith))
-    from first (suc n) (suc most) few = let r = from (first + 1) n most (omega (arith, few)) in (r.0,
-      ap (λ l. (letter ∷ decimal first) ∷ l) (r.1 ∙ ap (λ k. map (λ j. letter ∷ decimal j) (range_with_len (first + 1) n) ++ (letter ∷ decimal k) ∷ r.0) (omega arith)))
+    from first zero (suc most) few = (
+      map (λ j. letter ∷ decimal j) (range_with_len (first + 1) most),
+      ap (λ k. (letter ∷ decimal k) ∷ map (λ j. letter ∷ decimal j) (range_with_len (first + 1) most)) (omega arith),
+    )
+    from first (suc n) (suc most) few = let r = from (first + 1) n most (omega (arith, few)) in (
+      r.0,
+      ap (λ l. (letter ∷ decimal first) ∷ l) (r.1
+          ∙ ap (λ k. map (λ j. letter ∷ decimal j) (range_with_len (first + 1) n) ++ (letter ∷ decimal k) ∷ r.0) (omega arith)),
+    )
 
 count-of : (letter n : ℕ) → length (letter_numbers letter n) ≡ n
 count-of letter n = length-map-range_with_len (λ k. letter ∷ decimal k) 1 n
@@ -112,7 +118,8 @@ other-position letter other k most apart = let n = letter ∷ decimal k in
 pub is-numbered : (letter most k : ℕ) → 1 ≤ k → k ≤ most → is_numbered_by letter most (letter ∷ decimal k) ≡ true
 is-numbered letter most k least below = from 1 most least (omega (arith, below))
   where
-    from : (first n : ℕ) → first ≤ k → k < first + n → list_any (λ j. bytes_eq (letter ∷ decimal k) (letter ∷ decimal j)) (range_with_len first n) ≡ true
+    from : (first n : ℕ) → first ≤ k → k < first + n
+        → list_any (λ j. bytes_eq (letter ∷ decimal k) (letter ∷ decimal j)) (range_with_len first n) ≡ true
     from first zero least below = absurd (omega (arith, least, below))
     from first (suc n) least below = by_test (bytes_eq (letter ∷ decimal k) (letter ∷ decimal first)) (λ e. rw e refl)
         (λ e. rw e (from (first + 1) n (more e) (omega (arith, below))))

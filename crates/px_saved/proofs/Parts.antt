@@ -173,7 +173,8 @@ module _ (names : NameLists) (params : ℕ) where
 
   row-owed : (row : List Derivation) → AreWhole (derivations row) → fold owed 0 (all_parts (derivations row)) ≡ 0
   row-owed [] whole = refl
-  row-owed (d ∷ row) whole = owed-less 0 d (all_parts (derivations row)) whole.0 ∙ ap (λ k. fold owed k (all_parts (derivations row))) (omega arith)
+  row-owed (d ∷ row) whole = owed-less 0 d (all_parts (derivations row)) whole.0
+      ∙ ap (λ k. fold owed k (all_parts (derivations row))) (omega arith)
       ∙ row-owed row whole.1
 
   -- the parts of a row are whole proofs

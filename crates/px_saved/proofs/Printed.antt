@@ -64,7 +64,8 @@ module _ (names : NameLists) (name : List ℕ) (params : ℕ) where
       let e = end_bytes ++ 10 ∷ [] in
       let parts : block_text names name params steps goal rows ≡ (table_bytes ++ 10 ∷ []) ++ ((s ++ (g ++ r)) ++ e) =
       λ i. words-line (codes "table") (name ∷ decimal params ∷ []) i ++ ((steps-joined steps i ++
-      (after-line (codes "goal") (map (atom_text names (InBlock params)) goal) i ++ rows-joined rows i)) ++ words-line (codes "end") [] i) in
+      (after-line (codes "goal") (map (atom_text names (InBlock params)) goal) i ++ rows-joined rows i))
+      ++ words-line (codes "end") [] i) in
       let tail : joined (map row_bytes rows ++ end_bytes ∷ []) ≡ r ++ e =
       joined-both (map row_bytes rows) (end_bytes ∷ []) ∙ ap (λ t. r ++ t) (append-nil e) in
       let whole : joined (map step_bytes steps ++ (goal_bytes goal ∷ (map row_bytes rows ++ end_bytes ∷ []))) ≡ s ++ (g ++ (r ++ e)) =
@@ -76,4 +77,5 @@ module _ (names : NameLists) (name : List ℕ) (params : ℕ) where
 pub joined-text : (lines : List (List ℕ)) → AllByRecursion IsUtf8 lines → IsUtf8 (joined lines)
 joined-text [] all = IsUtf8-nil
 joined-text (line ∷ lines) all = IsUtf8-append (line ++ 10 ∷ []) (joined lines)
-    (IsUtf8-append line (10 ∷ []) all.0 (IsUtf8-from_ascii (10 ∷ []) (IsAscii-cons 10 [] (omega arith) IsAscii-nil))) (joined-text lines all.1)
+    (IsUtf8-append line (10 ∷ []) all.0 (IsUtf8-from_ascii (10 ∷ []) (IsAscii-cons 10 [] (omega arith) IsAscii-nil)))
+    (joined-text lines all.1)

@@ -170,9 +170,11 @@ module _ (names : NameLists) (params : ℕ) where
         → Reads (in_parentheses (map the_text (t ∷ ts)) ++ tail)
         (parenthesised (map spell_argument (map written_term (t ∷ ts))) ++ lexemes)
     in-parentheses-read t ts is all =
-        rw (append_assoc (the_text t) (after_commas (map the_text ts) ++ (41 ∷ [])) tail,
+        rw (
+          append_assoc (the_text t) (after_commas (map the_text ts) ++ (41 ∷ [])) tail,
           append_assoc (after_commas (map the_text ts)) (41 ∷ []) tail,
-          append_assoc (with_commas (spell_argument (written_term t) ∷ map spell_argument (map written_term ts))) (sign 41 ∷ []) lexemes)
+          append_assoc (with_commas (spell_argument (written_term t) ∷ map spell_argument (map written_term ts))) (sign 41 ∷ []) lexemes,
+        )
         (word-reads (40 ∷ []) (the_text t ++ (after_commas (map the_text ts) ++ (41 ∷ tail))) _ _ opening tt (commas-read t ts is all))
 
     -- a name and its arguments
@@ -208,33 +210,45 @@ module _ (names : NameLists) (params : ℕ) where
 
     spaced : (word : List ℕ) (words : List (List ℕ)) (lexeme : Lexeme) (lexemes : List Lexeme) → IsWord word lexeme
         → Spaced words lexemes → Spaced (word ∷ words) (lexeme ∷ lexemes)
-    spaced word words lexeme lexemes is more = record { reads = rw (append_assoc word (after_spaces words) tail)
-        (space-reads (word ++ (after_spaces words ++ tail)) lexeme lexemes
-        (word-before word (after_spaces words ++ tail) lexeme lexemes is (spaces-end words tail ends) more.reads)) }
+    spaced word words lexeme lexemes is more = record {
+      reads = rw (append_assoc word (after_spaces words) tail)
+          (space-reads (word ++ (after_spaces words ++ tail)) lexeme lexemes
+          (word-before word (after_spaces words ++ tail) lexeme lexemes is (spaces-end words tail ends) more.reads));
+    }
 
     spaced-atom : (atom : Atom) (words : List (List ℕ)) (lexemes : List Lexeme) → AtomHasText atom → Spaced words lexemes
         → Spaced (atom_text names (InBlock params) atom ∷ words) (spell_atom (written_atom atom) ++ lexemes)
-    spaced-atom atom words lexemes is more = record { reads =
-        rw (append_assoc (atom_text names (InBlock params) atom) (after_spaces words) tail)
-        (space-reads (atom_text names (InBlock params) atom ++ (after_spaces words ++ tail)) _ _
-        (atom-reads (after_spaces words ++ tail) lexemes more.reads atom is (spaces-end words tail ends))) }
+    spaced-atom atom words lexemes is more = record {
+      reads =
+          rw (append_assoc (atom_text names (InBlock params) atom) (after_spaces words) tail)
+          (space-reads (atom_text names (InBlock params) atom ++ (after_spaces words ++ tail)) _ _
+          (atom-reads (after_spaces words ++ tail) lexemes more.reads atom is (spaces-end words tail ends)));
+    }
 
     spaced-instance : (inst : OpInst) (words : List (List ℕ)) (lexemes : List Lexeme) → StepHasText inst → Spaced words lexemes
         → Spaced (instance_text names (InBlock params) inst ∷ words)
         (name (name_text names kind.Operator inst.op) ∷ (parenthesised (map spell_argument (map written_term inst.args)) ++ lexemes))
-    spaced-instance inst words lexemes is more = record { reads =
-        rw (append_assoc (name_text names kind.Operator inst.op ++ in_parentheses (map the_text inst.args)) (after_spaces words) tail,
-          append_assoc (name_text names kind.Operator inst.op) (in_parentheses (map the_text inst.args)) (after_spaces words ++ tail))
-        (space-reads (name_text names kind.Operator inst.op ++ (in_parentheses (map the_text inst.args) ++ (after_spaces words ++ tail))) _ _
-        (named-reads (after_spaces words ++ tail) lexemes more.reads (name_text names kind.Operator inst.op) inst.args is.operator is.arguments
-        (spaces-end words tail ends))) }
+    spaced-instance inst words lexemes is more = record {
+      reads =
+          rw (
+            append_assoc (name_text names kind.Operator inst.op ++ in_parentheses (map the_text inst.args)) (after_spaces words) tail,
+            append_assoc (name_text names kind.Operator inst.op) (in_parentheses (map the_text inst.args)) (after_spaces words ++ tail),
+          )
+          (space-reads
+          (name_text names kind.Operator inst.op ++ (in_parentheses (map the_text inst.args) ++ (after_spaces words ++ tail))) _ _
+          (named-reads (after_spaces words ++ tail) lexemes more.reads (name_text names kind.Operator inst.op) inst.args is.operator
+          is.arguments
+          (spaces-end words tail ends)));
+    }
 
     spaced-terms : (theta : List Term) (words : List (List ℕ)) (lexemes : List Lexeme) → AllByRecursion HasText theta
         → Spaced words lexemes → Spaced (terms_text names (InBlock params) theta ∷ words) (spell_terms (map written_term theta) ++ lexemes)
-    spaced-terms theta words lexemes is more = record { reads =
-        rw (append_assoc (terms_text names (InBlock params) theta) (after_spaces words) tail)
-        (space-reads (terms_text names (InBlock params) theta ++ (after_spaces words ++ tail)) _ _
-        (terms-read (after_spaces words ++ tail) lexemes more.reads theta is)) }
+    spaced-terms theta words lexemes is more = record {
+      reads =
+          rw (append_assoc (terms_text names (InBlock params) theta) (after_spaces words) tail)
+          (space-reads (terms_text names (InBlock params) theta ++ (after_spaces words ++ tail)) _ _
+          (terms-read (after_spaces words ++ tail) lexemes more.reads theta is));
+    }
 
     atoms-read : (atoms : List Atom) → AllByRecursion AtomHasText atoms → Spaced [] []
         → Spaced (map (atom_text names (InBlock params)) atoms) (flat_map spell_atom (map written_atom atoms))
@@ -264,9 +278,11 @@ module _ (names : NameLists) (params : ℕ) where
           → Spaced (all_proof_words names (InBlock params) ds ++ words) (flat_map spell_part (all_written_parts ds) ++ lexemes)
       proofs-read none words lexemes is more = more
       proofs-read (also d ds) words lexemes is more =
-          rw (append_assoc (proof_words names (InBlock params) d) (all_proof_words names (InBlock params) ds) words,
+          rw (
+            append_assoc (proof_words names (InBlock params) d) (all_proof_words names (InBlock params) ds) words,
             flat_map-append spell_part (written_parts d) (all_written_parts ds),
-            append_assoc (flat_map spell_part (written_parts d)) (flat_map spell_part (all_written_parts ds)) lexemes)
+            append_assoc (flat_map spell_part (written_parts d)) (flat_map spell_part (all_written_parts ds)) lexemes,
+          )
           (proof-read d (all_proof_words names (InBlock params) ds ++ words) _ is.0 (proofs-read ds words lexemes is.1 more))
 
   -- ---- the lines of a block, without what ends them
@@ -297,7 +313,8 @@ module _ (names : NameLists) (params : ℕ) where
   pub goal-line : (atoms : List Atom) → AllByRecursion AtomHasText atoms
       → Reads (line_bytes (codes "goal") (map (atom_text names (InBlock params)) atoms)) (spelling (written_goal atoms))
   goal-line atoms is = rw (append-nil (flat_map spell_atom (map written_atom atoms)))
-      (line-read (codes "goal") (map (atom_text names (InBlock params)) atoms) _ word_goal (atoms-read [] nothing-ends atoms is nothing-more))
+      (line-read (codes "goal") (map (atom_text names (InBlock params)) atoms) _ word_goal
+      (atoms-read [] nothing-ends atoms is nothing-more))
 
   pub proof-line : (row : List Derivation) → ProofsHaveText (derivations row)
       → Reads (line_bytes (codes "proof") (all_proof_words names (InBlock params) (derivations row))) (spelling (written_row row))

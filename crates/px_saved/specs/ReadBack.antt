@@ -51,5 +51,6 @@ IsShortName name = length name ≤ greatest 2 limit.NameBytes
 
 -- a table within the limits of a block, under a short name, is read back
 abbrev pub SavedIsReadBack : Type 0
-SavedIsReadBack = (problem : Problem) (names : NameLists) (number : ℕ) (table : Table) → AreNameLists names → HasName names kind.Result number
-    → IsShortName (name_text names kind.Result number) → IsSavedTable 2 problem table → ReplyIsReadBack problem names (Saved number table)
+SavedIsReadBack = (problem : Problem) (names : NameLists) (number : ℕ) (table : Table) → AreNameLists names
+    → HasName names kind.Result number → IsShortName (name_text names kind.Result number) → IsSavedTable 2 problem table
+    → ReplyIsReadBack problem names (Saved number table)
