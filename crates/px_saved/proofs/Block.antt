@@ -300,7 +300,7 @@ module _ (stage : Stage) (words : HasBlocks stage) (d : Declared) (rs : List (Li
       whole = ap not is;
     }
 
-    pub end-passes : Passes stage m at_end (chars (line_bytes names params (codes "end") [])) ended d name one rows
+    pub end-passes : Passes stage m at_end (chars (line_bytes names params (codes "end") [])) (ended d name one rows)
     end-passes = (
       spelling end,
       (end-line names params).lexes,
