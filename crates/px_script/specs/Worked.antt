@@ -23,7 +23,7 @@ IsTextRefused bytes line code limit = FirstFault stage_now bytes line (record { 
 
 -- the problem of a script that declares this many objects
 abbrev of_objects : ℕ → Problem
-of_objects n = problem_without_sorts n [] [] [] default_height default_nodes default_shapes
+of_objects n = problem_without_sorts n [] [] [] default_height (default_nodes 1) default_shapes
 
 -- what a script that declares nothing is about
 abbrev pub nothing : ScriptValue
@@ -164,7 +164,7 @@ pub record WorkedRefusals : Type 0 where
       ∷ (3, 7, codes "object a\npredicate P 1\nfact P(?x)")
       ∷ (3, 7, codes "object a\npredicate P 1\nplan " ++ long_name ++ codes " P($)") ∷ [])
   pub wide_predicate : IsTextRefused (codes "predicate P 7") 1 8 4
-  pub other_version : IsTextRefused (codes "script 3") 1 8 16
+  pub other_version : IsTextRefused (codes "script 4") 1 8 16
   -- sorts: in version 1, declared twice, not declared, late, and a second sort of a parameter
   pub of_sorts : AreRefused ((1, 3, codes "sort S a") ∷ (3, 5, codes "script 2\nsort S a\nsort S b")
       ∷ (3, 5, codes "script 2\nsort S a\nsort T a") ∷ (4, 4, codes "script 2\nsort S a\noperator O(x)\nparam T x")

@@ -1,5 +1,4 @@
--- Lines of version 2 that aren't built: those of tables and of commands. They are refused as not built once they stand right; and what else
--- they would be refused for, and what the lines of tables would leave.
+-- Lines of version 2 that aren't built. They are refused as not built once they stand right; and what else they would be refused for.
 use Rattle.std.specs.Prelude.{◌≡◌, ℕ, ◌+◌, true, false, List, [], ◌∷◌, ◌++◌, codes, fold, map, replicate, take, Option, None, Some}
 use Rattle.std.specs.Fmt.{decimal}
 use Rattle.std.specs.List.{AllByRecursion, range_with_len}
@@ -55,43 +54,30 @@ pursue_of xs = pursue (codes "K") xs
 abbrev six_from : ℕ → SignedAtom
 six_from letter = with_sign bare (codes "P") (map (λ k. open_variable ((letter + k) ∷ [])) (range_with_len 0 6))
 
--- ---- lines of commands that aren't built
+-- ---- lines of the command that isn't built
 pub record WorkedUnbuilt : Type 0 where
-  -- how they are written
-  pub saving : Spell (codes "save M") (save (codes "M"))
-  pub certifying : Spell (codes "certify M") (certify (codes "M"))
+  -- how it is written
   pub pursuing : Spell (codes "pursue K P(?x) Q")
       (pursue (codes "K") (with_sign bare (codes "P") (open_variable (codes "x") ∷ []) ∷ q ∷ []))
-  -- no words of version 1, and no such forms
-  pub new : Refuse 3 ((learned, codes "save M\ncertify M\npursue K Q") ∷ [])
-  pub no_form : Refuse 2 ((
-    learned_in_two,
-    codes "save\nsave M N\nsave 1\ncertify\ncertify M 1\npursue K\npursue P(a)\npursue K +Q",
-  ) ∷ [])
+  -- no word of version 1, and no such forms
+  pub new : Refuse 3 ((learned, codes "pursue K Q") ∷ [])
+  pub no_form : Refuse 2 ((learned_in_two, codes "pursue K\npursue P(a)\npursue K +Q") ∷ [])
   -- they stand wrong, or aren't built, whatever else is wrong with them
-  pub out_of_order : Refuse 9 ((codes "script 2\n" ++ in_operator, codes "save M\ncertify M\npursue K Q")
-      ∷ (codes "script 2\npredicate P 1", codes "pursue K P(?x)") ∷ [])
-  pub unbuilt : Refuse 11 ((
-    learned_in_two,
-    codes "save M\nsave L\ncertify N\npursue K P(?x)\npursue N R",
-  ) ∷ [])
-  -- If they were built: lines without a fault.
-  pub fit : WouldHave learned_in_two (λ d. d) None (save (codes "M") ∷ certify n
-      ∷ pursue_of (p_of (named (codes "a") ∷ []) ∷ p_of (open_variable (codes "x") ∷ []) ∷ []) ∷ [])
+  pub out_of_order : Refuse 9 ((codes "script 2\n" ++ in_operator, codes "pursue K Q") ∷ (codes "script 2\npredicate P 1", codes "pursue K P(?x)") ∷ [])
+  pub unbuilt : Refuse 11 ((learned_in_two, codes "pursue K P(?x)\npursue N R") ∷ [])
+  -- If it were built: lines without a fault.
+  pub fit : WouldHave learned_in_two (λ d. d) None (pursue_of (p_of (named (codes "a") ∷ []) ∷ p_of (open_variable (codes "x") ∷ []) ∷ []) ∷ [])
   -- unknown names, duplicates, wrong arities, and what may not stand in a goal
-  pub unknown : WouldHave small with_all_results (Some (coded 4)) (save (codes "L") ∷ certify (codes "L")
-      ∷ pursue_of (with_sign bare (codes "R") [] ∷ []) ∷ [])
+  pub unknown : WouldHave small with_all_results (Some (coded 4)) (pursue_of (with_sign bare (codes "R") [] ∷ []) ∷ [])
   pub known_result : WouldHave small with_all_results (Some (coded 5)) (pursue n (q ∷ []) ∷ [])
   pub arity : WouldHave small (λ d. d) (Some (coded 6)) (pursue_of (p_of [] ∷ []) ∷ [])
   pub unbound : WouldHave small (λ d. d) (Some (coded 7)) (pursue_of (p_of (anything ∷ []) ∷ []) ∷ [])
   -- limits, and the least of those that are passed
-  pub long_names : WouldHave learned_in_two (λ d. d) (Some (limited 1))
-      (pursue long_name (replicate 17 q) ∷ [])
+  pub long_names : WouldHave learned_in_two (λ d. d) (Some (limited 1)) (pursue long_name (replicate 17 q) ∷ [])
   pub many_variables : WouldHave (codes "object a\npredicate P 6\npredicate Q 0") (λ d. d) (Some (limited 7))
       (pursue_of (six_from 97 ∷ six_from 102 ∷ six_from 108 ∷ replicate 14 q) ∷ [])
   pub many_atoms : WouldHave learned_in_two (commands 1024) (Some (limited 12)) (pursue_of (replicate 17 q) ∷ [])
-  pub many_commands : WouldHave learned_in_two (commands 1024) (Some (limited 13))
-      (save (codes "M") ∷ certify (codes "M") ∷ pursue_of (q ∷ []) ∷ [])
+  pub many_commands : WouldHave learned_in_two (commands 1024) (Some (limited 13)) (pursue_of (q ∷ []) ∷ [])
 
 -- ---- what else version 2 has
 pub record WorkedLater : Type 0 where

@@ -1,4 +1,4 @@
--- Blocks of tables: how their lines are written, what they leave, and what they are refused for.
+-- Blocks of tables, and the commands that print them: how their lines are written, what they leave, and what they are refused for.
 use Rattle.std.specs.Prelude.{◌≡◌, ℕ, true, false, List, [], ◌∷◌, ◌++◌, codes, length, map, replicate, None}
 use Rattle.std.specs.Fmt.{decimal}
 use Rattle.px_proof.specs.Derivation as derivation
@@ -8,9 +8,10 @@ use Rattle.px_table.specs.Tables.{empty_table}
 use Rattle.px_table.specs.declared.table.Table.{Table}
 use Rattle.px_script.specs.Common.{Var}
 use Rattle.px_script.specs.Items.{Argument, SignedAtom, named, open_variable, bare, a_fact, an_ancestor, an_axiom, are_proofs}
-use Rattle.px_script.specs.Statements.{table, step, goal, proof}
+use Rattle.px_script.specs.Statements.{table, step, goal, proof, save, certify}
+use Rattle.px_script.specs.Commands.{Plan, Learn, Show, Save, Certify, Run, Duo, Edit}
 use Rattle.px_script.specs.Declarations.{Declared}
-use Rattle.px_script.specs.WorkedLines.{Exceed, Fit, Leave, LeaveBoth, Refuse, RefuseWhere, Spell, closed_building, in_operator, numbered, q, small, times, with_sign}
+use Rattle.px_script.specs.WorkedLines.{Exceed, Fit, Leave, LeaveBoth, Refuse, RefuseWhere, Spell, closed_building, in_operator, numbered, q, commands, learned, learned_in_two, small, times, with_sign}
 
 abbrev p : ℕ → Argument
 p k = open_variable (112 ∷ decimal k)
@@ -73,7 +74,7 @@ pub record WorkedTables : Type 0 where
   pub rows : Leave (with_axiom ++ codes "\nproof s 0 1 1 (?p1) f 0 0 P(?p1)\nend") (λ d. map (λ (one : ℕ × Table). one.1.proofs) d.saved)
       (((proof_of (derivation.step 0 (Var 0 ∷ []) 1
       (also (derivation.fact (record { column = 0; index = 0; atom = numbered 0 (Var 0 ∷ []) })) none)) ∷ []) ∷ []) ∷ [])
-  pub variables : Leave (codes "script 2\nobject a\npredicate P 1\ntable T 1\ngoal P(?g2) P(?p1)\nproof f 0 0 P(?p1) f 0 0 P(a)\nend")
+  pub variables : Leave (codes "script 2\nobject a\npredicate P 1\ntable T 1\ngoal P(?g2) P(?p1)\nproof f 0 0 P(a) f 0 0 P(?p1)\nend")
       (λ d. map (λ (one : ℕ × Table). one.1.goal_vars) d.saved) (2 ∷ [])
   pub closed : LeaveBoth (all_rows ++ codes "\nend") (λ d. d.block) None (λ d. d.roles.tables) (codes "M" ∷ [])
   pub in_a_building : Leave (codes "script 2\n" ++ closed_building ++ codes "\ntable T 0\ngoal ROOM(R1)\nproof f 0 0 ROOM(R1)\nend")
@@ -118,3 +119,22 @@ pub record WorkedTables : Type 0 where
   pub many_tables : RefuseWhere danger (tables 32) 8 18 (codes "table M 2")
   pub many_steps : Exceed ((19, opened ++ times 64 (codes "\nstep A(?p1)"), codes "step A(?p1)") ∷ [])
   pub high_proofs : Exceed ((20, aimed, codes "proof" ++ chain 56 ++ codes "\nproof f 0 0 P(?p1)" ++ chain 56) ∷ [])
+
+-- ---- lines of commands that print tables
+
+pub record WorkedSaves : Type 0 where
+  -- how they are written, and what they leave
+  pub saving : Spell (codes "save M") (save (codes "M"))
+  pub certifying : Spell (codes "certify M") (certify (codes "M"))
+  pub saves : Leave (learned_in_two ++ codes "\nsave M\ncertify N") (λ d. d.commands)
+      (Plan 0 (numbered 1 [] ∷ []) 0 ∷ Learn 1 0 ∷ Save 1 ∷ Certify 0 ∷ [])
+  pub of_blocks : Leave (all_rows ++ codes "\nend\nsave M\nshow M\nrun M p1=a\nduo M M 1\nedit E from M 1 1=0") (λ d. d.commands)
+      (Save 0 ∷ Show 0 ∷ Run 0 ((1, 0) ∷ []) ∷ Duo 0 0 (1 ∷ []) ∷ Edit 1 0 1 ((1, 0) ∷ []) ∷ [])
+  pub keep_disturbs : Leave (learned_in_two ++ codes "\ndisturb 1 before +Q\nsave N\ncertify N") (λ d. d.disturbs) 1
+  -- no words of version 1, no such forms, and not in a block
+  pub new_commands : Refuse 3 ((learned, codes "save M\ncertify M") ∷ [])
+  pub without_form : Refuse 2 ((learned_in_two, codes "save\nsave M N\nsave 1\ncertify\ncertify M 1") ∷ [])
+  pub in_blocks : Refuse 9 ((codes "script 2\n" ++ in_operator, codes "save M\ncertify M") ∷ (all_rows, codes "save M") ∷ [])
+  -- unknown names; a table that was read isn't learned from
+  pub unknown_tables : Refuse 4 ((learned_in_two, codes "save L\ncertify L") ∷ (all_rows ++ codes "\nend", codes "learn L from M") ∷ [])
+  pub many_commands : RefuseWhere learned_in_two (commands 1024) 8 13 (codes "save M\ncertify M")
