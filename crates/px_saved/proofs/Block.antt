@@ -13,9 +13,10 @@ use Rattle.px_script.specs.Common.{OpInst}
 use Rattle.px_script.specs.Declarations.{of_table_rows, problem_here, table_variables, goal_variables}
 use Rattle.px_script.specs.Faults.{heights_of, highest}
 use Rattle.px_script.specs.declared.kinds.Manner.TheVariants.{TableTerms as table_terms, TableGoals as table_goals}
+use Rattle.px_script.specs.Limits.{words_of_all, words_of_three, words_of_two}
 use Rattle.px_script.specs.Items.{atoms_of_part, terms_of_part}
 use Rattle.px_script.specs.Ranges.{last_goal_variable}
-use Rattle.px_script.proofs.Common.{◌≡◌, ℕ, zero, suc, ◌+◌, ◌<◌, ◌≤◌, Bool, true, false, not, ◌||◌, List, [], ◌∷◌, ◌++◌, map, length, refl, sym, ap, ◌∙◌, subst, arith, append_assoc, append-nil, Option, None, Some, All, AllByRecursion, codes, decimal, nat_lt, nat_tests, flat_map, list_any, is_empty, has_name, bytes_eq, bytes_eq-itself, NameLists, Statement, table, step, goal, proof, end, line_of, is_word, is_formed, Declared, BlockKind, Stage, is_built, fault_at, Passes, PassAll, Atom, Problem, is_variable, spelling, Argument, SignedAtom, Part, atom_of, length-map}
+use Rattle.px_script.proofs.Common.{◌≡◌, ℕ, zero, suc, ◌+◌, ◌<◌, ◌≤◌, Bool, true, false, not, ◌||◌, List, [], ◌∷◌, ◌++◌, map, length, refl, sym, ap, ◌∙◌, subst, arith, append_assoc, append-nil, Option, None, Some, All, AllByRecursion, codes, decimal, nat_lt, nat_tests, flat_map, list_any, is_empty, has_name, bytes_eq, bytes_eq-itself, NameLists, Statement, table, step, goal, proof, end, line_of, is_word, nat_le, if◌then◌else◌, is_formed, Declared, BlockKind, Stage, is_built, fault_at, Passes, PassAll, Atom, Problem, is_variable, spelling, Argument, SignedAtom, Part, atom_of, length-map}
 use Rattle.px_saved.proofs.Written.{written_term, written_atom, written_step, written_goal, written_row, all_written_parts, line_bytes, table-line, step-line, goal-line, proof-line, end-line, IsText}
 use Rattle.px_saved.proofs.Words.{Reads}
 use Rattle.px_saved.proofs.Fits.{AtomFits, StepFits, ProofsFit}
@@ -51,8 +52,12 @@ module _ (stage : Stage) (words : HasBlocks stage) (d : Declared) (rs : List (Li
   abbrev problem : Problem
   problem = problem_here d
 
-  is-word : (w : List ℕ) → is_word 2 w ≡ true → is_word d.version w ≡ true
-  is-word w is = subst (λ v. is_word v w ≡ true) (sym g.version) is
+  -- a word of version 2 is one of each later version
+  is-word : (w : List ℕ) → ((later : List (List ℕ)) → list_any (bytes_eq w) (words_of_all ++ (words_of_two ++ later)) ≡ true)
+      → is_word d.version w ≡ true
+  is-word w is = let two : nat_le 2 d.version ≡ true = grind (arith, nat_tests, g.version) in
+      let later = if nat_le 3 d.version then words_of_three else [] in
+      subst (λ b. list_any (bytes_eq w) (words_of_all ++ ((if b then words_of_two else []) ++ later)) ≡ true) (sym two) (is later)
 
   -- ---- the first line
 
@@ -77,7 +82,7 @@ module _ (stage : Stage) (words : HasBlocks stage) (d : Declared) (rs : List (Li
       (table-line names params name is_text (omega (arith, few))).lexes,
       (
         table name params,
-        (refl, rw (is-word (codes "table") refl) refl),
+        (refl, rw (is-word (codes "table") (λ later. refl)) refl),
         clean-line stage d (table name params) table-clean,
         sym (λ i. record (inside d name n (of_steps d one [])) { own_domain = or-false d.own_domain i }),
       ),
@@ -119,7 +124,7 @@ module _ (stage : Stage) (words : HasBlocks stage) (d : Declared) (rs : List (Li
           (ground.step-text d rs name params g few n (of_steps d one so_far) (refl, refl) inst fits)).lexes,
       (
         written_step names params inst,
-        (refl, rw (is-word (codes "step") refl) refl),
+        (refl, rw (is-word (codes "step") (λ later. refl)) refl),
         clean-line stage x (written_step names params inst) step-clean,
         sym (λ i. record (inside d name n (of_steps d one (so_far ++ ground.step-read d rs name params g few
             n (of_steps d one so_far) (refl, refl) inst fits i ∷ []))) { own_domain = or-false d.own_domain i }),
@@ -187,7 +192,7 @@ module _ (stage : Stage) (words : HasBlocks stage) (d : Declared) (rs : List (Li
           (refl, refl) (params + one.goal_vars) (omega (arith, few_variables)) one.goal fits)).lexes,
       (
         written_goal names params one.goal,
-        (refl, rw (is-word (codes "goal") refl, some-atoms one.goal some, atoms-signed at_goal table_goals all_atoms good-all) refl),
+        (refl, rw (is-word (codes "goal") (λ later. refl), some-atoms one.goal some, atoms-signed at_goal table_goals all_atoms good-all) refl),
         clean-line stage at_goal (written_goal names params one.goal) goal-clean,
         sym (λ i. record (inside d name n (of_table_rows (record (written d one []) { goal = goal-is i; goal_vars = vars-are i })))
             { own_domain = or-false d.own_domain i }),
@@ -269,7 +274,7 @@ module _ (stage : Stage) (words : HasBlocks stage) (d : Declared) (rs : List (Li
         (
           refl,
           rw (
-            is-word (codes "proof") refl,
+            is-word (codes "proof") (λ later. refl),
             row-whole names params row fine.whole,
             atoms-signed at_row table_terms (row_atoms ++ []) row-all,
           ) refl,
@@ -306,7 +311,7 @@ module _ (stage : Stage) (words : HasBlocks stage) (d : Declared) (rs : List (Li
       (end-line names params).lexes,
       (
         end,
-        (refl, rw (is-word (codes "end") refl) refl),
+        (refl, rw (is-word (codes "end") (λ later. refl)) refl),
         clean-line stage at_end end end-clean,
         sym (λ i. record (ended d name one rows) {
           schemas = append-nil d.schemas i;

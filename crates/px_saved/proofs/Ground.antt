@@ -28,9 +28,9 @@ use Rattle.px_saved.proofs.Clean.{IsGood, IsGoodAtom, all-both, none-any}
 abbrev pub AreTexts : List (List ℕ) → Type 0
 AreTexts names = (n : ℕ) → n < length names → IsText (unwrap_or (slice_get names n) [])
 
--- What the lines before the block leave: they are of version 2, without commands, with no block open, and each number has its name.
+-- What the lines before the block leave: they are of version 2 or later, without commands, with no block open, and each number has its name.
 pub record IsGround (d : Declared) : Type 0 where
-  pub version : d.version ≡ 2
+  pub version : 2 ≤ d.version
   pub commands : is_empty d.commands ≡ true
   pub closed : d.block ≡ None
   pub valid : IsValid (problem_here d)

@@ -56,7 +56,7 @@ texts-of kind names are n below = subst (λ (o : Option (List ℕ)). IsText (unw
 none-is-empty : {A : Type 0} (xs : List A) → xs ≡ [] → is_empty xs ≡ true
 none-is-empty xs e = ap is_empty e
 
-module _ (d : Declared) (r : AreInRange d) (range : IsInRange (content_of d)) (closed : d.block ≡ None) (version : d.version ≡ 2)
+module _ (d : Declared) (r : AreInRange d) (range : IsInRange (content_of d)) (closed : d.block ≡ None) (version : 2 ≤ d.version)
     (commands : d.commands ≡ []) (objects_text : AreTexts d.names.objects) (predicates_text : AreTexts d.names.predicates)
     (operators_text : AreTexts d.names.operators) where
   arities-are : d.arities ≡ (problem_here d).arities
@@ -77,7 +77,7 @@ module _ (d : Declared) (r : AreInRange d) (range : IsInRange (content_of d)) (c
     predicates = range.problem.predicates;
     operators = sym range.operators;
     arities = arities-are;
-    short_lists = subst (λ v. All (ranges.HasShortLists v) (problem_here d).schemas) version range.problem.short_lists;
+    short_lists = range.problem.short_lists;
     objects_apart = range.names.objects.distinct;
     predicates_apart = range.names.predicates.distinct;
     operators_apart = range.names.operators.distinct;

@@ -15,10 +15,10 @@ use Rattle.px_script.specs.declared.limits.Limit.TheVariants as limit
 use Rattle.px_table.specs.declared.table.Table.{Table}
 use Rattle.px_terms.specs.declared.problem.Problem.{Problem}
 
--- The script is of version 2 and has no command. Its problem is this one, and so are its names of objects, predicates and operators. It has
--- room for one more table, and no result of the name.
+-- The script is of version 2 or a later one and has no command. Its problem is this one, and so are its names of objects, predicates and
+-- operators. It has room for one more table, and no result of the name.
 pub record IsReadyFor (problem : Problem) (names : NameLists) (name : List ℕ) (script : ScriptValue) : Type 0 where
-  pub version : script.version ≡ 2
+  pub version : 2 ≤ script.version
   pub commands : script.commands ≡ []
   pub problem_is : script.problem ≡ problem
   pub objects : script.names.objects ≡ names.objects

@@ -2,8 +2,8 @@
 //!
 //! # Calling it
 //!
-//! - `specs/ReadBack` says it of bytes. Let bytes that end with a line feed be a script of version 2 that has no command, has this problem
-//!   and these names of objects, predicates and operators, has fewer than 32 tables, and has no result of the table's name
+//! - `specs/ReadBack` says it of bytes. Let bytes that end with a line feed be a script of version 2, or a later one, that has no command,
+//!   has this problem and these names of objects, predicates and operators, has fewer than 32 tables, and has no result of the table's name
 //!   (`IsReadyFor`). Then these bytes followed by the text are the same script with that name and table last (`IsReadBack`). For a reply it
 //!   is `ReplyIsReadBack`, which says nothing of replies that save no table.
 //! - [`saved_is_read_back`] has it of each table within the limits of a block (`IsSavedTable` of px_script, which also asks that the
