@@ -1,11 +1,9 @@
 -- Each line of a table's block has no fault, and after its end the table is the one that was printed.
 use Rattle.std.specs.Str.{chars}
-use Rattle.px_names.specs.declared.kind.Kind.TheVariants as kind
-use Rattle.px_printer.specs.Texts.{name_text, atom_text, instance_text}
+use Rattle.px_printer.specs.Texts.{atom_text, instance_text}
 use Rattle.px_printer.specs.Blocks.{all_proof_words}
 use Rattle.px_printer.specs.declared.spelling.Spelling.TheVariants.{InBlock}
 use Rattle.px_proof.specs.Derivation.{Derivation, derivations, height}
-use Rattle.px_proof.specs.LayerLaws.{proof_of}
 use Rattle.px_table.specs.declared.table.Table.{Table}
 use Rattle.px_table.specs.Deciding.{rows_are_table}
 use Rattle.px_table.specs.WellSorted.{sorts_by_places}
@@ -16,9 +14,8 @@ use Rattle.px_script.specs.declared.kinds.Manner.TheVariants.{TableTerms as tabl
 use Rattle.px_script.specs.Limits.{words_of_all, words_of_three, words_of_two}
 use Rattle.px_script.specs.Items.{atoms_of_part, terms_of_part}
 use Rattle.px_script.specs.Ranges.{last_goal_variable}
-use Rattle.px_script.proofs.Common.{◌≡◌, ℕ, zero, suc, ◌+◌, ◌<◌, ◌≤◌, Bool, true, false, not, ◌||◌, List, [], ◌∷◌, ◌++◌, map, length, refl, sym, ap, ◌∙◌, subst, arith, append_assoc, append-nil, Option, None, Some, All, AllByRecursion, codes, decimal, nat_lt, nat_tests, flat_map, list_any, is_empty, has_name, bytes_eq, bytes_eq-itself, NameLists, Statement, table, step, goal, proof, end, line_of, is_word, nat_le, if◌then◌else◌, is_formed, Declared, BlockKind, Stage, is_built, fault_at, Passes, PassAll, Atom, Problem, is_variable, spelling, Argument, SignedAtom, Part, atom_of, length-map}
+use Rattle.px_script.proofs.Common.{◌≡◌, ℕ, ◌+◌, ◌≤◌, Bool, true, false, not, ◌||◌, List, [], ◌∷◌, ◌++◌, map, length, refl, sym, ap, ◌∙◌, subst, arith, append-nil, All, AllByRecursion, codes, decimal, nat_lt, nat_tests, flat_map, list_any, is_empty, has_name, bytes_eq, bytes_eq-itself, NameLists, table, end, is_word, nat_le, if◌then◌else◌, Declared, Stage, is_built, Passes, Atom, Problem, spelling, Argument, SignedAtom, Part, atom_of, length-map}
 use Rattle.px_saved.proofs.Written.{written_term, written_atom, written_step, written_goal, written_row, all_written_parts, line_bytes, table-line, step-line, goal-line, proof-line, end-line, IsText}
-use Rattle.px_saved.proofs.Words.{Reads}
 use Rattle.px_saved.proofs.Fits.{AtomFits, StepFits, ProofsFit}
 use Rattle.px_saved.proofs.Parts.{row-back, row-low, row-whole}
 use Rattle.px_saved.proofs.Between.{ended, inside, of_rows, of_steps, written}

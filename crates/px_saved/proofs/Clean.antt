@@ -1,8 +1,7 @@
 -- A line of which no cause to refuse it is there has no fault; and what its atoms and arguments have to be so that none is there.
 use Rattle.px_script.specs.Faults as faults
 use Rattle.px_script.specs.Faults.{causes_with}
-use Rattle.px_script.specs.Forms.{line_atoms, arguments_of}
-use Rattle.px_script.proofs.Common.{◌≡◌, ℕ, ◌==◌, Bool, true, false, not, ◌&&◌, ◌||◌, List, [], ◌∷◌, ◌++◌, map, length, refl, sym, ap, ◌∙◌, subst, Option, None, Some, AllByRecursion, append-nil, slice_index, list_any, list_all, flat_map, and_parts, is_empty, has_name, Argument, SignedAtom, is_variable, Statement, Line, line_of, Declared, number_in, is_known_argument, takes, is_signed, is_out_of_order, has_unknown_name, has_duplicate, has_wrong_arity, is_unbound, is_unbuilt, is_bad_table, Stage, fault_at, first_of, passed, Refusal, coded}
+use Rattle.px_script.proofs.Common.{◌≡◌, ℕ, ◌==◌, Bool, true, false, not, ◌&&◌, ◌||◌, List, [], ◌∷◌, ◌++◌, map, length, refl, ap, ◌∙◌, None, AllByRecursion, slice_index, list_any, list_all, flat_map, is_empty, has_name, Argument, SignedAtom, is_variable, Statement, line_of, Declared, number_in, is_known_argument, takes, is_signed, is_out_of_order, has_unknown_name, has_duplicate, has_wrong_arity, is_unbound, is_unbuilt, is_bad_table, Stage, fault_at, first_of, passed, Refusal, coded}
 use Rattle.px_script.specs.declared.kinds.Manner.{Manner}
 use Rattle.px_script.proofs.Lists.{by_test}
 

@@ -1,5 +1,4 @@
 -- The numbers of a table are those of its problem, and small; and where the problem has no objects, no terms stand in its rows.
-use Rattle.std.specs.List.{AllZip}
 use Rattle.std.proofs.lemmas.List.{get_or_past}
 use Rattle.px_base.specs.Answers.{some_same}
 use Rattle.px_base.specs.ListLaws.{Contains-first, Contains-later}
@@ -8,15 +7,14 @@ use Rattle.px_proof.specs.declared.proof.Leaf.{Leaf}
 use Rattle.px_proof.specs.Derivation.{Derivation, Derivations, fact, ancestor, gap, open_place, none, also, derivations, height, greatest_height, leaves_of, all_leaves_of, leaf_atoms}
 use Rattle.px_proof.specs.Derivation as derivation
 use Rattle.px_proof.specs.Literals.{complement_of, positive_of, substitute_literal}
-use Rattle.px_proof.specs.PlaceLaws.{length-remove, slice_get-within, All-front, All-back, All-got, Contains-mapped}
+use Rattle.px_proof.specs.PlaceLaws.{length-remove, slice_get-within, All-front, All-back, Contains-mapped}
 use Rattle.px_proof.specs.Proves.{IsObjectOrParameter, Proves, ProvesEach, from_atoms, instance_of, parts_of}
 use Rattle.px_printer.specs.Blocks.{count_of}
 use Rattle.px_table.specs.declared.mark.Mark.{Mark}
-use Rattle.px_table.specs.Marks.{IsNamed, mark_eq, mark_of, marks_from, row_leaves, row_marks, step_at}
-use Rattle.px_table.specs.MarkLaws.{mark_eq-decides, all_leaves-row}
+use Rattle.px_table.specs.Marks.{IsNamed, mark_eq, mark_of, marks_from, row_leaves, row_marks}
+use Rattle.px_table.specs.MarkLaws.{mark_eq-decides}
 use Rattle.px_table.specs.OnceLaws.{Contains-each_once}
-use Rattle.px_table.specs.Supports.{IsProofOf, ProvesEachOf, ProvesGoal, RowsProve, variables}
-use Rattle.px_table.specs.Tables.{IsStepOf}
+use Rattle.px_table.specs.Supports.{ProvesEachOf, RowsProve, variables}
 use Rattle.px_terms.specs.declared.clause.Clause.{Clause}
 use Rattle.px_terms.specs.declared.clause.Lit.{Lit}
 use Rattle.px_terms.specs.Operators.{adds, precondition, schema_of, no_schema}
@@ -27,7 +25,7 @@ use Rattle.px_terms.specs.Validity.{HasArity, IsAtomOf, IsTermOf, IsValid, IsAxi
 use Rattle.px_terms.specs.Clauses.{IsClause}
 use Rattle.px_script.specs.Common.{OpInst, Schema}
 use Rattle.px_script.specs.Ranges.{HasShortLists}
-use Rattle.px_script.proofs.Common.{◌≡◌, ℕ, zero, suc, ◌+◌, ◌<◌, ◌≤◌, List, [], ◌∷◌, ◌++◌, map, length, refl, sym, ap, ◌∙◌, subst, inl, inr, arith, Some, All, AllByRecursion, Contains, slice_get, slice_index_or, flat_map, take, drop, length-map, cases_lt, All-head, All-tail, All-at, All-each, All-map, All-nil, All-cons, append-nil, append_assoc, Term, Obj, Var, Any, Atom, Problem}
+use Rattle.px_script.proofs.Common.{◌≡◌, ℕ, zero, suc, ◌+◌, ◌<◌, ◌≤◌, List, [], ◌∷◌, ◌++◌, map, length, refl, sym, ap, ◌∙◌, subst, inl, inr, arith, Some, All, AllByRecursion, Contains, slice_get, take, drop, length-map, cases_lt, All-head, All-tail, All-at, All-each, All-map, Term, Obj, Var, Any, Atom, Problem}
 
 -- what all have, item by item
 pub by-recursion : {A : Type 0} (P : A → Type 0) (xs : List A) → All P xs → AllByRecursion P xs

@@ -1,28 +1,26 @@
 -- Terms, atoms and proofs of a table, as a line of its block says them: each is spelled, is read back, and no cause to refuse it is there.
-use Rattle.std.specs.Prelude.{◌-◌, ◌^◌, max}
+use Rattle.std.specs.Prelude.{◌-◌, max}
 use Rattle.px_names.specs.declared.kind.Kind.TheVariants as kind
 use Rattle.px_printer.specs.Texts.{name_text}
 use Rattle.px_printer.specs.Blocks.{count_of}
-use Rattle.px_proof.specs.declared.proof.Leaf.{Leaf}
 use Rattle.px_proof.specs.Derivation.{Derivation, Derivations, fact, ancestor, gap, open_place, none, also, derivations}
 use Rattle.px_proof.specs.Derivation as derivation
-use Rattle.px_table.specs.declared.table.Table.{Table}
-use Rattle.px_terms.specs.Validity.{IsTermOf, HasArity, IsValid}
+use Rattle.px_terms.specs.Validity.{HasArity, IsValid}
 use Rattle.px_script.specs.Causes.{is_numbered_by}
 use Rattle.px_script.specs.Common.{OpInst}
 use Rattle.px_script.specs.Declarations.{problem_here, letter_numbers, table_variables, table_term, operator_in, table_parameters, goal_number, goal_variables, instance_of_step}
 use Rattle.px_script.specs.Faults.{numbers_of_part}
 use Rattle.px_script.specs.Items.{atoms_of_part, terms_of_part}
-use Rattle.px_script.specs.Ranges.{goal_place, last_goal_variable}
-use Rattle.px_script.proofs.Common.{◌≡◌, ℕ, zero, suc, ◌+◌, ◌<◌, ◌≤◌, ◌==◌, Bool, true, false, not, ◌||◌, List, [], ◌∷◌, ◌++◌, map, length, refl, sym, ap, ◌∙◌, subst, inl, inr, arith, Option, None, Some, All, AllByRecursion, fold, is_some, slice_get, map-append, length-map, slice_index, position, unwrap_or, list_any, flat_map, nat_lt, nat_tests, bytes_eq, or_right, or_parts, both_answers, decimal, is_empty, has_name, AreDistinct, HasShortLists, NameLists, Argument, SignedAtom, Part, a_fact, an_ancestor, an_axiom, named, open_variable, anything, is_signed, Declared, OpenBlock, BlockKind, OpenOperator, parameters_of, number_in, atom_of, term_of, Problem, Term, Obj, Var, Any, Atom}
+use Rattle.px_script.specs.Ranges.{goal_place}
+use Rattle.px_script.proofs.Common.{◌≡◌, ℕ, ◌+◌, ◌<◌, ◌≤◌, ◌==◌, true, false, ◌||◌, List, [], ◌∷◌, ◌++◌, map, length, refl, sym, ap, ◌∙◌, subst, arith, Option, None, Some, All, AllByRecursion, fold, slice_get, map-append, length-map, slice_index, unwrap_or, list_any, flat_map, nat_lt, nat_tests, or_right, is_empty, has_name, AreDistinct, HasShortLists, NameLists, Part, a_fact, an_ancestor, an_axiom, Declared, BlockKind, parameters_of, number_in, atom_of, term_of, Problem, Term, Obj, Var, Any, Atom}
 use Rattle.px_script.specs.declared.kinds.Manner.TheVariants.{TableTerms as table_terms, TableGoals as table_goals}
-use Rattle.px_script.proofs.Lists.{by_test, some-position}
+use Rattle.px_script.proofs.Lists.{by_test}
 use Rattle.px_saved.proofs.Between.{inside}
 use Rattle.px_saved.proofs.Written.{IsText, HasText, AtomHasText, StepHasText, ProofHasText, ProofsHaveText, written_term, written_atom, written_variable, written_parts, all_written_parts}
 use Rattle.px_saved.proofs.Numbers.{number-back, name-known, is-numbered, terms-back, own-position, other-position, IsSpelled}
 use Rattle.px_saved.proofs.Fits.{TermFits, AtomFits, StepFits, ProofFits, ProofsFit}
 use Rattle.px_saved.proofs.Parts.{ProofReads, ProofsRead, IsWhole, AreWhole}
-use Rattle.px_saved.proofs.Clean.{IsGood, IsGoodAtom, all-both, none-any}
+use Rattle.px_saved.proofs.Clean.{IsGood, IsGoodAtom, all-both}
 
 -- each name of the list is a text of a name
 abbrev pub AreTexts : List (List ℕ) → Type 0

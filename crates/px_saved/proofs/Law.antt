@@ -7,20 +7,19 @@ use Rattle.px_names.specs.Lists.{AreNameLists, AreNames}
 use Rattle.px_names.specs.NameLaws.{has_name-decides}
 use Rattle.px_names.specs.declared.kind.Kind.{Kind}
 use Rattle.px_names.specs.declared.kind.Kind.TheVariants as kind
-use Rattle.px_printer.specs.Blocks.{block_text, all_proof_words}
-use Rattle.px_printer.specs.Texts.{HasName, name_text, atom_text, instance_text}
-use Rattle.px_printer.specs.declared.spelling.Spelling.TheVariants.{InBlock}
+use Rattle.px_printer.specs.Blocks.{block_text}
+use Rattle.px_printer.specs.Texts.{HasName, name_text}
 use Rattle.px_proof.specs.Derivation.{Derivation, derivations, height}
 use Rattle.px_proof.specs.LayerLaws.{comes_back, proof_of}
 use Rattle.px_proof.specs.ProofTerm.{derivation_of}
 use Rattle.px_proof.specs.declared.proof.Proof.{Proof}
 use Rattle.px_table.proofs.DecidingLaws.{tables_are_decided}
 use Rattle.px_table.specs.declared.table.Table.{Table}
-use Rattle.px_table.specs.Deciding.{rows_are_table, is_table}
+use Rattle.px_table.specs.Deciding.{rows_are_table}
 use Rattle.px_table.specs.Marks.{marks_from, IsNamed}
 use Rattle.px_table.specs.Tables.{IsTable, IsStepOf, rows_of}
 use Rattle.px_table.specs.WellSorted.{sorts_by_places}
-use Rattle.px_terms.specs.Operators.{schema_of, no_schema}
+use Rattle.px_terms.specs.Operators.{no_schema}
 use Rattle.px_terms.specs.Validity.{IsValid, IsAtomOf}
 use Rattle.px_script.specs.Common.{OpInst}
 use Rattle.px_script.specs.Content.{content_of}
@@ -28,7 +27,7 @@ use Rattle.px_script.specs.Declarations.{problem_here, problem_of, table_made}
 use Rattle.px_script.specs.Stages.{stage_now}
 use Rattle.px_script.specs.Ranges.{IsSavedTable, IsInRange}
 use Rattle.px_script.specs.Scripts.{IsScript, Spells}
-use Rattle.px_script.proofs.Common.{◌≡◌, ℕ, zero, suc, ◌+◌, ◌<◌, ◌≤◌, Bool, true, false, not, ◌&&◌, List, [], ◌∷◌, ◌++◌, map, length, get_or, refl, sym, ap, ◌∙◌, subst, inl, inr, arith, append_assoc, append-nil, Option, None, Some, All, AllByRecursion, and_parts, codes, slice_get, unwrap_or, flat_map, is_empty, has_name, both_answers, map-append, IsUtf8, NameLists, AreDistinct, Declared, ScriptValue, Stage, PassAll, Atom, Problem, Term, cases_lt, IfSome, predicate_arities, nothing_declared, lines_of, decimal, own_problem, Thing, Passes, length-append, Lexeme}
+use Rattle.px_script.proofs.Common.{◌≡◌, ℕ, ◌+◌, ◌<◌, ◌≤◌, true, false, List, [], ◌∷◌, ◌++◌, map, length, refl, sym, ap, ◌∙◌, subst, inl, inr, arith, append_assoc, append-nil, Option, None, Some, All, AllByRecursion, and_parts, unwrap_or, flat_map, is_empty, has_name, IsUtf8, NameLists, Declared, Stage, PassAll, Atom, Problem, Term, cases_lt, IfSome, nothing_declared, lines_of, own_problem, Thing, Passes, length-append, Lexeme}
 use Rattle.px_script.proofs.Kept.{declared-in-range, lines-kept, start-in-range}
 use Rattle.px_script.proofs.Lists.{by_test}
 use Rattle.px_script.proofs.States.{AreInRange, IsBegun}

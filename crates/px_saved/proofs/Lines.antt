@@ -5,7 +5,7 @@ use Rattle.std.specs.Str.{chars}
 use Rattle.std.proofs.lemmas.List.Splits.{length-slice_split, slice_split_at}
 use Rattle.std.proofs.lemmas.Str.{chars-nil}
 use Rattle.px_script.specs.Lines.{mark, without_mark, without_return}
-use Rattle.px_script.proofs.Common.{◌≡◌, ℕ, zero, suc, ◌+◌, ◌<◌, ◌==◌, Bool, true, false, cond, ◌&&◌, not, List, [], ◌∷◌, ◌++◌, map, length, get_or, take, drop, refl, sym, ap, ◌∙◌, subst, arith, append_assoc, map-append, flat_map, list_all, All, AllByRecursion, All-from_recursion, slice_index, bytes_eq, and_parts, not-true, not-false, if◌then◌else◌, lines_of, Lexeme, Lexes, IsIgnored, Declared, nothing_declared, Stage, Passes, PassAll}
+use Rattle.px_script.proofs.Common.{◌≡◌, ℕ, zero, suc, ◌+◌, ◌<◌, ◌==◌, Bool, true, false, not, List, [], ◌∷◌, ◌++◌, map, length, take, drop, refl, sym, ap, ◌∙◌, subst, arith, append_assoc, map-append, flat_map, list_all, AllByRecursion, All-from_recursion, slice_index, bytes_eq, and_parts, not-true, if◌then◌else◌, lines_of, Declared, nothing_declared, Stage, Passes, PassAll}
 use Rattle.px_script.proofs.Lexing.{Begins-shorter}
 use Rattle.px_script.proofs.Lists.{by_test}
 use Rattle.px_saved.proofs.Clean.{and-false}

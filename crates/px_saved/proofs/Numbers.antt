@@ -2,13 +2,11 @@
 use Rattle.std.specs.Prelude.{◌-◌, ◌^◌}
 use Rattle.px_script.specs.Causes.{is_numbered_by}
 use Rattle.std.proofs.lemmas.Fmt.{decimal_injective}
-use Rattle.std.proofs.lemmas.List.FromFn.{length-map-range_with_len, map-range_with_len_more}
+use Rattle.std.proofs.lemmas.List.FromFn.{length-map-range_with_len}
 use Rattle.std.proofs.lemmas.Option.{slice_get-get_or}
 use Rattle.px_names.specs.NameLaws.{number_of_name, bytes_eq-other}
-use Rattle.px_names.specs.declared.kind.Kind.TheVariants as kind
-use Rattle.px_printer.specs.Texts.{name_text}
 use Rattle.px_script.specs.Declarations.{letter_numbers}
-use Rattle.px_script.proofs.Common.{◌≡◌, ◌≢◌, ℕ, zero, suc, ◌+◌, ◌<◌, ◌≤◌, Bool, true, false, not, ◌||◌, List, [], ◌∷◌, ◌++◌, map, length, get_or, refl, sym, ap, ◌∙◌, subst, arith, append_assoc, nat_lt, Option, None, Some, All, AllByRecursion, slice_get, position, unwrap_or, is_some, list_any, range_with_len, bytes_eq, bytes_eq-itself, list_any-append, list_any_at, decimal, NameLists, has_name, AreDistinct, number_in, length-append, cases_lt, inl, inr, both_answers, term_of, Argument, named, open_variable, anything, Term, Obj, Var, Any, Atom, nat_tests, cond}
+use Rattle.px_script.proofs.Common.{◌≡◌, ◌≢◌, ℕ, zero, suc, ◌+◌, ◌<◌, ◌≤◌, true, false, List, [], ◌∷◌, ◌++◌, map, length, get_or, refl, sym, ap, ◌∙◌, subst, arith, append_assoc, nat_lt, Option, None, Some, AllByRecursion, slice_get, position, unwrap_or, is_some, list_any, range_with_len, bytes_eq, bytes_eq-itself, list_any-append, list_any_at, decimal, NameLists, has_name, AreDistinct, number_in, length-append, cases_lt, inl, inr, both_answers, term_of, Term, Obj, Var, Any, nat_tests}
 use Rattle.px_script.proofs.Lists.{by_test, number-new, known-last, some-position}
 use Rattle.px_saved.proofs.Written.{written_variable, written_term}
 

@@ -1,13 +1,12 @@
 -- The parts of proofs are read as these proofs, and are whole; the heights that are found on them are the proofs' heights.
 use Rattle.std.specs.Prelude.{max, ◌-◌}
-use Rattle.px_proof.specs.declared.proof.Leaf.{Leaf}
 use Rattle.px_proof.specs.Derivation.{Derivation, Derivations, fact, ancestor, gap, open_place, none, also, derivations, height, greatest_height}
 use Rattle.px_proof.specs.Derivation as derivation
 use Rattle.px_printer.specs.Blocks.{count_of}
 use Rattle.px_script.specs.Items.{owed, are_proofs}
 use Rattle.px_script.specs.Declarations.{proofs_read, table_variables, table_term}
 use Rattle.px_script.specs.Faults.{heights_of, highest}
-use Rattle.px_script.proofs.Common.{◌≡◌, ℕ, zero, suc, ◌+◌, ◌<◌, ◌≤◌, ◌==◌, true, List, [], ◌∷◌, ◌++◌, map, length, take, drop, refl, sym, ap, ◌∙◌, subst, arith, append_assoc, append-nil, fold, All, All-head, All-tail, NameLists, Declared, atom_of, Part, a_fact, an_ancestor, an_axiom, Term, Atom}
+use Rattle.px_script.proofs.Common.{◌≡◌, ℕ, zero, suc, ◌+◌, ◌≤◌, ◌==◌, true, List, [], ◌∷◌, ◌++◌, map, length, take, drop, refl, sym, ap, ◌∙◌, arith, append_assoc, append-nil, fold, All, All-head, All-tail, NameLists, Declared, atom_of, Part}
 use Rattle.px_saved.proofs.Written.{written_atom, written_term, written_parts, all_written_parts}
 
 -- ---- lists of proofs

@@ -1,15 +1,13 @@
 -- The text of a block is its lines, each with a line feed behind it.
-use Rattle.std.specs.Str.{chars}
 use Rattle.std.proofs.lemmas.Str.{IsUtf8-append, IsUtf8-from_ascii, IsUtf8-nil}
 use Rattle.std.proofs.lemmas.Str.Ascii.{IsAscii-cons, IsAscii-nil}
 use Rattle.px_printer.specs.Texts.{atom_text, instance_text, after_spaces, text_line}
-use Rattle.px_printer.specs.Blocks.{all_proof_words, block_text, line_after, lines_inside, proof_line, step_line}
+use Rattle.px_printer.specs.Blocks.{all_proof_words, block_text, line_after, proof_line, step_line}
 use Rattle.px_printer.specs.declared.spelling.Spelling.TheVariants.{InBlock}
 use Rattle.px_proof.specs.Derivation.{Derivation, derivations}
 use Rattle.px_script.specs.Common.{OpInst}
-use Rattle.px_script.proofs.Common.{◌≡◌, ℕ, ◌<◌, true, List, [], ◌∷◌, ◌++◌, map, refl, sym, ap, ◌∙◌, subst, arith, append_assoc, append-nil, AllByRecursion, IsUtf8, codes, decimal, flat_map, flat_map-append, NameLists, Atom}
+use Rattle.px_script.proofs.Common.{◌≡◌, ℕ, List, [], ◌∷◌, ◌++◌, map, refl, sym, ap, ◌∙◌, arith, append_assoc, append-nil, AllByRecursion, IsUtf8, codes, decimal, flat_map, flat_map-append, NameLists, Atom}
 use Rattle.px_saved.proofs.Written.{line_bytes}
-use Rattle.px_saved.proofs.Words.{is_in_line}
 use Rattle.px_saved.proofs.Lines.{joined}
 
 module _ (names : NameLists) (name : List ℕ) (params : ℕ) where

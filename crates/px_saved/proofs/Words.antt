@@ -9,8 +9,8 @@ use Rattle.std.specs.Prelude.{◌^◌, ◌/◌, ◌%◌}
 use lib.Utf8.{encode}
 use Rattle.unicode_ident.proofs.Computing.{unicode_ident}
 use Rattle.px_names.specs.Name.{is_name, is_name_text}
-use Rattle.px_script.proofs.Common.{◌≡◌, ◌≢◌, ℕ, zero, suc, ◌+◌, ◌<◌, ◌≤◌, ◌==◌, Bool, true, false, not, ◌&&◌, ◌||◌, List, [], ◌∷◌, ◌++◌, map, length, get_or, refl, sym, ap, ◌∙◌, subst, inl, inr, arith, append_assoc, append-nil, codes, list_all, IsUtf8, all_ascii_digits, is_ascii_digit, is_ascii_alphabetic, encode_utf8_all, and_parts, not-true, decimal, is_xid_continue, is_xid_continue-ascii, starts_name, Lexeme, name, number, sign, variable, Lexes, goes_on, is_sign, IsLexeme, ends_before, nat_lt, both_answers, eqb-true}
-use Rattle.px_script.proofs.Lexing.{digit-range, digits-all, starts-continues}
+use Rattle.px_script.proofs.Common.{◌≡◌, ℕ, ◌+◌, ◌<◌, ◌≤◌, ◌==◌, Bool, true, false, not, ◌&&◌, List, [], ◌∷◌, ◌++◌, refl, sym, ap, ◌∙◌, subst, arith, list_all, IsUtf8, all_ascii_digits, is_ascii_digit, encode_utf8_all, and_parts, decimal, is_xid_continue, is_xid_continue-ascii, starts_name, Lexeme, name, number, sign, variable, Lexes, goes_on, is_sign, IsLexeme, ends_before, nat_lt, both_answers, eqb-true}
+use Rattle.px_script.proofs.Lexing.{digit-range, starts-continues}
 use Rattle.px_script.proofs.Lists.{by_test}
 
 -- ---- bytes that end no line

@@ -1,6 +1,6 @@
 -- How a table's block is written, as statements; and that each line of its text is read as its statement's lexemes.
 use Rattle.std.specs.Prelude.{◌-◌, ◌^◌}
-use Rattle.px_script.proofs.Common.{◌≡◌, ℕ, zero, suc, ◌+◌, ◌<◌, ◌≤◌, Bool, true, false, List, [], ◌∷◌, ◌++◌, map, length, refl, sym, ap, ◌∙◌, subst, arith, append_assoc, append-nil, codes, flat_map, flat_map-append, IsUtf8, decimal, nat_lt, AllByRecursion, unwrap_or, slice_get, if◌then◌else◌, Lexeme, name, number, sign, variable, Argument, named, open_variable, anything, SignedAtom, WrittenAtom, Part, a_fact, an_ancestor, an_axiom, spell_argument, spell_atom, spell_part, spell_terms, with_commas, parenthesised, Statement, spelling, table, step, goal, proof, end, NameLists, Term, Obj, Var, Any, Atom}
+use Rattle.px_script.proofs.Common.{◌≡◌, ℕ, ◌+◌, ◌<◌, true, List, [], ◌∷◌, ◌++◌, map, refl, subst, arith, append_assoc, append-nil, codes, flat_map, flat_map-append, IsUtf8, decimal, nat_lt, AllByRecursion, if◌then◌else◌, Lexeme, name, number, sign, variable, Argument, named, open_variable, anything, SignedAtom, Part, a_fact, an_ancestor, an_axiom, spell_argument, spell_atom, spell_part, spell_terms, with_commas, parenthesised, Statement, spelling, table, step, goal, proof, end, NameLists, Term, Obj, Var, Any, Atom}
 use Rattle.px_script.specs.Common.{OpInst}
 use Rattle.px_script.specs.declared.kinds.Sign.TheVariants.{Bare as bare}
 use lib.Utf8.{encode}
@@ -11,8 +11,8 @@ use Rattle.px_names.specs.Name.{is_name_text}
 use Rattle.px_names.specs.declared.kind.Kind.TheVariants as kind
 use Rattle.px_proof.specs.Derivation.{Derivation, Derivations, fact, ancestor, gap, open_place, none, also, derivations}
 use Rattle.px_proof.specs.Derivation as derivation
-use Rattle.px_printer.specs.Texts.{name_text, term_text, after_commas, in_parentheses, arguments_text, atom_text, instance_text, after_spaces, text_line}
-use Rattle.px_printer.specs.Blocks.{terms_text, count_of, proof_words, all_proof_words, line_after, step_line, proof_line}
+use Rattle.px_printer.specs.Texts.{name_text, term_text, after_commas, in_parentheses, atom_text, instance_text, after_spaces}
+use Rattle.px_printer.specs.Blocks.{terms_text, count_of, proof_words, all_proof_words}
 use Rattle.px_printer.specs.declared.spelling.Spelling.TheVariants.{InBlock}
 use Rattle.px_saved.proofs.Words.{IsWord, Reads, Ends, nothing-reads, word-reads, word-before, space-reads, nothing-ends, space-ends, comma-ends, opening-ends, closing-ends, number-word, name-word, keyword, variable-word, sign-word}
 use Rattle.unicode_ident.proofs.Computing.{unicode_ident}
