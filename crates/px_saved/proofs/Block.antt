@@ -20,8 +20,8 @@ use Rattle.px_saved.proofs.Fits.{AtomFits, StepFits, ProofsFit}
 use Rattle.px_saved.proofs.Parts.{row-back, row-low, row-whole}
 use Rattle.px_saved.proofs.Between.{ended, inside, of_rows, of_steps, written}
 use Rattle.px_saved.proofs.Clean.{IsClean, clean-line, IsGood, IsGoodAtom, arguments-known, arguments-taken, arguments-early, arguments-of-atoms, atoms-known, atoms-arity, atoms-signed, all-both}
-use Rattle.px_saved.proofs.Ground as ground
-use Rattle.px_saved.proofs.Ground.{IsGround}
+use Rattle.px_saved.proofs.Before as before
+use Rattle.px_saved.proofs.Before.{IsBeforeBlock}
 
 -- the words of a table's block are built
 pub record HasBlocks (stage : Stage) : Type 0 where
@@ -38,7 +38,7 @@ or-false false = refl
 few-of : (most n : ℕ) → n ≤ most → nat_lt most n ≡ false
 few-of most n few = grind (arith, nat_tests, few)
 
-module _ (stage : Stage) (words : HasBlocks stage) (d : Declared) (rs : List (List ℕ)) (name : List ℕ) (one : Table) (g : IsGround d)
+module _ (stage : Stage) (words : HasBlocks stage) (d : Declared) (rs : List (List ℕ)) (name : List ℕ) (one : Table) (g : IsBeforeBlock d)
     (few : one.params ≤ 9999) where
   abbrev params : ℕ
   params = one.params
@@ -96,7 +96,7 @@ module _ (stage : Stage) (words : HasBlocks stage) (d : Declared) (rs : List (Li
 
     good : AllByRecursion (IsGood x table_terms) arguments
     good = all-both (IsGood x table_terms) (map (written_term names params) inst.args) []
-        (ground.good-step d rs name params g few n (of_steps d one so_far) (refl, refl) inst fits) tt
+        (before.good-step d rs name params g few n (of_steps d one so_far) (refl, refl) inst fits) tt
 
     step-clean : IsClean stage x (written_step names params inst)
     step-clean = record {
@@ -104,7 +104,7 @@ module _ (stage : Stage) (words : HasBlocks stage) (d : Declared) (rs : List (Li
       built = ap not words.steps;
       known = rw (
         arguments-known x table_terms arguments good,
-        ground.operator-known d rs name params g few n (of_steps d one so_far) (refl, refl) inst fits,
+        before.operator-known d rs name params g few n (of_steps d one so_far) (refl, refl) inst fits,
       ) refl;
       single = refl;
       arity = refl;
@@ -118,12 +118,12 @@ module _ (stage : Stage) (words : HasBlocks stage) (d : Declared) (rs : List (Li
     step-passes = (
       spelling (written_step names params inst),
       (step-line names params inst
-          (ground.step-text d rs name params g few n (of_steps d one so_far) (refl, refl) inst fits)).lexes,
+          (before.step-text d rs name params g few n (of_steps d one so_far) (refl, refl) inst fits)).lexes,
       (
         written_step names params inst,
         (refl, rw (is-word (codes "step") (λ later. refl)) refl),
         clean-line stage x (written_step names params inst) step-clean,
-        sym (λ i. record (inside d name n (of_steps d one (so_far ++ ground.step-read d rs name params g few
+        sym (λ i. record (inside d name n (of_steps d one (so_far ++ before.step-read d rs name params g few
             n (of_steps d one so_far) (refl, refl) inst fits i ∷ []))) { own_domain = or-false d.own_domain i }),
       ),
     )
@@ -142,7 +142,7 @@ module _ (stage : Stage) (words : HasBlocks stage) (d : Declared) (rs : List (Li
     atoms = map (written_atom names params) one.goal
 
     good-atoms : AllByRecursion (IsGoodAtom at_goal table_goals) atoms
-    good-atoms = ground.good-goal d rs name params g few n (of_steps d one one.steps) (refl, refl)
+    good-atoms = before.good-goal d rs name params g few n (of_steps d one one.steps) (refl, refl)
         (params + one.goal_vars) (omega (arith, few_variables)) one.goal fits
 
     abbrev all_atoms : List SignedAtom
@@ -185,11 +185,18 @@ module _ (stage : Stage) (words : HasBlocks stage) (d : Declared) (rs : List (Li
         (inside d name n (of_rows d one []))
     goal-passes = (
       spelling (written_goal names params one.goal),
-      (goal-line names params one.goal (ground.goal-text d rs name params g few n (of_steps d one one.steps)
+      (goal-line names params one.goal (before.goal-text d rs name params g few n (of_steps d one one.steps)
           (refl, refl) (params + one.goal_vars) (omega (arith, few_variables)) one.goal fits)).lexes,
       (
         written_goal names params one.goal,
-        (refl, rw (is-word (codes "goal") (λ later. refl), some-atoms one.goal some, atoms-signed at_goal table_goals all_atoms good-all) refl),
+        (
+          refl,
+          rw (
+            is-word (codes "goal") (λ later. refl),
+            some-atoms one.goal some,
+            atoms-signed at_goal table_goals all_atoms good-all,
+          ) refl,
+        ),
         clean-line stage at_goal (written_goal names params one.goal) goal-clean,
         sym (λ i. record (inside d name n (of_table_rows (record (written d one []) { goal = goal-is i; goal_vars = vars-are i })))
             { own_domain = or-false d.own_domain i }),
@@ -197,11 +204,11 @@ module _ (stage : Stage) (words : HasBlocks stage) (d : Declared) (rs : List (Li
     )
       where
         goal-is : map (atom_of at_goal (table_variables at_goal)) atoms ≡ one.goal
-        goal-is = ground.goal-read d rs name params g few n (of_steps d one one.steps) (refl, refl)
+        goal-is = before.goal-read d rs name params g few n (of_steps d one one.steps) (refl, refl)
             (params + one.goal_vars) (omega (arith, few_variables)) one.goal fits
 
         vars-are : goal_variables at_goal atoms ≡ one.goal_vars
-        vars-are = ground.variables-read d rs name params g few n (of_steps d one one.steps) (refl, refl)
+        vars-are = before.variables-read d rs name params g few n (of_steps d one one.steps) (refl, refl)
             (params + one.goal_vars) (omega (arith, few_variables)) one.goal fits ∙ sym last
 
   -- ---- rows
@@ -214,15 +221,15 @@ module _ (stage : Stage) (words : HasBlocks stage) (d : Declared) (rs : List (Li
     abbrev parts : List Part
     parts = all_written_parts names params (derivations row)
 
-    fine : ground.AreFine d rs name params g few n (of_rows d one so_far) (refl, refl) (derivations row)
-    fine = ground.all-fine d rs name params g few n (of_rows d one so_far) (refl, refl)
+    fine : before.AreFine d rs name params g few n (of_rows d one so_far) (refl, refl) (derivations row)
+    fine = before.all-fine d rs name params g few n (of_rows d one so_far) (refl, refl)
         (derivations row) fits
 
     abbrev row_atoms : List SignedAtom
     row_atoms = flat_map atoms_of_part parts
 
     row-atoms : AllByRecursion (IsGoodAtom at_row table_terms) row_atoms
-    row-atoms = ground.part-atoms d rs name params g few n (of_rows d one so_far) (refl, refl)
+    row-atoms = before.part-atoms d rs name params g few n (of_rows d one so_far) (refl, refl)
         parts fine.good
 
     row-all : AllByRecursion (IsGoodAtom at_row table_terms) (row_atoms ++ [])
@@ -235,7 +242,7 @@ module _ (stage : Stage) (words : HasBlocks stage) (d : Declared) (rs : List (Li
     row-arguments = all-both (IsGood at_row table_terms) (flat_map (λ y. y.atom.arguments) row_atoms ++ flat_map terms_of_part parts) []
         (all-both (IsGood at_row table_terms) (flat_map (λ y. y.atom.arguments) row_atoms) (flat_map terms_of_part parts)
         (arguments-of-atoms at_row table_terms row_atoms row-atoms)
-        (ground.part-terms d rs name params g few n (of_rows d one so_far) (refl, refl)
+        (before.part-terms d rs name params g few n (of_rows d one so_far) (refl, refl)
         parts fine.good)) tt
 
     row-clean : IsClean stage at_row (written_row names params row)
@@ -252,7 +259,7 @@ module _ (stage : Stage) (words : HasBlocks stage) (d : Declared) (rs : List (Li
       limits = (
         refl,
         (
-          ground.part-numbers d rs name params g few n (of_rows d one so_far) (refl, refl)
+          before.part-numbers d rs name params g few n (of_rows d one so_far) (refl, refl)
               parts fine.good,
           (few-of 56 (highest (heights_of parts)) (row-low names params row fine.whole low), tt),
         ),

@@ -35,8 +35,8 @@ use Rattle.px_saved.specs.ReadBack.{IsReadyFor, SavedIsReadBack, with_table}
 use Rattle.px_saved.proofs.Between.{ended, inside, of_rows, of_steps, written}
 use Rattle.px_saved.proofs.Block.{HasBlocks, table-passes, step-passes, goal-passes, row-passes, end-passes}
 use Rattle.px_saved.proofs.Fits.{by-recursion, terms-fit, AtomFits, StepFits, ProofsFit, NoneWithout, rows-fit}
-use Rattle.px_saved.proofs.Ground as ground
-use Rattle.px_saved.proofs.Ground.{IsGround, AreTexts}
+use Rattle.px_saved.proofs.Before as before
+use Rattle.px_saved.proofs.Before.{IsBeforeBlock, AreTexts}
 use Rattle.px_saved.proofs.Lines.{joined, lines-after}
 use Rattle.px_saved.proofs.Printed.{block_lines, block-is-lines, joined-text, step_bytes, row_bytes, goal_bytes, table_bytes, end_bytes}
 use Rattle.px_saved.proofs.Words.{Reads, is_in_line}
@@ -66,8 +66,8 @@ module _ (d : Declared) (r : AreInRange d) (range : IsInRange (content_of d)) (c
       by None begun = refl
       by (Some things) begun = begun.arities_are
 
-  pub the-ground : IsGround d
-  the-ground = record {
+  pub before-block : IsBeforeBlock d
+  before-block = record {
     version = version;
     commands = none-is-empty d.commands commands;
     closed = closed;
@@ -186,7 +186,7 @@ module _ (problem : Problem) (valid : IsValid problem) (short_lists : All (range
 
 -- ---- all lines of a block
 
-module _ (stage : Stage) (words : HasBlocks stage) (d : Declared) (rs : List (List ℕ)) (name : List ℕ) (table : Table) (g : IsGround d)
+module _ (stage : Stage) (words : HasBlocks stage) (d : Declared) (rs : List (List ℕ)) (name : List ℕ) (table : Table) (g : IsBeforeBlock d)
     (saved : IsSavedTable 2 (problem_here d) table) (is_text : IsText name) (short : length name ≤ 64)
     (fresh : has_name name d.names.results ≡ false) (room : length d.saved + 1 ≤ 32) where
   abbrev few : table.params ≤ 9999
@@ -274,7 +274,7 @@ module _ (stage : Stage) (words : HasBlocks stage) (d : Declared) (rs : List (Li
   steps-text [] all = tt
   steps-text (inst ∷ steps) all = (
     of-reads (step_bytes names name params inst) _ (step-line names params inst
-        (ground.step-text d rs name params g few 0 (of_steps d table []) (refl, refl) inst all.0)),
+        (before.step-text d rs name params g few 0 (of_steps d table []) (refl, refl) inst all.0)),
     steps-text steps all.1,
   )
 
@@ -284,7 +284,7 @@ module _ (stage : Stage) (words : HasBlocks stage) (d : Declared) (rs : List (Li
   rows-text [] all = tt
   rows-text (row ∷ left) all = (
     of-reads (row_bytes names name params row) _ (proof-line names params row
-        (ground.all-fine d rs name params g few 0 (of_rows d table []) (refl, refl) (derivations row) all.0).text),
+        (before.all-fine d rs name params g few 0 (of_rows d table []) (refl, refl) (derivations row) all.0).text),
     rows-text left all.1,
   )
 
@@ -293,7 +293,7 @@ module _ (stage : Stage) (words : HasBlocks stage) (d : Declared) (rs : List (Li
       let front = of-reads (table_bytes names name params) _ (table-line names params name is_text (omega (arith, few))) in
       let few_variables = saved.few_variables in
       let goal = of-reads (goal_bytes names name params table.goal) _ (goal-line names params table.goal
-      (ground.goal-text d rs name params g few 0 (of_steps d table []) (refl, refl)
+      (before.goal-text d rs name params g few 0 (of_steps d table []) (refl, refl)
       (params + table.goal_vars) (omega (arith, few_variables)) table.goal
       (goal-fits (problem_here d) g.valid g.short_lists table saved))) in
       let ends = of-reads (end_bytes names name params) _ (end-line names params) in (
@@ -339,7 +339,7 @@ module _ (stage : Stage) (words : HasBlocks stage) (problem : Problem) (names : 
       let objects_text = subst AreTexts (sym ready.objects) (texts-of kind.Object names.objects are.objects) in
       let predicates_text = subst AreTexts (sym ready.predicates) (texts-of kind.Predicate names.predicates are.predicates) in
       let operators_text = subst AreTexts (sym ready.operators) (texts-of kind.Operator names.operators are.operators) in
-      let g = the-ground d r range spells.closed ready.version ready.commands objects_text predicates_text operators_text in
+      let g = before-block d r range spells.closed ready.version ready.commands objects_text predicates_text operators_text in
       let is_text = texts-of kind.Result names.results are.results number has in
       let fresh = not-there name d.names.results ready.fresh in
       let some_room = ready.room in

@@ -7,7 +7,7 @@ pub mod Fits
 pub mod Parts
 pub mod Clean
 pub mod Between
-pub mod Ground
+pub mod Before
 pub mod Block
 pub mod Printed
 pub mod Law

@@ -26,8 +26,9 @@ use Rattle.px_saved.proofs.Clean.{IsGood, IsGoodAtom, all-both}
 abbrev pub AreTexts : List (List ℕ) → Type 0
 AreTexts names = (n : ℕ) → n < length names → IsText (unwrap_or (slice_get names n) [])
 
--- What the lines before the block leave: they are of version 2 or later, without commands, with no block open, and each number has its name.
-pub record IsGround (d : Declared) : Type 0 where
+-- What the lines before the block leave: they are of version 2 or later, without commands, with no block open, and each number has its
+-- name.
+pub record IsBeforeBlock (d : Declared) : Type 0 where
   pub version : 2 ≤ d.version
   pub commands : is_empty d.commands ≡ true
   pub closed : d.block ≡ None
@@ -49,7 +50,7 @@ abbrev place : Option ℕ → ℕ
 place None = 0
 place (Some k) = k + 1
 
-module _ (d : Declared) (rs : List (List ℕ)) (name : List ℕ) (params : ℕ) (ground : IsGround d) (few : params ≤ 9999) where
+module _ (d : Declared) (rs : List (List ℕ)) (name : List ℕ) (params : ℕ) (before : IsBeforeBlock d) (few : params ≤ 9999) where
   abbrev pub the_names : NameLists
   the_names = record d.names { results = rs }
 
@@ -63,17 +64,17 @@ module _ (d : Declared) (rs : List (List ℕ)) (name : List ℕ) (params : ℕ) 
   -- ---- terms
 
   no-empty : 1 ≤ the_problem.objects → is_empty d.names.objects ≡ true → ⊥
-  no-empty some empty = by d.names.objects (omega (arith, some, ground.objects)) empty
+  no-empty some empty = by d.names.objects (omega (arith, some, before.objects)) empty
     where
       by : (xs : List (List ℕ)) → 1 ≤ length xs → is_empty xs ≡ true → ⊥
       by [] long e = omega (arith, long)
       by (x ∷ xs) long e = cc
 
   below-objects : (n : ℕ) → n < the_problem.objects → n < length d.names.objects
-  below-objects n below = omega (arith, below, ground.objects)
+  below-objects n below = omega (arith, below, before.objects)
 
   has-text : (bound : ℕ) → bound ≤ params + 12 → (t : Term) → TermFits the_problem params bound t → HasText the_names params t
-  has-text bound small (Obj n) fits = ground.objects_text n (below-objects n fits.0)
+  has-text bound small (Obj n) fits = before.objects_text n (below-objects n fits.0)
   has-text bound small (Var v) fits = let below = fits.0 in omega (arith, below, few, small)
   has-text bound small Any fits = absurd fits.0
 
@@ -91,7 +92,7 @@ module _ (d : Declared) (rs : List (List ℕ)) (name : List ℕ) (params : ℕ) 
     terms-read ts all =
         (λ i. map (term_of (parameters_of (of_table.0 i)) (letter_numbers 112 (of_table.1 i) ++ letter_numbers 103 12) d.names.objects)
         (map (written_term the_names params) ts))
-        ∙ terms-back the_names params 12 ts all ground.objects_apart (omega (arith, few)) (omega arith)
+        ∙ terms-back the_names params 12 ts all before.objects_apart (omega (arith, few)) (omega arith)
 
     parameter-taken : (v : ℕ) → v < params → is_numbered_by 112 (table_parameters block) (written_variable the_names params v) ≡ true
     parameter-taken v below = let own : nat_lt v params ≡ true = grind (arith, nat_tests, below) in
@@ -147,16 +148,16 @@ module _ (d : Declared) (rs : List (List ℕ)) (name : List ℕ) (params : ℕ) 
     -- ---- atoms
 
     below-predicates : (p : ℕ) → p < length the_problem.arities → p < length d.names.predicates
-    below-predicates p below = omega (arith, below, ground.predicates)
+    below-predicates p below = omega (arith, below, before.predicates)
 
     predicate-back : (p : ℕ) → p < length the_problem.arities → number_in (name_text the_names kind.Predicate p) d.names.predicates ≡ p
-    predicate-back p below = number-back d.names.predicates p ground.predicates_apart (below-predicates p below)
+    predicate-back p below = number-back d.names.predicates p before.predicates_apart (below-predicates p below)
 
     arity-right : (atom : Atom) → HasArity the_problem atom → (length (map (written_term the_names params) atom.args)
         == slice_index d.arities (number_in (name_text the_names kind.Predicate atom.pred) d.names.predicates)) ≡ true
     arity-right atom has =
         let arity : slice_index d.arities (number_in (name_text the_names kind.Predicate atom.pred) d.names.predicates)
-        ≡ slice_index the_problem.arities atom.pred = λ i. slice_index (ground.arities i) (predicate-back atom.pred has.0 i) in
+        ≡ slice_index the_problem.arities atom.pred = λ i. slice_index (before.arities i) (predicate-back atom.pred has.0 i) in
         let count = length-map atom.args (written_term the_names params) in
         same-number _ _ (count ∙ has.1 ∙ sym arity)
       where
@@ -200,7 +201,7 @@ module _ (d : Declared) (rs : List (List ℕ)) (name : List ℕ) (params : ℕ) 
     atom-text : (bound : ℕ) → bound ≤ params + 12 → (atom : Atom) → AtomFits the_problem params bound atom
         → AtomHasText the_names params atom
     atom-text bound small atom fits = record {
-      predicate = ground.predicates_text atom.pred (below-predicates atom.pred fits.0.0);
+      predicate = before.predicates_text atom.pred (below-predicates atom.pred fits.0.0);
       arguments = terms-text bound small atom.args fits.1;
     }
 
@@ -256,20 +257,20 @@ module _ (d : Declared) (rs : List (List ℕ)) (name : List ℕ) (params : ℕ) 
 
     pub step-text : (inst : OpInst) → StepFits the_problem params inst → StepHasText the_names params inst
     step-text inst fits = record {
-      operator = ground.operators_text inst.op (omega (arith, fits.0, ground.operators));
+      operator = before.operators_text inst.op (omega (arith, fits.0, before.operators));
       arguments = terms-text params (omega arith) inst.args fits.1;
     }
 
     pub step-read : (inst : OpInst) → StepFits the_problem params inst
         → instance_of_step x (name_text the_names kind.Operator inst.op) (map (written_term the_names params) inst.args) ≡ inst
     step-read inst fits = λ i. record {
-      op = number-back d.names.operators inst.op ground.operators_apart (omega (arith, fits.0, ground.operators)) i;
+      op = number-back d.names.operators inst.op before.operators_apart (omega (arith, fits.0, before.operators)) i;
       args = terms-read inst.args (terms-spelled params (omega arith) inst.args fits.1) i;
     }
 
     pub operator-known : (inst : OpInst) → StepFits the_problem params inst
         → has_name (name_text the_names kind.Operator inst.op) d.names.operators ≡ true
-    operator-known inst fits = name-known d.names.operators inst.op (omega (arith, fits.0, ground.operators))
+    operator-known inst fits = name-known d.names.operators inst.op (omega (arith, fits.0, before.operators))
 
     pub good-step : (inst : OpInst) → StepFits the_problem params inst
         → AllByRecursion (IsGood x table_terms) (map (written_term the_names params) inst.args)
