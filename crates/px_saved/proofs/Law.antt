@@ -27,7 +27,7 @@ use Rattle.px_script.specs.Declarations.{problem_here, problem_of, table_made}
 use Rattle.px_script.specs.Stages.{stage_now}
 use Rattle.px_script.specs.Ranges.{IsSavedTable, IsInRange}
 use Rattle.px_script.specs.Scripts.{IsScript, Spells}
-use Rattle.px_script.proofs.Common.{◌≡◌, ℕ, ◌+◌, ◌<◌, ◌≤◌, true, false, List, [], ◌∷◌, ◌++◌, map, length, refl, sym, ap, ◌∙◌, subst, inl, inr, arith, append_assoc, append-nil, Option, None, Some, All, AllByRecursion, and_parts, unwrap_or, flat_map, is_empty, has_name, IsUtf8, NameLists, Declared, Stage, PassAll, Atom, Problem, Term, cases_lt, IfSome, nothing_declared, lines_of, own_problem, Thing, Passes, length-append, Lexeme}
+use Rattle.px_script.proofs.Common.{◌≡◌, ℕ, ◌+◌, ◌<◌, ◌≤◌, true, false, List, [], ◌∷◌, ◌++◌, map, length, refl, sym, ap, ◌∙◌, subst, arith, append_assoc, append-nil, Option, None, Some, All, AllByRecursion, and_parts, unwrap_or, flat_map, is_empty, has_name, IsUtf8, NameLists, Declared, Stage, PassAll, Atom, Problem, Term, IfSome, nothing_declared, lines_of, own_problem, Thing, Passes, length-append, Lexeme}
 use Rattle.px_script.proofs.Kept.{declared-in-range, lines-kept, start-in-range}
 use Rattle.px_script.proofs.Lists.{by_test}
 use Rattle.px_script.proofs.States.{AreInRange, IsBegun}
@@ -128,10 +128,7 @@ module _ (problem : Problem) (valid : IsValid problem) (short_lists : All (range
   AreBare atoms = AllByRecursion (λ (atom : Atom). NoneWithout problem table.params atom.args) atoms
 
   bare-goal : AreBare table.goal
-  bare-goal = elim (cases_lt 0 problem.objects) [
-    | inl some ↦ each table.goal (λ none_there. absurd (omega (arith, some, none_there)))
-    | inr past ↦ each table.goal (λ none_there. saved.no_objects none_there)
-  ]
+  bare-goal = each table.goal saved.no_objects
     where
       front-none : (xs ys : List Term) → xs ++ ys ≡ [] → (xs ≡ []) × (ys ≡ [])
       front-none [] ys e = (refl, e)
