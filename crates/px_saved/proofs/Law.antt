@@ -31,7 +31,7 @@ use Rattle.px_script.proofs.Common.{◌≡◌, ℕ, ◌+◌, ◌<◌, ◌≤◌,
 use Rattle.px_script.proofs.Kept.{declared-in-range, lines-kept, start-in-range}
 use Rattle.px_script.proofs.Lists.{by_test}
 use Rattle.px_script.proofs.States.{AreInRange, IsBegun}
-use Rattle.px_saved.specs.ReadBack.{IsReadyFor, SavedIsReadBack, with_table}
+use Rattle.px_saved.specs.ReadBack.{IsReadyFor, SavedIsReadBack, with_saved}
 use Rattle.px_saved.proofs.Between.{ended, inside, of_rows, of_steps, written}
 use Rattle.px_saved.proofs.Block.{HasBlocks, table-passes, step-passes, goal-passes, row-passes, end-passes}
 use Rattle.px_saved.proofs.Fits.{by-recursion, terms-fit, AtomFits, StepFits, ProofsFit, NoneWithout, rows-fit}
@@ -330,7 +330,7 @@ module _ (stage : Stage) (words : HasBlocks stage) (problem : Problem) (names : 
   pub read-back : (bytes : List ℕ) (d : Declared) → AreInRange d → IsInRange (content_of d) → Spells stage (bytes ++ 10 ∷ []) d
       → IsReadyFor problem names name (content_of d)
       → IsScript stage (bytes ++ 10 ∷ block_text names name table.params table.steps table.goal (rows_of table.proofs))
-      (with_table name table (content_of d))
+      (with_saved name table (content_of d))
   read-back bytes d r range spells ready =
       let here : IsSavedTable 2 (problem_here d) table = subst (λ p. IsSavedTable 2 p table) (sym ready.problem_is) saved in
       let objects_text = subst AreTexts (sym ready.objects) (texts-of kind.Object names.objects are.objects) in
@@ -374,7 +374,7 @@ saved_is_read_back problem names number table are has short saved = record {
       let text = block_text names name table.params table.steps table.goal (rows_of table.proofs) in
       let r = lines-kept stage_now 1 nothing_declared (lines_of (bytes ++ 10 ∷ [])) is.last start-in-range is.spells.lines in
       let range = declared-in-range is.last r is.spells.closed in
-      subst (λ s. IsScript stage_now (bytes ++ 10 ∷ text) (with_table name table s)) (sym is.is)
+      subst (λ s. IsScript stage_now (bytes ++ 10 ∷ text) (with_saved name table s)) (sym is.is)
       (read-back stage_now words-now problem names number table are has short saved bytes is.last r range is.spells
       (subst (IsReadyFor problem names name) is.is ready));
 }

@@ -28,8 +28,8 @@ pub record IsReadyFor (problem : Problem) (names : NameLists) (name : List ℕ) 
   pub fresh : ¬ Contains script.names.results name
 
 -- the script with a table of that name last
-abbrev pub with_table : List ℕ → Table → ScriptValue → ScriptValue
-with_table name table script = record script {
+abbrev pub with_saved : List ℕ → Table → ScriptValue → ScriptValue
+with_saved name table script = record script {
   names = with_name kind.Result name script.names;
   saved = script.saved ++ (length script.names.results, table) ∷ [];
 }
@@ -37,7 +37,7 @@ with_table name table script = record script {
 -- Bytes that end with a line feed and are such a script are, with the text after them, the same script with the table last.
 pub record IsReadBack (problem : Problem) (names : NameLists) (name : List ℕ) (table : Table) (text : List ℕ) : Type 0 where
   pub again : (bytes : List ℕ) (script : ScriptValue) → IsScript stage_now (bytes ++ codes "\n") script
-      → IsReadyFor problem names name script → IsScript stage_now (bytes ++ (codes "\n" ++ text)) (with_table name table script)
+      → IsReadyFor problem names name script → IsScript stage_now (bytes ++ (codes "\n" ++ text)) (with_saved name table script)
 
 -- where the reply is a saved table, its text is read back
 abbrev pub ReplyIsReadBack : Problem → NameLists → Reply → Type 0
