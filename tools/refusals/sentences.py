@@ -135,8 +135,9 @@ def duplicate_objects(names, known):
 
 def duplicate(line, known, limit):
     names, word = line.names, line.word
-    kinds = {'object': known.objects, 'predicate': known.predicates, 'plan': known.results, 'learn': known.results, 'edit': known.results, 'table': known.results,
-             'room': known.objects, 'door': known.objects, 'box': known.objects}
+    kinds = {'object': known.objects, 'predicate': known.predicates,
+             **{giver: known.results for giver in ('plan', 'learn', 'edit', 'table')},
+             **{thing: known.objects for thing in ('room', 'door', 'box')}}
     if word == 'operator':
         if names[0] in known.operators:
             return f'the operator {names[0]} is declared already by line {known.operators[names[0]]}: give one of them another name'
