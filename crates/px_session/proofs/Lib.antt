@@ -2,6 +2,7 @@
 pub mod OneSearch
 pub mod OneLearning
 pub mod OneEditing
+pub mod OneSaving
 pub mod ExistingEdits
 pub mod EditedTables
 pub mod OneRunning
@@ -27,6 +28,8 @@ pub mod InOrder
 pub mod WorkedAnswers
 pub mod FoundPlans
 pub mod FoundTables
+pub mod NamedTerms
+pub mod NamedBlocks
 pub mod NamedReplies
 pub mod Executing
 pub mod Disturbed

@@ -84,7 +84,7 @@ state atoms recorded = record { atoms = atoms; plans = with_table no_tables 0 p_
 
 -- ---- the replies
 
-finds : FindsPlan (task_of idle [] (p ∷ []) (p ∷ []) 0) 0 (opening (p ∷ [])) 0 [] (state (p ∷ []) [])
+finds : FindsPlan (task_of idle [] (p ∷ []) (p ∷ []) 0) 0 (opening (p ∷ []) []) 0 [] (state (p ∷ []) [])
 finds = record {
   moves = [];
   found = end_facts.there;

@@ -10,6 +10,7 @@ pub mod ToldDuos
 pub mod Undisturbed
 pub mod Planning
 pub mod Learning
+pub mod Saving
 pub mod Places
 pub mod Running
 pub mod Opened

@@ -58,6 +58,7 @@ mod place;
 mod planning;
 mod plans;
 mod running;
+mod saving;
 mod session;
 mod state;
 mod stored_runs;

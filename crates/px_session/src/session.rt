@@ -69,13 +69,14 @@ impl Session {
         ensures opened { IfOk result (λ session. session ≡ opened_session (content script)) }
     {
         let building = world_of(alloc, &script.building)?;
+        let state = State::opening(alloc, script.facts, script.tables)?;
         Ok(Session {
             alloc,
             problem: script.problem,
             names: script.names,
             commands: script.commands,
             done: 0,
-            state: State::opening(alloc, script.facts),
+            state,
             building,
         })
     }

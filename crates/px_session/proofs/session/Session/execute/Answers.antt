@@ -1,5 +1,5 @@
 -- Proofs of the goals that `Session::execute` of src/session.rt leaves open.
-use Rattle.std.proofs.Common.{◌≡◌, ◌+◌, ◌<◌, All, Contains, flat_map, get_or, length, take, refl, sym, subst, arith}
+use Rattle.std.proofs.Common.{◌≡◌, ◌+◌, ◌<◌, All, Contains, drop, flat_map, get_or, length, refl, sym, subst, arith}
 use Rattle.px_printer.specs.Replies.{IsReplyNamed}
 use Rattle.px_script.specs.Ranges.{result_given}
 use Rattle.px_session.specs.KeptSessions.{IsRunnable}
@@ -60,10 +60,9 @@ run_command-requires-clause-new_names c =
     let next : c.args.k ≡ c.self.inside.done = subst (λ (s : SessionValue). c.args.k ≡ s.done) (sym c.self.view_is) c.requires.next in
     let is = command-at c.self.inside.commands c.as_slice.result.now c.args.k c.index-as_slice-k.result c.as_slice.ensures
     c.index-as_slice-k.is in
-    names-new c.self.inside.commands c.args.k
-    c.index-as_slice-k.result c.self.inside.state.learned.names below is c.self.invariant.once
-    (subst (λ n. All (Contains (flat_map result_given
-    (take n c.self.inside.commands))) c.self.inside.state.learned.names) (sym next) c.self.invariant.learned)
+    names-new c.self.inside.commands c.args.k c.index-as_slice-k.result below is c.self.inside.state.learned.names
+    (subst (λ n. All (λ name. ¬ Contains (flat_map result_given (drop n c.self.inside.commands)) name) c.self.inside.state.learned.names)
+    (sym next) c.self.invariant.learned)
 
 pub run_command-requires-clause-few : goal.run_command-requires-clause-few
 run_command-requires-clause-few c =
