@@ -25,11 +25,13 @@ use Rattle.px_session.specs.Opened.{SessionValue, opened_session, tables_of}
 use Rattle.px_session.specs.OwnStates.{IsOwnEdit, IsOwnGoal, edits_given}
 use Rattle.px_session.specs.Places.{IsPlaced, TakeSame, Takes}
 use Rattle.px_session.specs.Sessions.{SessionState}
+use Rattle.px_session.specs.Writable.{AsksWritable}
 use Rattle.px_session.proofs.GivenNames.{commands-apart, names-next, saved-given}
 use Rattle.px_session.proofs.Kept.{sessions_are_kept}
 use Rattle.px_session.proofs.NamedReplies.{named-each}
 use Rattle.px_session.proofs.Placing.{takes-later}
 use Rattle.px_session.proofs.Replied.{replied}
+use Rattle.px_session.proofs.Writables.{all-ask, certifiable-problem, writable-kept, writable-opened}
 use Rattle.px_session.proofs.RoomEdits.{OwnsRoomEdits, at_first, each-building, note-atoms, note-rooms, owns-room-edits, placed-first}
 
 -- ---- the opening
@@ -112,6 +114,9 @@ kept-opened script range = record {
   learned = saved-given (saved_names script) script.commands (length script.names.results) range.commands.given;
   few = few-commands script.version (length script.commands) range.commands.few;
   recorded = omega arith;
+  written = writable-opened script range;
+  asked = all-ask script range;
+  certifiable = certifiable-problem script range;
 }
 
 -- ---- each command
@@ -183,10 +188,10 @@ runnable-later problem old new same given runs =
 pub kept-after : (building left : Option RoomState) (session : SessionValue) (given : Command) (answer : Reply) (new : SessionState)
     (done : ℕ)
     → IsKeptSession building session → done ≡ session.done + 1 → session.done < length session.commands
-    → given ≡ get_or session.commands session.done given → IsRunnable session.problem building given
+    → given ≡ get_or session.commands session.done given → IsRunnable session.problem building given → AsksWritable session.problem given
     → Lawful session.problem session.state given answer new → IsPlaced session.problem left new → TakeSame building left
     → IsKeptSession left (after_command session new done)
-kept-after building left session given answer new done kept more below is runs lawful placed same =
+kept-after building left session given answer new done kept more below is runs asks lawful placed same =
     let parts = keeps-parts session.problem session.state given answer new lawful in
     let names = names-next session.commands session.done given below is session.state.learned.names new.learned.names kept.once kept.learned
     parts.learned in
@@ -206,6 +211,9 @@ kept-after building left session given answer new done kept more below is runs l
           names;
       few = kept.few;
       recorded = omega (arith, more, parts.recorded, kept.recorded);
+      written = writable-kept session.problem session.state given answer new kept.problem kept.state kept.written asks lawful;
+      asked = kept.asked;
+      certifiable = kept.certifiable;
     }
 
 pub named-after : (building : Option RoomState) (session : SessionValue) (given : Command) (answer : Reply) (new : SessionState)

@@ -22,6 +22,9 @@ pub mod DuoRooms
 pub mod DuosUnderway
 pub mod Ascending
 pub mod Kept
+pub mod WritableGoals
+pub mod Writables
+pub mod Certifying
 pub mod OneTranscript
 pub mod Lifted
 pub mod InOrder

@@ -10,11 +10,13 @@ use Rattle.px_script.specs.declared.command.Command.TheVariants.{Plan, Run}
 use Rattle.px_script.specs.declared.command.Command.TheVariants as command
 use Rattle.px_rooms.specs.States.{RoomState}
 use Rattle.px_script.specs.Ranges.{result_given}
+use Rattle.px_session.specs.CertifiedReplies.{IsCertifiableProblem}
 use Rattle.px_session.specs.Named.{AreNamesOfProblem, IsTellable}
 use Rattle.px_session.specs.Opened.{SessionValue}
 use Rattle.px_session.specs.OwnStates.{IsOwnEdit, IsOwnState, edits_given}
 use Rattle.px_session.specs.Places.{IsPlaced, Takes}
 use Rattle.px_session.specs.Sessions.{Edit, IsSession}
+use Rattle.px_session.specs.Writable.{AsksWritable, HasWritableTables}
 
 -- the goal is one of the problem over no more variables than one may have, and there is an object where there is a variable
 pub record IsGoalToPlan (problem : Problem) (goal : List Atom) (vars : ℕ) : Type 0 where
@@ -55,7 +57,8 @@ IsGivenLater session name = Contains (flat_map result_given (drop session.done s
 
 -- The problem is valid, its numbers have names, and what the state has is its own; with a building its atoms are the building's facts.
 -- Each command can be run, and its reply printed. The commands give each result once, and none that is still to be done gives the name of a
--- table that is saved, learned or edited. No more disturbances are recorded than commands are done.
+-- table that is saved, learned or edited. No more disturbances are recorded than commands are done. Its tables can be written, and so can
+-- those that the commands ask for.
 pub record IsKeptSession (building : Option RoomState) (session : SessionValue) : Type 0 where
   pub problem : IsValid session.problem
   pub names : AreNamesOfProblem session.problem session.names
@@ -68,3 +71,6 @@ pub record IsKeptSession (building : Option RoomState) (session : SessionValue) 
   pub learned : All (λ name. ¬ IsGivenLater session name) session.state.learned.names
   pub few : length session.commands < u32_max
   pub recorded : length session.state.recorded ≤ session.done
+  pub written : HasWritableTables session.problem session.state
+  pub asked : All (AsksWritable session.problem) session.commands
+  pub certifiable : IsCertifiableProblem session.problem

@@ -7,6 +7,7 @@ ghost use Rattle.px_script.specs.ReadScripts.{content};
 ghost use Rattle.px_script.specs.declared.command.Command.TheVariants.{Facts};
 ghost use Rattle.px_rooms.specs.States.{IsBuilding, first_state};
 ghost use Rattle.px_table.specs.Kernels.{KernelsCarry};
+ghost use Rattle.px_session.specs.CertifiedReplies.{ReplyIsAccepted};
 ghost use Rattle.px_session.specs.Lawful.{Lawful};
 ghost use Rattle.px_session.specs.Opened.{opened_session, tables_of};
 
@@ -121,6 +122,7 @@ impl Session {
         ensures frame { OnOk result (self.new ≡ record self.old { done = k + 1; state = self.new.state }) }
         ensures kept { OnErr result (self.new ≡ self.old) }
         ensures named { IfOk result (IsReplyNamed self.old.names) }
+        ensures certified { IfOk result (ReplyIsAccepted self.old.problem self.old.state) }
         ensures kernels { OnOk result (All (KernelsCarry self.new.problem) (tables_of self.new.state)) }
     {
         let command = &self.commands.as_slice()[k];
