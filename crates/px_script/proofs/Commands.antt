@@ -1,6 +1,6 @@
 -- One more command keeps commands in range, and so does another problem with the same objects.
 use Rattle.std.proofs.lemmas.List.FromFn.{map-range_with_len_more}
-use Rattle.px_script.proofs.Common.{flat_map-append, append_assoc, append-nil, length, Bool, ◌≡◌, ℕ, ◌+◌, ◌≤◌, true, false, ◌||◌, ◌==◌, List, [], ◌∷◌, ◌++◌, refl, sym, ap, ◌∙◌, subst, arith, map-id, All, Some, fold, flat_map, list_any, range_with_len, scan, nat_tests, or_right, list_any-append, Problem, Thing, Command, Plan, Learn, Show, DisturbAtoms, Run, Duo, Edit, CommandsInRange, IsCommandOf, IsAmong, disturbs_after}
+use Rattle.px_script.proofs.Common.{flat_map-append, append_assoc, append-nil, length, Bool, Option, ◌≡◌, ℕ, ◌+◌, ◌≤◌, true, false, ◌||◌, ◌==◌, List, [], ◌∷◌, ◌++◌, refl, sym, ap, ◌∙◌, subst, arith, map-id, All, Some, fold, flat_map, list_any, range_with_len, scan, nat_tests, or_right, list_any-append, Problem, Thing, Command, Plan, Learn, Show, DisturbAtoms, Run, Duo, Edit, CommandsInRange, IsCommandOf, IsAmong, disturbs_after}
 use Rattle.px_script.proofs.Problems.{Grows, atoms-kept}
 
 pub one-more-result : (old : ℕ) → range_with_len 0 old ++ old ∷ [] ≡ range_with_len 0 (old + 1)

@@ -50,7 +50,7 @@ pub use Rattle.px_terms.specs.Operators.{no_schema}
 pub use Rattle.std.proofs.lemmas.Grind.{flat_map-append}
 pub use Rattle.std.proofs.lemmas.List.Sums.{fold-append, passes_at_first}
 pub use Rattle.std.specs.Fmt.{decimal}
-pub use Rattle.px_proof.specs.Derivation.{Derivation, Derivations, derivations, height, greatest_height, none as no_parts, also}
+pub use Rattle.px_proof.specs.Derivation.{Derivation, Derivations, derivations, height as height_of, greatest_height, none as no_parts, also}
 pub use Rattle.px_proof.specs.LayerLaws.{HasNoOpenPlace, HaveNoOpenPlace, derivation_of-proof_of, proof_of}
 pub use Rattle.px_proof.specs.ProofTerm.{derivation_of}
 pub use Rattle.px_table.specs.Tables.{rows_of}

@@ -635,12 +635,12 @@ module _ (n : ℕ) (d : Declared) where
           (omega (arith, count)) (omega (arith, count)) is_command earlier (assumption r.roles) plans_are tables_are
 
       -- a command that gives a table
-      table-kept : result_given c ≡ results ∷ [] → disturbs_after d.disturbs c ≡ d.disturbs → table_given c ≡ results ∷ []
+      given-kept : result_given c ≡ results ∷ [] → disturbs_after d.disturbs c ≡ d.disturbs → table_given c ≡ results ∷ []
           → repeats d.names.results (name ∷ []) ≡ false → list_any (is_long d.version) (name ∷ []) ≡ false
           → nat_lt (greatest d.version limit.commands) (length d.commands + 1) ≡ false
           → IsCommandOf d.version p d.things (length named) c → NamesEarlier first d.commands c
           → AreInRange (given c named (record d.roles { tables = d.roles.tables ++ name ∷ [] }))
-      table-kept gives disturbs gives_table single short full is_command earlier =
+      given-kept gives disturbs gives_table single short full is_command earlier =
           result-kept d.roles.plans (d.roles.tables ++ name ∷ []) gives disturbs single short full is_command earlier plans-now
           (new-given table_given first d.roles.tables gives_table single tables-now)
 
@@ -651,7 +651,7 @@ module _ (n : ℕ) (d : Declared) where
         r.results.plans f.known.0 in
         let known = at-name (λ m. has_name m d.names.results ≡ true) d.roles.plans source r.results.plan_names f.known.0 in
         let below = number-below source d.names.results known in
-        table-kept name c refl refl refl f.single.0 f.short.0 f.limits.0 (omega (arith, count), omega (arith, count, below)) among
+        given-kept name c refl refl refl f.single.0 f.short.0 f.limits.0 (omega (arith, count), omega (arith, count, below)) among
 
     -- pairs of numbers of which none is too great
     abbrev AreSmall : ℕ × ℕ → Type 0
@@ -667,7 +667,7 @@ module _ (n : ℕ) (d : Declared) where
     edit-kept name source prefix ps filled f = let count = length-append d.names.results (name ∷ []) in
         let c = Edit results (number_in source d.names.results) prefix ps in let below = known-result source f.known.0 in
         let great = or_parts (nat_lt last_number prefix) _ f.limits.1.0 in
-        table-kept name c refl refl refl f.single.0 f.short.0 f.limits.0 (
+        given-kept name c refl refl refl f.single.0 f.short.0 f.limits.0 (
           omega (arith, count),
           omega (arith, count, below),
           at-most _ _ great.0,

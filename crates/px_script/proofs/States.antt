@@ -1,6 +1,6 @@
 -- What the lines so far keep: that what they have declared is in range. No part of what a script is, but of how that is shown.
 use Rattle.px_script.specs.Limits as limit
-use Rattle.px_script.proofs.Common.{problem_here, WrittenTable, BlockKind, OpenBlock, of_table_steps, of_table_rows, IsSavedTable, IsTableBefore, goal_place, last_number, height, HasNoOpenPlace, max, map, ◌∷◌, ◌++◌, greatest, Bool, IsWithin, of_version, AreNamesOf, ◌≡◌, ◌≤◌, ◌+◌, ℕ, true, false, List, [], length, take, Option, None, Some, All, IfSome, EachIndex, is_some, fold, slice_index_or, unwrap_or, flat_map, list_any, NameLists, has_name, IsBoxAt, IsDoorAt, IsRoomAt, StandsRight, robot_rooms, standings, IsSchemaOf, Problem, Thing, Command, Declared, OpenOperator, Roles, operator_here, number_in, block_here, predicate_names, predicate_arities, operator_names, Block, building_block, is_robot, own_problem, NamesInRange, ProblemInRange, FactsInRange, CommandsInRange, HasShortLists, IsAmong, IsThingAfter, plan_given, disturbs_after, robot_name}
+use Rattle.px_script.proofs.Common.{problem_here, WrittenTable, BlockKind, OpenBlock, of_table_steps, of_table_rows, IsSavedTable, IsTableBefore, goal_place, last_number, height_of, HasNoOpenPlace, max, map, ◌∷◌, ◌++◌, greatest, Bool, IsWithin, of_version, AreNamesOf, ◌≡◌, ◌≤◌, ◌+◌, ℕ, true, false, List, [], length, take, Option, None, Some, All, IfSome, EachIndex, is_some, fold, slice_index_or, unwrap_or, flat_map, list_any, NameLists, has_name, IsBoxAt, IsDoorAt, IsRoomAt, StandsRight, robot_rooms, standings, IsSchemaOf, Problem, Thing, Command, Declared, OpenOperator, Roles, operator_here, number_in, block_here, predicate_names, predicate_arities, operator_names, Block, building_block, is_robot, own_problem, NamesInRange, ProblemInRange, FactsInRange, CommandsInRange, HasShortLists, IsAmong, IsThingAfter, plan_given, disturbs_after, robot_name}
 use Rattle.px_world.specs.declared.thing.Thing.TheVariants.{Room}
 
 -- The operator is in range, and has the number that its schema will have.
@@ -54,7 +54,7 @@ pub record ResultsInRange (from_blocks : List ℕ) (results : List (List ℕ)) (
 pub record IsTableBegun (version : ℕ) (t : WrittenTable) : Type 0 where
   pub short : length t.steps ≤ greatest version limit.table_steps
   pub few_parameters : t.parameters ≤ last_number
-  pub low : All (All (λ d. height d ≤ greatest version limit.proof_height)) t.rows
+  pub low : All (All (λ d. height_of d ≤ greatest version limit.proof_height)) t.rows
   pub closed : All (All HasNoOpenPlace) t.rows
 
 pub record IsTableAimed (version objects : ℕ) (t : WrittenTable) : Type 0 where
