@@ -21,7 +21,7 @@ use Rattle.px_printer.specs.declared.reply.SaveWhy.TheVariants.{TooLong, TooDeep
 use Rattle.px_script.specs.declared.command.Command.{Command}
 use Rattle.px_script.specs.declared.command.Command.TheVariants as command
 use Rattle.px_script.specs.Content.{ScriptValue}
-use Rattle.px_script.specs.Limits.{last_number}
+use Rattle.px_script.specs.declared.limits.TheConstants.{LAST_NUMBER as last_number}
 use Rattle.px_script.specs.Ranges.{IsInRange, IsSavedTable}
 use Rattle.px_session.specs.CertifiedReplies.{CertificatesAreAccepted, IsAccepted, IsCertifiableProblem, ReplyIsAccepted, TablesStayWritable}
 use Rattle.px_session.specs.Lawful.{IsSaved, Lawful, RefusesSaving, TellsCertifying}

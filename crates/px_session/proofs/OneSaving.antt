@@ -13,7 +13,7 @@ use Rattle.px_printer.specs.declared.reply.Reply.TheVariants as reply
 use Rattle.px_printer.specs.declared.reply.SaveWhy.{SaveWhy}
 use Rattle.px_printer.specs.declared.reply.SaveWhy.TheVariants.{TooLong, TooDeep, TooMany}
 use Rattle.px_script.specs.declared.command.Command.TheVariants as command
-use Rattle.px_script.specs.Limits.{last_number}
+use Rattle.px_script.specs.declared.limits.TheConstants.{LAST_NUMBER as last_number}
 use Rattle.px_session.specs.Determined.{SameReply}
 use Rattle.px_session.specs.Existing.{HasReply}
 use Rattle.px_session.specs.Lawful.{IsCertified, IsNotSaved, IsSaved, RefusesSaving, TellsCertifying, TellsSaving}

@@ -110,14 +110,20 @@ in-range count v below =
     let read = get_or-range_with_len 0 count v v below in
     (v, omega (arith, below, length-range_with_len 0 count), read ∙ omega arith)
 
+-- without parameters
+last-within : (problem : Problem) (vars : ℕ) (terms : List Term) → AreTerms problem vars terms → last_of 0 terms ≤ vars
+last-within problem vars terms of =
+    let same : vars ≡ 0 + vars = omega arith in
+    last-low problem 0 vars terms (subst (λ (n : ℕ). AreTerms problem n terms) same of)
+
 -- the last of as many variables as there are is the last that occurs
 pub numbered-last : (problem : Problem) (vars : ℕ) (goal : List Atom) → All (IsAtomOf problem vars) goal → AreNumbered vars goal
     → vars ≡ last_of 0 (arguments_of goal)
 numbered-last problem zero goal of numbered =
-    let low = last-low problem 0 0 (arguments_of goal) (are-terms problem 0 goal of) in omega (arith, low)
+    let low = last-within problem 0 (arguments_of goal) (are-terms problem 0 goal of) in omega (arith, low)
 numbered-last problem (suc vars) goal of numbered =
     let terms = arguments_of goal in
-    let low = last-low problem 0 (suc vars) terms (are-terms problem (suc vars) goal of) in
+    let low = last-within problem (suc vars) terms (are-terms problem (suc vars) goal of) in
     let first = subst (λ (vs : List ℕ). Contains vs vars) (sym numbered) (in-range (suc vars) vars (omega arith)) in
     let there = occurs terms vars (occurs-first (filter_map variable_in terms) vars first) in
     let reached = reached-from 0 (vars + 1 - 0) (map (goal_place 0) terms) (mapped (goal_place 0) terms (Var vars) there) in

@@ -34,7 +34,7 @@ use Rattle.px_cert.specs.Certificates.{IsShortSchema}
 use Rattle.px_script.specs.declared.command.Command.{Command}
 use Rattle.px_script.specs.declared.command.Command.TheVariants as command
 use Rattle.px_script.specs.Content.{ScriptValue}
-use Rattle.px_script.specs.Limits as limit
+use Rattle.px_script.specs.declared.limits.Limit.TheVariants as limit
 use Rattle.px_script.specs.Limits.{greatest}
 use Rattle.px_script.specs.RangeLaws.{version-most}
 use Rattle.px_script.specs.Ranges.{HasShortLists, IsCommandOf, IsGoalOf, IsInRange, IsSavedTable, last_goal_variable}
@@ -71,8 +71,8 @@ plan-writable : (task : Task) (moves : List Move) (made : Table) → IsTableOfMo
     → IsGoalOf 2 task.problem task.goal task.vars → IsWritable task.problem made
 plan-writable task moves made is of = record {
   some = subst (λ (goal : List Atom). 1 ≤ length goal) (sym is.goal) of.some;
-  few_atoms = subst (λ (goal : List Atom). length goal ≤ greatest 2 limit.goal_atoms) (sym is.goal) of.few;
-  few_variables = subst (λ (vars : ℕ). vars ≤ greatest 2 limit.variables) (sym is.goal_vars) of.few_variables;
+  few_atoms = subst (λ (goal : List Atom). length goal ≤ greatest 2 limit.GoalAtoms) (sym is.goal) of.few;
+  few_variables = subst (λ (vars : ℕ). vars ≤ greatest 2 limit.Variables) (sym is.goal_vars) of.few_variables;
   last_occurs = is.goal_vars ∙ numbered-last task.problem task.vars task.goal of.atoms of.numbered
       ∙ sym ((λ i. last_of (is.params i) (arguments_of (is.goal i))));
   sorts = is.param_sorts ∙ sym (no-sorts task.problem made.steps made.params is.params);
@@ -165,7 +165,7 @@ module _ (problem : Problem) (valid : IsValid problem) (none : problem.objects �
 
 module _ (problem : Problem) (valid : IsValid problem) (table : Table) (wanted : List (ℕ × ℕ)) (edited : Table)
     (is : IsEdited problem table wanted edited) (is_table : IsTable problem edited) (some : 1 ≤ length wanted)
-    (few : length wanted ≤ greatest 2 limit.pairs) where
+    (few : length wanted ≤ greatest 2 limit.Pairs) where
   abbrev names : List Term
   names = names_by table.params (left_parameters problem table wanted is.kept)
 

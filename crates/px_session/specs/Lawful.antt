@@ -33,7 +33,7 @@ use Rattle.px_printer.specs.declared.turn.TurnEnd.{TurnEnd}
 use Rattle.px_printer.specs.declared.turn.TurnEnd.TheVariants.{Acted, Slipped, Goal, NoKernel}
 use Rattle.px_script.specs.declared.command.Command.{Command}
 use Rattle.px_script.specs.declared.command.Command.TheVariants as command
-use Rattle.px_script.specs.Limits.{last_number}
+use Rattle.px_script.specs.declared.limits.TheConstants.{LAST_NUMBER as last_number}
 use Rattle.px_session.specs.DuoRuns.{RunsDuo}
 use Rattle.px_session.specs.Sessions.{Edit, SessionState, any_table, leaves_edit, of_atoms, of_rooms}
 
