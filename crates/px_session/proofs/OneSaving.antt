@@ -217,17 +217,17 @@ module _ (problem : Problem) (old : SessionState) (name : ℕ) where
         | inl found ↦
             (reply.CertifyRefused name found.0, (old, (refl, record { table = table; named = named; refused = found.1; same = refl })))
         | inr allowed ↦ (
-            reply.Certified name (certificate_text problem table),
+          reply.Certified name (certificate_text problem table),
+          (
+            old,
             (
-              old,
-              (
-                refl,
-                record {
-                  table = table;
-                  saved = record { named = named; allowed = allowed; same = refl };
-                  bytes_are = refl;
-                },
-              ),
+              refl,
+              record {
+                table = table;
+                saved = record { named = named; allowed = allowed; same = refl };
+                bytes_are = refl;
+              },
             ),
-          )
+          ),
+        )
       ]

@@ -68,9 +68,9 @@ mod stored_runs;
 mod turns;
 
 pub use laws::{
-    answers_are_one, causes_in_order, certificates_are_accepted, lawful_is_one, one_kind_runs, refused_replies,
-    replies_are_named, replies_exist, rooms_are_kept, sessions_are_kept, tables_stay_writable, told_duos, told_runs,
-    transcripts_are_one, transcripts_exist, undisturbed_runs, worked_demo, worked_rooms,
-    worked_session,
+    answers_are_one, causes_in_order, certificates_are_accepted, lawful_is_one, one_kind_runs,
+    refused_replies, replies_are_named, replies_exist, rooms_are_kept, sessions_are_kept,
+    tables_stay_writable, told_duos, told_runs, transcripts_are_one, transcripts_exist,
+    undisturbed_runs, worked_demo, worked_rooms, worked_session,
 };
 pub use session::Session;
