@@ -11,7 +11,7 @@ use Rattle.px_script.specs.Ranges.{result_given}
 
 -- ---- numbers that are all different
 
-abbrev AreApart : List ℕ → Type 0
+abbrev pub AreApart : List ℕ → Type 0
 AreApart names = AllPairs (λ one other. one ≢ other) names
 
 apart-rest : (n : ℕ) (names : List ℕ) → AreApart (n ∷ names) → AreApart names
@@ -21,7 +21,7 @@ apart-first : (n : ℕ) (names : List ℕ) → AreApart (n ∷ names) → All (�
 apart-first n names apart j d within = apart 0 (suc j) d (omega arith) (omega (arith, within))
 
 -- none is both before a place and after it
-apart-parts : (before after : List ℕ) (n : ℕ) → AreApart (before ++ after) → Contains before n → ¬ Contains after n
+pub apart-parts : (before after : List ℕ) (n : ℕ) → AreApart (before ++ after) → Contains before n → ¬ Contains after n
 apart-parts [] after n apart here there = Contains-none n here
 apart-parts (one ∷ before) after n apart here there =
     elim (Contains-cases one before n here) [

@@ -10,6 +10,7 @@ pub mod ToldRuns
 pub mod Undisturbed
 pub mod OneReply
 pub mod GivenNames
+pub mod Opening
 pub mod Learned
 pub mod Shapes
 pub mod Walks

@@ -138,7 +138,8 @@ fn library_of(alloc: Global, saved: Sequence<(u32, Table)>) -> Result<Library, N
         match library.learn(name, table) {
             Ok(()) => {}
             Err(LibErr::NoMemory) => return Err(NoMemory),
-            Err(LibErr::Duplicate | LibErr::Full) => unreachable!(),
+            Err(LibErr::Duplicate) => unreachable!(),
+            Err(LibErr::Full) => unreachable!(),
         }
     }
     Ok(library)
