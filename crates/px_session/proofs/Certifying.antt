@@ -62,7 +62,7 @@ record HasNoCause (table : Table) : Type 0 where
   pub low : ¬ IsTooDeep table
   pub few : ¬ (last_number < table.params)
 
-no-cause : (table : Table) → ((why : SaveWhy) → ¬ RefusesSaving table why) → HasNoCause table
+pub no-cause : (table : Table) → ((why : SaveWhy) → ¬ RefusesSaving table why) → HasNoCause table
 no-cause table allowed = record {
   short = allowed TooLong;
   low = λ deep. allowed TooDeep (allowed TooLong, deep);

@@ -4,6 +4,7 @@ use Rattle.std.proofs.Common.{refl, sym, ap, ◌∙◌, subst, arith, get_or, ze
 use Rattle.std.proofs.lemmas.List.{length-append}
 use Rattle.std.proofs.lemmas.List.Elements.{All-nil, All-weaker, Contains-append_cases}
 use Rattle.px_base.specs.Bounds.{u32_max}
+use Rattle.px_names.specs.Lists.{AreNameLists}
 use Rattle.px_terms.specs.declared.problem.Problem.{Problem}
 use Rattle.px_table.specs.declared.table.Table.{Table}
 use Rattle.px_table.specs.Kernels.{KernelsCarry}
@@ -98,8 +99,8 @@ abbrev saved_names : ScriptValue → List ℕ
 saved_names script = map (λ (one : ℕ × Table). one.0) script.saved
 
 -- a session keeps what it is to keep before its first command
-pub kept-opened : (script : ScriptValue) → IsInRange script → IsKeptSession (at_first script.building) (opened_session script)
-kept-opened script range = record {
+pub kept-opened : (script : ScriptValue) → IsInRange script → AreNameLists script.names → IsKeptSession (at_first script.building) (opened_session script)
+kept-opened script range named = record {
   problem = range.problem.valid;
   names = record { objects = sym range.problem.objects; predicates = sym range.problem.predicates; operators = range.operators };
   state = sessions_are_kept.scripts script range;
@@ -117,6 +118,8 @@ kept-opened script range = record {
   written = writable-opened script range;
   asked = all-ask script range;
   certifiable = certifiable-problem script range;
+  named = named;
+  short_names = range.names.results.short;
 }
 
 -- ---- each command
@@ -214,6 +217,8 @@ kept-after building left session given answer new done kept more below is runs a
       written = writable-kept session.problem session.state given answer new kept.problem kept.state kept.written asks lawful;
       asked = kept.asked;
       certifiable = kept.certifiable;
+      named = kept.named;
+      short_names = kept.short_names;
     }
 
 pub named-after : (building : Option RoomState) (session : SessionValue) (given : Command) (answer : Reply) (new : SessionState)

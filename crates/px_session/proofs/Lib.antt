@@ -26,6 +26,7 @@ pub mod Kept
 pub mod WritableGoals
 pub mod Writables
 pub mod Certifying
+pub mod ReadingBack
 pub mod OneTranscript
 pub mod Lifted
 pub mod InOrder

@@ -2,6 +2,8 @@
 use Rattle.std.specs.Prelude.{◌≢◌, ◌<◌, ◌≤◌, ℕ, Option, List, length, drop, flat_map, All, AllPairs, Contains}
 use Rattle.px_terms.specs.Limits.{most_formula_variables}
 use Rattle.px_base.specs.Bounds.{u32_max}
+use Rattle.px_names.specs.Lists.{AreNameLists}
+use Rattle.px_saved.specs.ReadBack.{IsShortName}
 use Rattle.px_terms.specs.declared.atom.Atom.{Atom}
 use Rattle.px_terms.specs.declared.problem.Problem.{Problem}
 use Rattle.px_terms.specs.Validity.{IsAtomOf, IsValid}
@@ -58,7 +60,7 @@ IsGivenLater session name = Contains (flat_map result_given (drop session.done s
 -- The problem is valid, its numbers have names, and what the state has is its own; with a building its atoms are the building's facts.
 -- Each command can be run, and its reply printed. The commands give each result once, and none that is still to be done gives the name of a
 -- table that is saved, learned or edited. No more disturbances are recorded than commands are done. Its tables can be written, and so can
--- those that the commands ask for.
+-- those that the commands ask for; and its names can be declared.
 pub record IsKeptSession (building : Option RoomState) (session : SessionValue) : Type 0 where
   pub problem : IsValid session.problem
   pub names : AreNamesOfProblem session.problem session.names
@@ -74,3 +76,5 @@ pub record IsKeptSession (building : Option RoomState) (session : SessionValue) 
   pub written : HasWritableTables session.problem session.state
   pub asked : All (AsksWritable session.problem) session.commands
   pub certifiable : IsCertifiableProblem session.problem
+  pub named : AreNameLists session.names
+  pub short_names : All IsShortName session.names.results

@@ -7,6 +7,8 @@ ghost use Rattle.px_script.specs.ReadScripts.{content};
 ghost use Rattle.px_script.specs.declared.command.Command.TheVariants.{Facts};
 ghost use Rattle.px_rooms.specs.States.{IsBuilding, first_state};
 ghost use Rattle.px_table.specs.Kernels.{KernelsCarry};
+ghost use Rattle.px_names.specs.Lists.{AreNameLists};
+ghost use Rattle.px_saved.specs.ReadBack.{ReplyIsReadBack};
 ghost use Rattle.px_session.specs.CertifiedReplies.{ReplyIsAccepted};
 ghost use Rattle.px_session.specs.Lawful.{Lawful};
 ghost use Rattle.px_session.specs.Opened.{opened_session, tables_of};
@@ -14,7 +16,7 @@ ghost use Rattle.px_session.specs.Opened.{opened_session, tables_of};
 use crate::commands::run_command;
 use crate::state::State;
 use px_base::{NoMemory, Sequence};
-use px_names::Names;
+use px_names::{Kind, Names};
 use px_ops::Model;
 use px_printer::Reply;
 use px_rooms::{Building, RoomErr, RoomWorld};
@@ -69,6 +71,7 @@ impl Session {
     pub fn new(alloc: Global, script: Script) -> Result<Session, NoMemory>
         ensures opened { IfOk result (λ session. session ≡ opened_session (content script)) }
     {
+        are_names(&script.names);
         let building = world_of(alloc, &script.building)?;
         let state = State::opening(alloc, script.facts, script.tables)?;
         Ok(Session {
@@ -123,6 +126,7 @@ impl Session {
         ensures kept { OnErr result (self.new ≡ self.old) }
         ensures named { IfOk result (IsReplyNamed self.old.names) }
         ensures certified { IfOk result (ReplyIsAccepted self.old.problem self.old.state) }
+        ensures read_back { IfOk result (ReplyIsReadBack self.old.problem self.old.names) }
         ensures kernels { OnOk result (All (KernelsCarry self.new.problem) (tables_of self.new.state)) }
     {
         let command = &self.commands.as_slice()[k];
@@ -136,6 +140,16 @@ impl Session {
         self.done += 1;
         Ok(reply)
     }
+}
+
+/// Does nothing but what each call of `Names` tells: that the texts of each kind are distinct names in UTF-8.
+fn are_names(names: &Names)
+    ensures { AreNameLists names.now }
+{
+    names.count(Kind::Object);
+    names.count(Kind::Predicate);
+    names.count(Kind::Operator);
+    names.count(Kind::Result);
 }
 
 /// Returns the world of a building as it stands at first, if there is a building.

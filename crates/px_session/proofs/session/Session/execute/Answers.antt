@@ -1,6 +1,7 @@
 -- Proofs of the goals that `Session::execute` of src/session.rt leaves open.
 use Rattle.std.proofs.Common.{◌≡◌, ◌+◌, ◌<◌, All, Contains, drop, flat_map, get_or, length, refl, sym, subst, arith}
 use Rattle.px_printer.specs.Replies.{IsReplyNamed}
+use Rattle.px_saved.specs.ReadBack.{ReplyIsReadBack}
 use Rattle.px_script.specs.Ranges.{result_given}
 use Rattle.px_session.specs.KeptSessions.{IsRunnable}
 use Rattle.px_session.specs.Named.{IsTellable}
@@ -11,6 +12,7 @@ use Rattle.px_session.specs.contracts.session.Session as held
 use Rattle.px_session.proofs.Certifying.{reply-accepted}
 use Rattle.px_session.proofs.Executing.{at-place, command-at, kept-after, kernels-after, named-after}
 use Rattle.px_session.proofs.GivenNames.{names-new}
+use Rattle.px_session.proofs.ReadingBack.{reply-read-back}
 use Rattle.px_session.proofs.session.Session.execute.Goals as goal
 
 pub run_command-requires-clause-runnable : goal.run_command-requires-clause-runnable
@@ -81,3 +83,17 @@ returns-clause-certified c =
     subst (λ (s : SessionValue). ReplyIsAccepted s.problem s.state c.in_ok-reply.reply) c.self.view_is
     (reply-accepted c.self.inside.problem c.self.inside.state c.run_command.new.state c.self.invariant.problem c.self.invariant.certifiable
     c.self.invariant.state c.self.invariant.written c.index-as_slice-k.result c.in_ok-reply.reply c.in_ok-reply.ensures.lawful)
+
+pub returns-clause-read_back : goal.returns-clause-read_back
+returns-clause-read_back c =
+    let below = subst (λ (s : SessionValue). c.args.k < length s.commands) (sym c.self.view_is) c.requires.below in
+    let tellable = at-place (IsTellable c.self.inside.problem
+    (length c.self.inside.names.results)) c.self.inside.commands c.as_slice.result.now c.args.k
+    c.index-as_slice-k.result c.self.invariant.tellable c.as_slice.ensures below c.index-as_slice-k.is in
+    subst (λ (s : SessionValue). ReplyIsReadBack s.problem s.names c.in_ok-reply.reply) c.self.view_is
+    (reply-read-back c.self.inside.problem c.self.inside.names c.self.invariant.named c.self.invariant.short_names c.self.inside.state
+    c.run_command.new.state c.self.invariant.state c.self.invariant.written c.index-as_slice-k.result c.in_ok-reply.reply
+    (named-after c.self.inside.building (held.the_view c.self.inside)
+    c.index-as_slice-k.result c.in_ok-reply.reply c.run_command.new.state c.self.invariant tellable
+    c.in_ok-reply.ensures.lawful)
+    c.in_ok-reply.ensures.lawful)
