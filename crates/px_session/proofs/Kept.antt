@@ -55,7 +55,7 @@ not-any P Q never xs all one = never one.1 (subst P one.3 (all one.0 one.1 one.2
 -- a table that a script may have saved is like a learned one
 saved-learned : (version : ℕ) (problem : Problem) (table : Table) → IsSavedTable version problem table → IsLearnedTable problem table
 saved-learned version problem table is = record {
-  table = (tables_are_decided problem table).0 is.table;
+  table = (tables_are_decided problem table).0 is.is_one;
   short = let most = is.short in λ long. omega (arith, long, most);
   low = not-any (All (λ d. height d ≤ 56)) (Any (λ d. 56 < height d))
       (not-any (λ d. height d ≤ 56) (λ d. 56 < height d) (λ d low high. omega (arith, low, high)))
