@@ -10,7 +10,8 @@ use Rattle.px_table.specs.declared.table.Table.{Table}
 use Rattle.px_table.specs.KernelLaws.{kernels_carry}
 use Rattle.px_table.specs.Tables.{rows_of}
 use Rattle.px_table.proofs.DecidingLaws.{tables_are_decided}
-use Rattle.px_cert.specs.Certificates.{IsCertifiable, certified}
+use Rattle.px_cert.specs.Certificates.{IsCertifiable}
+use Rattle.px_cert.specs.ClaimRanges.{certified}
 use Rattle.px_cert.proofs.Certifying.{accepted}
 use Rattle.px_general.specs.Limits.{IsTooDeep, IsTooLong}
 use Rattle.px_library.specs.Libraries.{table_named}

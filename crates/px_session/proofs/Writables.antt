@@ -30,7 +30,7 @@ use Rattle.px_printer.specs.declared.reply.Reply.{Reply}
 use Rattle.px_ends.specs.Made.{IsTableOfMoves}
 use Rattle.px_ends.specs.Tasks.{Task, task_of}
 use Rattle.px_table.specs.declared.entry.Move.{Move}
-use Rattle.px_cert.specs.Certificates.{IsShortSchema}
+use Rattle.px_cert.specs.ClaimRanges.{IsShortSchema}
 use Rattle.px_script.specs.declared.command.Command.{Command}
 use Rattle.px_script.specs.declared.command.Command.TheVariants as command
 use Rattle.px_script.specs.Content.{ScriptValue}

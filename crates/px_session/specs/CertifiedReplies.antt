@@ -7,8 +7,8 @@ use Rattle.px_terms.specs.Validity.{IsValid}
 use Rattle.px_table.specs.declared.table.Table.{Table}
 use Rattle.px_table.specs.Kernels.{KernelsCarry}
 use Rattle.px_table.specs.Tables.{IsTable}
-use Rattle.px_cert.specs.Certificates.{IsCertificate, IsShortSchema, certified, certified_claim}
-use Rattle.px_cert.specs.Drafts.{AreAtMost}
+use Rattle.px_cert.specs.Certificates.{IsCertificate, certified_claim}
+use Rattle.px_cert.specs.ClaimRanges.{AreAtMost, IsShortSchema, certified}
 use Rattle.px_cert.specs.Limits.{greatest_sort, most_objects, most_operators, most_predicates}
 use Rattle.px_printer.specs.declared.reply.Reply.{Reply}
 use Rattle.px_printer.specs.declared.reply.Reply.TheVariants as reply
