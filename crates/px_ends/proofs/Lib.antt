@@ -9,4 +9,5 @@ pub mod Smallest
 pub mod Operators
 pub mod ByValueLaws
 pub mod Fitting
+pub mod PickCounts
 pub mod WorkedByValue

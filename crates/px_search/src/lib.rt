@@ -35,14 +35,16 @@
 mod after;
 mod all_steps;
 mod begun;
-mod breadth_first;
+mod best_first;
 mod effects;
 mod ends;
+mod estimates;
 mod merging;
 mod moves;
 mod notes;
 mod offering;
 mod origins;
+mod picker;
 mod picks;
 mod planning;
 mod progress;
