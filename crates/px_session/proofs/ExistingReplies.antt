@@ -180,10 +180,10 @@ module _ (traces-exist : TracesExist leaves_edit) (duo-traces-exist : DuoTracesE
       abbrev task : Task
       task = task_of problem old.learned.tables old.atoms goal vars
 
-      by-end : HasEnd task → HasReply problem old (command.Plan name goal vars)
+      by-end : HasEnd task problem.weight → HasReply problem old (command.Plan name goal vars)
       by-end (inl found) =
           let moves = found.0 in
-          let made = found_have_tables task moves valid own (are-learned problem old session) found.1 in (
+          let made = found_have_tables task problem.weight moves valid own (are-learned problem old session) found.1 in (
             reply.Plan name (length moves) (steps_of task.tables [] moves),
             (
               record old { plans = with_table old.plans name made.0 },
@@ -198,7 +198,7 @@ module _ (traces-exist : TracesExist leaves_edit) (duo-traces-exist : DuoTracesE
       by-end (inr (inr (inr limit))) = (reply.ShapeLimit name limit.0 limit.1 limit.2, (old, (refl, limit.3, refl)))
 
       plan-reply : ¬ ¬ HasReply problem old (command.Plan name goal vars)
-      plan-reply never = searches_end task (λ end. never (by-end end))
+      plan-reply never = searches_end task problem.weight (λ end. never (by-end end))
 
     no-learning : (given : Command) → LearnsNothing given → IsOwnGoal problem given → ¬ ¬ HasReply problem old given
     no-learning (command.Plan name goal vars) learns own = plan-reply name goal vars own

@@ -7,8 +7,8 @@ use Rattle.px_general.specs.Limits.{IsTooDeep, IsTooLong}
 use Rattle.px_library.specs.Libraries.{table_named}
 use Rattle.px_ends.specs.Tasks.{Task, task_of}
 use Rattle.px_ends.specs.WorkedEnds.{idle, p}
-use Rattle.px_ends.proofs.Exclusion.{ends_are_one}
-use Rattle.px_ends.proofs.Operators.{end_facts}
+use Rattle.px_ends.proofs.ByValueLaws.{exhausted_with_all, value_ends_are_one}
+use Rattle.px_ends.proofs.WorkedByValue.{there_by_value}
 use Rattle.px_printer.specs.declared.reply.Reply.{Reply}
 use Rattle.px_printer.specs.declared.reply.Reply.TheVariants as reply
 use Rattle.px_printer.specs.declared.reply.Why.{Why}
@@ -92,11 +92,11 @@ abbrev task_p : Task
 task_p = task_of idle [] (p ∷ []) (p ∷ []) 0
 
 exhausted : (new : SessionState) → ¬ Lawful idle where_p plan_p (reply.Exhausted 0) new
-exhausted new is = ends_are_one.found_or_exhausted task_p [] end_facts.there is.1
+exhausted new is = exhausted_with_all.found task_p idle.weight idle.weight is.1 [] (there_by_value idle.weight)
 
 moved : (new : SessionState) → ¬ Lawful idle where_p plan_p (reply.Plan 0 1 []) new
 moved new is =
-    let none = ends_are_one.found task_p is.1.moves [] is.1.found end_facts.there in
+    let none = value_ends_are_one.found task_p idle.weight is.1.moves [] is.1.found (there_by_value idle.weight) in
     let count = is.1.counted ∙ ap length none in
     cc
 

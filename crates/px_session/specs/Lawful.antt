@@ -16,7 +16,7 @@ use Rattle.px_duo.specs.Duos.{both}
 use Rattle.px_cert.specs.Certificates.{certificate_text}
 use Rattle.px_edit.specs.EditCauses.{IsBadPrefix, IsEditable, IsFirstBadWant, KeepsTooDeep, KeepsTooMany}
 use Rattle.px_edit.specs.Editing.{IsEdited}
-use Rattle.px_ends.specs.Ends.{IsExhausted, IsFound, IsNodeLimit, IsShapeLimit}
+use Rattle.px_ends.specs.ByValue.{IsExhausted, IsFound, IsNodeLimit, IsShapeLimit}
 use Rattle.px_ends.specs.Made.{IsTableOfMoves}
 use Rattle.px_ends.specs.Tasks.{Task, steps_of, task_of}
 use Rattle.px_printer.specs.declared.duo_line.DuoLine.{DuoLine}
@@ -43,20 +43,21 @@ use Rattle.px_session.specs.Sessions.{Edit, SessionState, any_table, leaves_edit
 -- the steps to the goal, and the table is like each plan's: law `sessions_are_kept`.)
 pub record FindsPlan (task : Task) (name : ℕ) (old : SessionState) (count : ℕ) (steps : List OpInst) (new : SessionState) : Type 0 where
   pub moves : List Move
-  pub found : IsFound task moves
+  pub found : IsFound task task.problem.weight moves
   pub counted : count ≡ length moves
   pub taken : steps ≡ steps_of task.tables [] moves
   pub made : Table
   pub table : IsTableOfMoves task moves made
   pub stored : new ≡ record old { plans = with_table old.plans name made }
 
--- Each reply says how the search ended. Where no plan is found nothing changes.
+-- Each reply says how the search ended, which has the problem's weight. Where no plan is found nothing changes.
 abbrev pub TellsSearch : Task → ℕ → SessionState → Reply → SessionState → Type 0
 TellsSearch task name old (reply.Plan given count steps) new = (given ≡ name) × FindsPlan task name old count steps new
-TellsSearch task name old (reply.Exhausted given) new = (given ≡ name) × IsExhausted task × (new ≡ old)
-TellsSearch task name old (reply.NodeLimit given nodes moves) new = (given ≡ name) × IsNodeLimit task nodes moves × (new ≡ old)
-TellsSearch task name old (reply.ShapeLimit given node formula shapes) new = (given ≡ name) × IsShapeLimit task node formula shapes
-    × (new ≡ old)
+TellsSearch task name old (reply.Exhausted given) new = (given ≡ name) × IsExhausted task task.problem.weight × (new ≡ old)
+TellsSearch task name old (reply.NodeLimit given nodes moves) new = (given ≡ name)
+    × IsNodeLimit task task.problem.weight nodes moves × (new ≡ old)
+TellsSearch task name old (reply.ShapeLimit given node formula shapes) new = (given ≡ name)
+    × IsShapeLimit task task.problem.weight node formula shapes × (new ≡ old)
 TellsSearch task name old answer new = ⊥
 
 -- ---- learn
