@@ -107,8 +107,8 @@ stacking-rises (suc zero) within = omega arith
 stacking-rises (suc (suc zero)) within = omega arith
 stacking-rises (suc (suc (suc k))) within = absurd (omega (arith, within))
 
-one-pair : (step index k at : ℕ) → Contains ((step, index) ∷ []) (k, at) → k ≡ step
-one-pair step index k at has = elim (Contains-cases (step, index) [] (k, at) has) [
+one-pair : (number index k at : ℕ) → Contains {X = ℕ × ℕ} ((number, index) ∷ []) (k, at) → k ≡ number
+one-pair number index k at has = elim (Contains-cases (number, index) [] (k, at) has) [
   | inl here ↦ sym (ap (λ (p : ℕ × ℕ). p.0) here)
   | inr later ↦ absurd (Contains-none (k, at) later)
 ]

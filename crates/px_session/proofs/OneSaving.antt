@@ -164,15 +164,15 @@ any-or-none : {A : Type 0} (P : A → Type 0) → ((a : A) → P a ⊎ (¬ P a))
 any-or-none P decide [] = inr (λ (k, z, below, is, p). omega (arith, below))
 any-or-none P decide (x ∷ xs) = elim (decide x) [
   | inl p ↦ inl (0, x, omega arith, refl, p)
-  | inr no ↦ elim (any-or-none P decide xs) [
+  | inr lacks ↦ elim (any-or-none P decide xs) [
     | inl r ↦ inl (suc r.0, r.1, omega (arith, r.2), r.3, r.4)
-    | inr none ↦ inr (neither no none)
+    | inr none ↦ inr (neither lacks none)
   ]
 ]
   where
     neither : ¬ P x → ¬ Any P xs → ¬ Any P (x ∷ xs)
-    neither no none (zero, z, below, is, p) = no (subst P (sym is) p)
-    neither no none (suc k, z, below, is, p) = none (k, z, omega (arith, below), is, p)
+    neither lacks none (zero, z, below, is, p) = lacks (subst P (sym is) p)
+    neither lacks none (suc k, z, below, is, p) = none (k, z, omega (arith, below), is, p)
 
 above-or-not : (n m : ℕ) → (n < m) ⊎ (¬ (n < m))
 above-or-not n m = grind arith
