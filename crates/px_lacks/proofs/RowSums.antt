@@ -41,7 +41,8 @@ module _ (problem : Problem) (table : Table) (sigma : List ℕ) (steps : List Op
   next-counted place facts left formula count row sum next step below is before row_is formula_is sum_is left_is next_is =
       let here : Obligation = record { formula = initial_atoms table sigma (suc place); vars = 0; facts = facts } in
       let others : List Obligation =
-      row_obligations problem table sigma (filter (λ atom. not (deletes problem step atom)) facts) (suc (suc place)) (drop (suc place) steps) in
+      row_obligations problem table sigma (filter (λ atom. not (deletes problem step atom)) facts) (suc (suc place))
+      (drop (suc place) steps) in
       let parts : rest_from place facts ≡ lacks_of here + sum_by lacks_of others =
       ap (λ (l : List OpInst). sum_by lacks_of (row_obligations problem table sigma facts (suc place) l))
       (drop-cons steps place step below ∙ ap (λ (s : OpInst). s ∷ drop (suc place) steps) (sym is))

@@ -38,7 +38,8 @@ module _ {F : Type 0} (task : Task) (result : Result F SearchErr) (ends : IfErr 
   pub end-exhausted : IsErrOf result Exhausted → IsExhausted task task.problem.weight
   end-exhausted is = of_error Exhausted is
 
-  pub end-limit : (nodes : List Node) (moves : ℕ) → IsErrOf result (NodeLimit nodes moves) → IsNodeLimit task task.problem.weight nodes moves
+  pub end-limit : (nodes : List Node) (moves : ℕ) → IsErrOf result (NodeLimit nodes moves)
+      → IsNodeLimit task task.problem.weight nodes moves
   end-limit nodes moves is = of_error (NodeLimit nodes moves) is
 
   pub end-shape_limit : (node : Node) (formula : List Atom) (shapes : List (List Tick)) → IsErrOf result (ShapeLimit node formula shapes)
@@ -49,7 +50,8 @@ module _ {F : Type 0} (task : Task) (result : Result F SearchErr) (ends : IfErr 
 
 module _ {F : Type 0} (moves_of : F → List Move) (task : Task) (result : Result F SearchErr)
     (found : IfOk result (λ f. IsFound task task.problem.weight (moves_of f))) (ends : IfErr result (IsEnd task)) where
-  pub answers_found : (moves : List Move) → IsFound task task.problem.weight moves → IfOk result (λ f. moves_of f ≡ moves) × IfErr result (λ e. e ≡ NoMemory)
+  pub answers_found : (moves : List Move) → IsFound task task.problem.weight moves
+      → IfOk result (λ f. moves_of f ≡ moves) × IfErr result (λ e. e ≡ NoMemory)
   answers_found moves is = by result found ends
     where
       by : (r : Result F SearchErr) → IfOk r (λ f. IsFound task task.problem.weight (moves_of f)) → IfErr r (IsEnd task)
@@ -82,7 +84,8 @@ module _ {F : Type 0} (moves_of : F → List Move) (task : Task) (result : Resul
       by (Err (NodeLimit n m)) same h e =
           let parts = value_ends_are_one.node_limit task task.problem.weight n nodes m moves e is in
           inl (same ∙ (λ i. Err (NodeLimit (parts.0 i) (parts.1 i))))
-      by (Err (ShapeLimit n f s)) same h e = absurd (value_ends_are_one.shape_limit_or_node_limit task task.problem.weight n f s nodes moves e is)
+      by (Err (ShapeLimit n f s)) same h e =
+          absurd (value_ends_are_one.shape_limit_or_node_limit task task.problem.weight n f s nodes moves e is)
       by (Err NoMemory) same h e = inr same
 
   -- the answer is that some question which was asked meets the limit
@@ -90,14 +93,16 @@ module _ {F : Type 0} (moves_of : F → List Move) (task : Task) (result : Resul
   AnswersLimit = (node : Node) × (formula : List Atom) × (shapes : List (List Tick)) × IsErrOf result (ShapeLimit node formula shapes)
 
   -- and it comes wherever there is such a question
-  pub answers_shape_limit : (node : Node) (formula : List Atom) (shapes : List (List Tick)) → IsShapeLimit task task.problem.weight node formula shapes
-      → AnswersLimit ⊎ IsErrOf result NoMemory
+  pub answers_shape_limit : (node : Node) (formula : List Atom) (shapes : List (List Tick))
+      → IsShapeLimit task task.problem.weight node formula shapes → AnswersLimit ⊎ IsErrOf result NoMemory
   answers_shape_limit node formula shapes is = by result refl found ends
     where
       by : (r : Result F SearchErr) → result ≡ r → IfOk r (λ f. IsFound task task.problem.weight (moves_of f)) → IfErr r (IsEnd task)
           → AnswersLimit ⊎ IsErrOf result NoMemory
       by (Ok f) same h e = absurd (value_ends_are_one.shape_limit_or_found task task.problem.weight node formula shapes (moves_of f) is h)
-      by (Err Exhausted) same h e = absurd (exhausted_with_all.shape_limit task task.problem.weight task.problem.weight e node formula shapes is)
-      by (Err (NodeLimit n m)) same h e = absurd (value_ends_are_one.shape_limit_or_node_limit task task.problem.weight node formula shapes n m is e)
+      by (Err Exhausted) same h e =
+          absurd (exhausted_with_all.shape_limit task task.problem.weight task.problem.weight e node formula shapes is)
+      by (Err (NodeLimit n m)) same h e =
+          absurd (value_ends_are_one.shape_limit_or_node_limit task task.problem.weight node formula shapes n m is e)
       by (Err (ShapeLimit n f s)) same h e = inl (n, f, s, same)
       by (Err NoMemory) same h e = inr same

@@ -1,17 +1,15 @@
 -- The first move of a node to a node that isn't found, and a node all of whose moves were made.
-use Rattle.std.proofs.Common.{◌≡◌, ℕ, zero, suc, ◌+◌, ◌<◌, ◌≤◌, ◌⊎◌, List, [], ◌∷◌, ◌++◌, take, refl, sym, ◌∙◌, ap, subst, inl, inr, arith, Some, slice_get, slice_index_or, Contains}
+use Rattle.std.proofs.Common.{◌≡◌, ℕ, zero, suc, ◌<◌, List, [], ◌∷◌, take, sym, ◌∙◌, ap, subst, inl, inr, arith, Some, slice_get, slice_index_or}
 use Rattle.std.specs.declared.cmp.Ordering.TheVariants.{Less, Equal}
 use Rattle.std.specs.Cmp.{tied_itself}
-use Rattle.std.proofs.lemmas.List.Elements.{Contains-append_left, Contains-push_cases}
 use Rattle.px_table.specs.declared.entry.Move.{Move}
-use Rattle.px_table.specs.declared.node.Node.{Node}
 use Rattle.px_order.specs.Places.{at_index, contains_place, order_of as place_order, place_of, place-within-list}
-use Rattle.px_order.specs.Runs.{IsDone, IsNew, Reaches}
+use Rattle.px_order.specs.Runs.{IsNew, Reaches}
 use Rattle.px_ends.proofs.MoveLaws.{move_cmp-total}
 use Rattle.px_ends.specs.ByValue.{space_of}
 use Rattle.px_ends.specs.Ends.{node_of}
 use Rattle.px_ends.specs.Order.{move_cmp}
-use Rattle.px_ends.specs.Tasks.{Task, IsAllowed, after}
+use Rattle.px_ends.specs.Tasks.{Task, after}
 use Rattle.px_search.specs.Going.{AreFirstOf}
 use Rattle.px_search.specs.Searching.{IsMaking, order_of}
 

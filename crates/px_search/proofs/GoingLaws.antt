@@ -2,7 +2,7 @@
 use Rattle.std.proofs.Common.{◌≡◌, ℕ, Bool, true, zero, suc, ◌+◌, ◌<◌, ◌≤◌, List, [], ◌∷◌, ◌++◌, map, take, length, refl, sym, ◌∙◌, ap, subst, inl, inr, arith, Some, slice_get, Contains}
 use Rattle.std.specs.Prelude.{All}
 use Rattle.std.proofs.lemmas.List.{length-append, length-map, map-append}
-use Rattle.std.proofs.lemmas.List.Elements.{All-tail, All-cons, Contains-push}
+use Rattle.std.proofs.lemmas.List.Elements.{All-tail, All-cons}
 use Rattle.px_terms.specs.declared.atom.Atom.{Atom}
 use Rattle.px_terms.specs.Operators.{results_of}
 use Rattle.px_proof.specs.declared.shape.Tick.{Tick}
@@ -19,11 +19,11 @@ use Rattle.px_numbers.specs.Numbers.{Kept, AreEachOnce, IsKeyOf, KeepsAll, AllSt
 use Rattle.px_numbers.specs.NumberLaws.{one_at, node_of_key, seen, unseen, all_stand-grows, all_stand-push}
 use Rattle.px_order.specs.Places.{at_end, contains_place, place_of, still_there}
 use Rattle.px_order.specs.RunLaws.{behind, made, made-push, node-push}
-use Rattle.px_order.specs.Runs.{IsNew, IsNext, Reaches}
+use Rattle.px_order.specs.Runs.{IsNew, IsNext}
 use Rattle.px_ends.specs.ByValue.{space_of, IsExhausted, IsFound, IsNodeLimit, IsShapeLimit}
 use Rattle.px_ends.specs.Ends.{AreMoves, node_of}
 use Rattle.px_ends.specs.Moves.{CanMake, reached}
-use Rattle.px_ends.specs.Tasks.{Task, initial_node, IsAllowed, IsSolved, after}
+use Rattle.px_ends.specs.Tasks.{Task, initial_node, IsAllowed, IsSolved, after, goal_question}
 use Rattle.px_search.specs.declared.picker.Picker.{Picker}
 use Rattle.px_search.specs.declared.step.Step.{Step}
 use Rattle.px_search.specs.declared.step.Origin.{Origin}
@@ -31,7 +31,7 @@ use Rattle.px_search.specs.Asking.{IsTriedAt}
 use Rattle.px_search.specs.Going.{IsAskedAt, IsBegunOn, LimitsNode}
 use Rattle.px_search.specs.Looping.{AreNumbered, Between, Going, Trying}
 use Rattle.px_search.specs.Picking.{AreWithin, IsOnward, IsPickerOf}
-use Rattle.px_search.specs.Searching.{IsMaking, Searching, order_of}
+use Rattle.px_search.specs.Searching.{IsBelowLimit, IsMaking, Searching, order_of}
 use Rattle.px_search.specs.Steps.{DescribesMove, AreEarlier, Trace}
 use Rattle.px_search.proofs.FirstMoves.{first_new}
 use Rattle.px_search.proofs.PickerLaws.{picker-grows}
@@ -198,7 +198,7 @@ module _ (task : Task) where
         known = (0, (refl, refl));
         room = room;
         unsolved = λ x has is_solved. tried.0 (subst (λ (y : List Move). IsSolved task (goes y)) (sym (only x has)) is_solved);
-        tested = λ x has empty formula shapes. tried.1 refl formula shapes;
+        tested = λ x has empty. subst (λ (y : List Move). IsBelowLimit task (goal_question task (goes y))) (only x has) (tried.1 refl);
         gone_through = λ k p question has. absurd (omega (arith, has.1));
       };
       done = tt;
@@ -248,7 +248,7 @@ module _ (task : Task) where
 
   -- ---- at a node
 
-  pub going-grows : (old new : Kept) (keys : List NodeKey) (origins : List Origin) (picker : Picker) (picked : List ℕ) (next : ℕ)
+  abbrev pub going-grows : (old new : Kept) (keys : List NodeKey) (origins : List Origin) (picker : Picker) (picked : List ℕ) (next : ℕ)
       (tried : List Move) → KeepsAll old new → Going task old keys origins picker picked next tried
       → Going task new keys origins picker picked next tried
   going-grows old new keys origins picker picked next tried keeps g = record {
@@ -327,6 +327,7 @@ module _ (task : Task) where
       → (at : slice_get keys next ≡ Some key)
       → LimitsNode task (here_of kept keys origins picker picked next [] key g at).node formula shapes
       → IsShapeLimit task task.problem.weight (here_of kept keys origins picker picked next [] key g at).node formula shapes
+  unfolding list_of here_of
   limit-here kept keys origins picker picked next key formula shapes g at limits =
       let here = list_of kept keys origins g.found g.numbered next key at in
       ends_limited task g.found next picked picked g.making.searching here.0 limits.question formula shapes here.1 limits.asked limits.met
@@ -462,7 +463,8 @@ module _ (task : Task) where
               found = g.found ++ more_moves ∷ [];
               making = one_tried (g.found ++ more_moves ∷ [])
                   (making_found task g.found next picked t.list t.list_at t.begun.moves i m g.making at_m
-                  (searching_found task g.found next picked g.making.searching t.list t.list_at m is_new (room_there room) t_new.0 t_new.1));
+                  (searching_found task g.found next picked g.making.searching t.list t.list_at m is_new (room_there room) t_new.0
+                  t_new.1));
               numbered = numbered-more;
               picking = picking;
             };

@@ -17,7 +17,6 @@ pub mod PickLaws
 pub mod PickerLaws
 pub mod SceneLaws
 pub mod StackSums
-pub mod StartLaws
 pub mod StepLaws
 pub mod Stepping
 pub mod StruckLaws

@@ -13,6 +13,7 @@ use Rattle.px_ops.specs.Keeping.{Keeps}
 use Rattle.px_numbers.specs.declared.nodes.NodeKey.{NodeKey}
 use Rattle.px_numbers.specs.Numbers.{Kept, AreEachOnce, IsKeyOf, KeepsAll, AllStand}
 use Rattle.px_numbers.specs.NumberLaws.{one_list}
+use Rattle.px_ends.proofs.AtStart.{found_at_start, limited_at_start}
 use Rattle.px_ends.specs.ByValue.{IsFound, IsNodeLimit, IsShapeLimit}
 use Rattle.px_ends.specs.Ends.{node_of}
 use Rattle.px_ends.specs.Tasks.{Task, initial_node, after}
@@ -25,7 +26,6 @@ use Rattle.px_search.specs.Looping.{Between, Going, IsFull, IsReached, Trying}
 use Rattle.px_search.specs.Picking.{AreWithin, IsOnward, IsPickerOf}
 use Rattle.px_search.specs.Steps.{DescribesMove, AreStepsOf, AreEarlier, Trace}
 use Rattle.px_search.proofs.GoingLaws.{here_of, between-start, trying-grows, trying-seen, trying-new, going-found, going-limit, going-full, going-next, going-room, limit-here, onward, same_here, kept_old, kept_new, more_earlier, numbered-more, picked-within, some_trace}
-use Rattle.px_search.proofs.StartLaws.{start_found, start_limited}
 use Rattle.px_search.proofs.StepLaws.{step-grows, steps-count}
 
 -- ---- the step at a place
@@ -47,7 +47,7 @@ module _ (task : Task) where
   start-found kept key tried moves stands says is room none =
       let t : IsTriedAt task (initial_node task) Answered =
       subst (IsTriedAt task (initial_node task)) is (says (initial_node task) stands) in
-      subst (IsFound task task.problem.weight) (sym none) (start_found task room t.0 t.1)
+      subst (IsFound task task.problem.weight) (sym none) (found_at_start task task.problem.weight room t.0 t.1)
 
   pub start-limit : (kept : Kept) (key : NodeKey) (tried : Tried) (formula : List Atom) (shapes : List (List Tick))
       → IsKeyOf kept key (initial_node task) → ((node : Node) → IsKeyOf kept key node → IsTriedAt task node tried)
@@ -56,7 +56,7 @@ module _ (task : Task) where
   start-limit kept key tried formula shapes stands says is room =
       let t : IsTriedAt task (initial_node task) (Limited formula shapes) =
       subst (IsTriedAt task (initial_node task)) is (says (initial_node task) stands) in
-      start_limited task room formula shapes t.1
+      limited_at_start task task.problem.weight room formula shapes t.1
 
   pub start-from : (kept : Kept) (key : NodeKey) (keys : List NodeKey) (place : ℕ) (origins : List Origin) (picker : Picker)
       → IsKeyOf kept key (initial_node task) → IsTriedAt task (initial_node task) Unanswered → 1 ≤ task.problem.nodes
@@ -160,7 +160,8 @@ module _ (task : Task) where
       step-stand =
           subst (λ (l : List NodeKey). (nodes : List Node) × AllStand kept l nodes) (sym fresh.1) (
             map (node_of task) (st.t.going.found ++ step-moves ∷ []),
-            (numbered-more task kept once keys origins picker picked next steps is_all i s st.t st.m st.at_m st.step_is there st.stands).stand,
+            (numbered-more task kept once keys origins picker picked next steps is_all i s st.t st.m st.at_m st.step_is there
+                st.stands).stand,
           )
 
       pub step-new : (made : List Origin) (tried : Tried) (later : Picker) → made ≡ origins ++ origin ∷ []

@@ -1,5 +1,5 @@
 -- What the picker keeps: it stays right where more gets numbers, and where nodes are put behind the others.
-use Rattle.std.proofs.Common.{◌≡◌, ◌+◌, ◌*◌, ◌<◌, ◌⊎◌, ℕ, zero, suc, List, [], ◌∷◌, ◌++◌, length, refl, sym, ◌∙◌, ap, subst, inl, inr, arith, Some, slice_get, Contains, length-append}
+use Rattle.std.proofs.Common.{◌≡◌, ◌+◌, ◌*◌, ◌<◌, ◌⊎◌, ℕ, zero, suc, List, [], ◌∷◌, ◌++◌, length, sym, ◌∙◌, ap, subst, inl, inr, arith, Some, slice_get, length-append}
 use Rattle.std.specs.Prelude.{All, IsPermutation}
 use Rattle.std.proofs.lemmas.List.Elements.{All-head}
 use Rattle.std.proofs.lemmas.List.Sums.{sum_by-cons}
@@ -10,7 +10,6 @@ use Rattle.px_table.specs.declared.node.Node.{Node}
 use Rattle.px_entries.specs.Entries.{IsEntry}
 use Rattle.px_order.proofs.LawProofs.{agenda_goes_on}
 use Rattle.px_order.specs.Agendas.{Rank, rank_of}
-use Rattle.px_order.specs.OpenPlaces.{IsAgendaOf}
 use Rattle.px_order.specs.Places.{place-within-list, push-cases, some-one}
 use Rattle.px_order.specs.RunLaws.{node-push}
 use Rattle.px_numbers.specs.declared.nodes.NodeKey.{NodeKey}
@@ -205,7 +204,8 @@ module _ (task : Task) where
       → last ≡ step.Push number → IsCountAt task kept (record { model = there.model; entry = number }) more → all ≡ before + more
       → before ≡ needs task node → DescribesMove kept last m → IsKeyOf kept there (after task node m)
       → all ≡ needs task (after task node m)
-  pushed_needs kept last number there before more all node m is (model, entry, model_at, entry_at, more_is) all_is before_is describes stands =
+  pushed_needs kept last number there before more all node m is (model, entry, model_at, entry_at, more_is) all_is before_is describes
+      stands =
       by m (subst (λ (s : Step). DescribesMove kept s m) is describes) stands
     where
       by : (m : Move) → DescribesMove kept (step.Push number) m → IsKeyOf kept there (after task node m)

@@ -1,5 +1,5 @@
 -- What a search knows from one move to the next.
-use Rattle.std.proofs.Common.{◌≡◌, ℕ, zero, suc, ◌<◌, ◌⊎◌, List, [], ◌∷◌, ◌++◌, take, length, refl, sym, ◌∙◌, ap, subst, inl, inr, arith, Some, slice_get, Contains}
+use Rattle.std.proofs.Common.{◌≡◌, ℕ, zero, suc, ◌⊎◌, List, [], ◌∷◌, ◌++◌, take, sym, ◌∙◌, ap, subst, inl, inr, arith, Some, slice_get, Contains}
 use Rattle.std.proofs.lemmas.List.Elements.{Contains-append_left, Contains-push, Contains-push_cases}
 use Rattle.px_base.specs.ListLaws.{Contains-cases}
 use Rattle.px_table.specs.declared.entry.Move.{Move}
@@ -39,10 +39,10 @@ module _ (task : Task) where
       searching = making.searching;
       made = λ x n at_x has. elim (Contains-push_cases (take i moves) m n
           (subst (λ (l : List Move). Contains l n) (take-more i moves m at_m) has)) [
-        | inl old ↦ making.made x n at_x old
-        | inr e ↦ subst (λ (l : List Move). Reached found (after task (node_of task l) n)) (same_list x at_x)
-            (subst (λ (k : Move). Reached found (after task (node_of task p) k)) e reached)
-      ];
+            | inl old ↦ making.made x n at_x old
+            | inr e ↦ subst (λ (l : List Move). Reached found (after task (node_of task l) n)) (same_list x at_x)
+                (subst (λ (k : Move). Reached found (after task (node_of task p) k)) e reached)
+          ];
     }
 
     -- one more move leads to a new node, which is found

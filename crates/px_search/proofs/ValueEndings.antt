@@ -1,5 +1,5 @@
 -- What a search knows gives each end, by whatever weight.
-use Rattle.std.proofs.Common.{◌≡◌, ℕ, suc, ◌<◌, ◌≤◌, ◌⊎◌, List, [], ◌∷◌, ◌++◌, map, length, refl, sym, ◌∙◌, ap, subst, inl, inr, arith, Some, slice_get, Contains, length-append}
+use Rattle.std.proofs.Common.{◌≡◌, ℕ, suc, ◌<◌, ◌⊎◌, List, [], ◌∷◌, ◌++◌, map, length, refl, sym, ◌∙◌, ap, subst, inl, inr, arith, Some, slice_get, Contains, length-append}
 use Rattle.std.proofs.lemmas.List.Elements.{Contains-push_cases}
 use Rattle.px_base.specs.ListLaws.{Contains-cases}
 use Rattle.px_terms.specs.declared.atom.Atom.{Atom}
@@ -42,15 +42,18 @@ module _ (task : Task) where
     moves = p;
     question = q;
     node_is = refl;
-    asked = inl (record {
-      found = found;
-      place = place;
-      picked = picked;
-      comes = s.known;
-      stands = at;
-      unsolved = s.unsolved;
-      room = s.room;
-    }, asks);
+    asked = inl (
+      record {
+        found = found;
+        place = place;
+        picked = picked;
+        comes = s.known;
+        stands = at;
+        unsolved = s.unsolved;
+        room = s.room;
+      },
+      asks,
+    );
     met = met;
   }
 
@@ -103,25 +106,36 @@ module _ (task : Task) where
     new_moves = p ++ m ∷ []
 
     comes : Comes (space_of task) (order_of task) (found ++ new_moves ∷ []) (place ∷ picked)
-    comes = (suc s.known.0, (found, place ∷ picked, s.known.1, inr (record {
-      place = place;
-      earlier = picked;
-      last = refl;
-      moves = p;
-      stands = at;
-      m = m;
-      is_new = is_new;
-      found_is = refl;
-      picked_is = refl;
-    })))
+    comes = (
+      suc s.known.0,
+      (
+        found,
+        place ∷ picked,
+        s.known.1,
+        inr (record {
+          place = place;
+          earlier = picked;
+          last = refl;
+          moves = p;
+          stands = at;
+          m = m;
+          is_new = is_new;
+          found_is = refl;
+          picked_is = refl;
+        }),
+      ),
+    )
 
     -- a place that was picked is one of the old ones
     old_place : (k : ℕ) (moves : List Move) → Contains (place ∷ picked) k → slice_get (found ++ new_moves ∷ []) k ≡ Some moves
         → slice_get found k ≡ Some moves
     old_place k moves has at_k = elim (push-cases found new_moves moves k at_k) [
       | inl old ↦ old
-      | inr last ↦ absurd (omega (arith, last.0,
-          (behind (space_of task) (order_of task) s.known.0 found (place ∷ picked) s.known.1).within k has))
+      | inr last ↦ absurd (omega (
+        arith,
+        last.0,
+        (behind (space_of task) (order_of task) s.known.0 found (place ∷ picked) s.known.1).within k has,
+      ))
     ]
 
     -- it isn't solved, and there is room for it
@@ -164,7 +178,8 @@ module _ (task : Task) where
 
       unlimited_there : order_ends.IsUnlimited (space_of task) (order_of task) (aim_of task)
       unlimited_there moves q (inl (gone, asks)) met =
-          let r = (asked_by_run (space_of task) (aim_of task)).gone_through (order_of task) linear found new_moves (stop stops) moves gone in
+          let r =
+          (asked_by_run (space_of task) (aim_of task)).gone_through (order_of task) linear found new_moves (stop stops) moves gone in
           gone_below r.0 moves r.2 (old_place r.0 moves r.2 r.1) q asks met.0 met.1 met.2
       unlimited_there moves q (inr (tested, tries)) met =
           let r = (asked_by_run (space_of task) (aim_of task)).tested (order_of task) linear found new_moves (stop stops) moves tested in

@@ -146,7 +146,8 @@ impl Explored {
         match tried {
             Tried::Answered => Ok(Progress::Solved),
             Tried::Unanswered => {
-                self.picker.go_on(asked, &self.notes.numbers, origin, there)?;
+                self.picker
+                    .go_on(asked, &self.notes.numbers, origin, there)?;
                 Ok(Progress::Unsolved)
             }
             Tried::Limited { formula, shapes } => {

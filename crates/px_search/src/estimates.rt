@@ -120,12 +120,7 @@ impl Estimates {
     }
 
     /// Returns how much the node lacks: the goal, and all entries of its stack.
-    pub fn needs(
-        &mut self,
-        asked: &Asked,
-        numbers: &Numbers,
-        key: NodeKey,
-    ) -> Result<u32, NoMemory>
+    pub fn needs(&mut self, asked: &Asked, numbers: &Numbers, key: NodeKey) -> Result<u32, NoMemory>
         requires asked { IsAskable asked.now }
         requires counted { AreCounted (task_for asked.now) numbers.now self.old }
         requires node { (node : Node) × IsKeyOf numbers.now key node

@@ -111,7 +111,9 @@ impl Ranking {
             → IsRanking (task_for asked.now) numbers.now (found ++ moves ∷ []) picked self.new) }
     {
         let parent = reckoned_at(&self.reckoned, origin.parent);
-        let needs = self.estimates.needs_after(asked, numbers, parent.needs, origin.last, there)?;
+        let needs = self
+            .estimates
+            .needs_after(asked, numbers, parent.needs, origin.last, there)?;
         let moves = sum(parent.moves, 1)?;
         self.put(asked.problem.weight, Reckoned { needs, moves })
     }

@@ -56,7 +56,7 @@ module _ {N M Q : Type 0} (space : Space N M) (order : Order N M) (linear : IsLi
       ])))
     where
       here : ¬ ¬ (P k → space.allows (node_of moves) k → Reached found (space.after (node_of moves) k))
-      here no = no (λ p can. absurd (not_fresh k (Contains-first k ms) p (can, λ r. no (λ _ _. r))))
+      here refuse = refuse (λ p can. absurd (not_fresh k (Contains-first k ms) p (can, λ r. refuse (λ _ _. r))))
 
   gone-or-new : (found : List (List M)) (moves : List M)
       → ¬ ¬ (IsGoneOver space order found moves ⊎ ((m : M) × IsNew space order found moves m))
@@ -90,6 +90,9 @@ module _ {N M Q : Type 0} (space : Space N M) (order : Order N M) (linear : IsLi
       → ¬ ¬ (IsDone space order found picked ⊎ IsFurther found picked)
   done-or-further found [] comes never = never (inl tt)
   done-or-further found (place ∷ earlier) comes never =
+      let here : List M = slice_index_or found place [] in
+      let stands : slice_get found place ≡ Some here = at_index found place []
+      ((behind space order comes.0 found (place ∷ earlier) comes.1).within place (Contains-first place earlier)) in
       gone-or-new found here (λ r. elim r [
         | inl gone ↦ never (inl (λ moves at_place. subst (λ (l : List M). IsGoneOver space order found l)
             (some-one here moves (sym stands ∙ at_place)) gone))
@@ -103,14 +106,6 @@ module _ {N M Q : Type 0} (space : Space N M) (order : Order N M) (linear : IsLi
           is_new = new.1;
         }))
       ])
-    where
-      here : List M
-      here = slice_index_or found place []
-
-      stands : slice_get found place ≡ Some here
-      unfolding here
-      stands = at_index found place []
-          ((behind space order comes.0 found (place ∷ earlier) comes.1).within place (Contains-first place earlier))
 
   -- ---- the next place
 
@@ -212,17 +207,25 @@ module _ {N M Q : Type 0} (space : Space N M) (order : Order N M) (linear : IsLi
     new_list = f.moves ++ f.m ∷ []
 
     comes-further : Comes space order (found ++ new_list ∷ []) picked
-    comes-further = (suc s.comes.0, (found, picked, s.comes.1, inr (record {
-      place = f.place;
-      earlier = f.earlier;
-      last = f.last;
-      moves = f.moves;
-      stands = f.stands;
-      m = f.m;
-      is_new = f.is_new;
-      found_is = refl;
-      picked_is = refl;
-    })))
+    comes-further = (
+      suc s.comes.0,
+      (
+        found,
+        picked,
+        s.comes.1,
+        inr (record {
+          place = f.place;
+          earlier = f.earlier;
+          last = f.last;
+          moves = f.moves;
+          stands = f.stands;
+          m = f.m;
+          is_new = f.is_new;
+          found_is = refl;
+          picked_is = refl;
+        }),
+      ),
+    )
 
     stopped : aim.solved (node_of new_list) ⊎ (length found ≡ aim.limit) → Stopped
     stopped stops = record {
@@ -250,7 +253,8 @@ module _ {N M Q : Type 0} (space : Space N M) (order : Order N M) (linear : IsLi
       done-or-further found picked s.comes (λ r. elim r [
         | inl done ↦ next-or-all found picked (λ q. elim q [
           | inl next ↦ from fuel found (next.0 ∷ picked) (picked-state found picked s done next.0 next.1)
-              (let few = picks_left space order found picked next.0 s.comes next.1 in omega (arith, enough, few, s.room)) never
+              (let few = picks_left space order found picked next.0 s.comes next.1
+              (place-within-list found next.0 next.1.moves next.1.stands) in omega (arith, enough, few, s.room)) never
           | inr all ↦ never (inr (record {
             lists = found;
             picked = picked;

@@ -15,5 +15,6 @@ pub returns : goal.returns
 returns c =
     let task = task_for c.args.asked.now in
     let full = c.requires.full in
-    subst (λ (nodes : List Node). IsNodeLimit task task.problem.weight nodes c.args.moves) (sym (c.new-firsts.ensures full.stand.0 full.stand.1))
+    subst (λ (nodes : List Node). IsNodeLimit task task.problem.weight nodes c.args.moves)
+    (sym (c.new-firsts.ensures full.stand.0 full.stand.1))
     (full.limit full.stand.0 full.stand.1)

@@ -18,7 +18,8 @@ use Rattle.px_search.proofs.planning.search.Goals as goal
 pub returns-in-Ok-clause-found : goal.returns-in-Ok-clause-found
 returns-in-Ok-clause-found c =
     let task = task_of c.args.problem.now c.args.tables.now c.args.initial.now.atoms c.args.goal.now c.args.vars in
-    each_plan task c.found_plan.result c.found_plan.ensures.planned (λ plan. IsFound task task.problem.weight plan.moves) (λ plan is. is.found)
+    each_plan task c.found_plan.result c.found_plan.ensures.planned
+    (λ plan. IsFound task task.problem.weight plan.moves) (λ plan is. is.found)
 
 pub returns-in-Ok-clause-few : goal.returns-in-Ok-clause-few
 returns-in-Ok-clause-few c =

@@ -1,11 +1,11 @@
 -- Proofs of the goals that `Explored::go_through` of src/best_first.rt leaves open.
-use Rattle.std.proofs.Common.{◌≡◌, ◌∷◌, ℕ, Bool, List, [], length, sym, ◌∙◌, subst, arith}
+use Rattle.std.proofs.Common.{◌≡◌, ℕ, Bool, List, [], length, sym, ◌∙◌, subst, arith}
 use Rattle.px_gaps.specs.Outcomes.{AtLimit}
 use Rattle.px_gaps.specs.declared.ask_err.AskErr.{AskErr}
 use Rattle.px_numbers.specs.NumberLaws.{stands-grows}
 use Rattle.px_support.specs.Asking.{task_for}
 use Rattle.px_search.specs.Going.{LimitsAt}
-use Rattle.px_search.specs.Looping.{ComesTo, GoesOn, TriesAt}
+use Rattle.px_search.specs.Looping.{ComesTo, TriesAt}
 use Rattle.px_search.specs.Notes.{HaveGrown}
 use Rattle.px_search.specs.declared.best_first.Explored.{Explored}
 use Rattle.px_search.proofs.BegunLaws.{progress-goes}
@@ -16,8 +16,8 @@ use Rattle.px_search.proofs.best_first.Explored.go_through.Goals as goal
 pub begun_from-requires-clause-node : goal.begun_from-requires-clause-node
 begun_from-requires-clause-node c =
     let e = c.args.self.now in
-    here_of (task_for c.args.asked.now) e.notes.numbers e.nodes e.origins.items e.picker c.requires.picked.0 c.args.next [] c.node-key.result
-    c.requires.picked.1 c.node-key.ensures
+    here_of (task_for c.args.asked.now) e.notes.numbers e.nodes e.origins.items e.picker c.requires.picked.0 c.args.next []
+    c.node-key.result c.requires.picked.1 c.node-key.ensures
 
 pub limit_at-requires : goal.limit_at-requires
 limit_at-requires c =

@@ -113,12 +113,17 @@ go_on-requires-clause-onward c =
     let r = c.requires.trying in
     let st =
     step_on task e.notes.numbers c.after.new.self.numbers e.nodes e.origins.items e.picker r.0 c.args.next r.1 r.2 r.3 c.args.step
-    c.node-key.result c.in_ok-there.there r.4 c.node-key.ensures c.in_ok-there.ensures.notes.keeps c.in_ok-there.ensures.there r.5 in
-    (st.t.going.found, _, _, st.t.going.picking, step-onward task c.after.new.self.numbers c.sound.ensures.once e.nodes c.intern.new.self e.origins.items e.picker r.0 c.args.next
-    r.1 r.2 r.3 c.args.step c.in_ok-there.there c.in_ok-place.place st c.in_ok-place.ensures.kept)
+    c.node-key.result c.in_ok-there.there r.4 c.node-key.ensures c.in_ok-there.ensures.notes.keeps c.in_ok-there.ensures.there r.5 in (
+      st.t.going.found,
+      _,
+      _,
+      st.t.going.picking,
+      step-onward task c.after.new.self.numbers c.sound.ensures.once e.nodes c.intern.new.self e.origins.items e.picker r.0 c.args.next
+          r.1 r.2 r.3 c.args.step c.in_ok-there.there c.in_ok-place.place st c.in_ok-place.ensures.kept,
+    )
 
-pub returns-in-Unanswered-clause-made : goal.returns-in-Unanswered-clause-made
-returns-in-Unanswered-clause-made c = λ picked steps is_all i t at.
+pub returns-in_ok-go_on-in-Unanswered-clause-made : goal.returns-in_ok-go_on-in-Unanswered-clause-made
+returns-in_ok-go_on-in-Unanswered-clause-made c = λ picked steps is_all i t at.
     let task = task_for c.args.asked.now in
     let e = c.args.self.now in
     let st =
@@ -194,8 +199,8 @@ returns-in-Answered-clause-explored c =
           c.requires.explored.scene;
     }
 
-pub returns-in-Unanswered-clause-explored : goal.returns-in-Unanswered-clause-explored
-returns-in-Unanswered-clause-explored c =
+pub returns-in_ok-go_on-in-Unanswered-clause-explored : goal.returns-in_ok-go_on-in-Unanswered-clause-explored
+returns-in_ok-go_on-in-Unanswered-clause-explored c =
     let notes = c.in_ok-there.ensures.notes in
     record {
       notes = notes.right;

@@ -1,5 +1,5 @@
 -- Proofs of the goals that `Explored::make_others` of src/best_first.rt leaves open.
-use Rattle.std.proofs.Common.{◌≡◌, ◌+◌, ◌∷◌, ℕ, Bool, true, List, length, take, refl, subst, arith}
+use Rattle.std.proofs.Common.{◌≡◌, ◌∷◌, ℕ, Bool, true, List, length, take, refl, subst, arith}
 use Rattle.px_table.specs.declared.node.Node.{Node}
 use Rattle.px_gaps.specs.Outcomes.{AtLimit}
 use Rattle.px_gaps.specs.declared.ask_err.AskErr.{AskErr}
@@ -78,8 +78,8 @@ returns-clause-gone c =
     → TriesAt task new picked c.args.next all is_all (length all))
     ((picked : List ℕ) (steps : List Step) (is_all : Bool) → c.args.from ≡ length steps
     → TriesAt task old picked c.args.next steps is_all c.args.from → GoesOn task new (c.args.next ∷ picked)) c.in_ok-progress.progress
-    (λ made picked steps is_all from_is t. node-done task new.notes.numbers new.nodes new.origins.items new.picker picked c.args.next all true
-    (length all)
+    (λ made picked steps is_all from_is t. node-done task new.notes.numbers new.nodes new.origins.items new.picker picked c.args.next all
+    true (length all)
     (made picked true (trying-others task old.notes.numbers mid.notes.numbers old.nodes old.origins.items old.picker picked c.args.next
     steps is_all c.args.from c.node-key.result t from_is c.node-key.ensures all c.in-Ok.ensures.steps c.in-Ok.ensures.notes.keeps))
     (omega arith) refl) c.in_ok-progress.ensures.made

@@ -1,9 +1,8 @@
 -- Proofs of the goals that `Estimates::needs` of src/estimates.rt leaves open.
-use Rattle.std.proofs.Common.{◌≡◌, ◌∙◌, ℕ, List, ap, sym, subst}
+use Rattle.std.proofs.Common.{◌∙◌, List, ap}
 use Rattle.px_terms.specs.declared.atom.Atom.{Atom}
-use Rattle.px_table.specs.declared.entry.Entry.{Entry}
 use Rattle.px_table.specs.declared.node.Node.{Node}
-use Rattle.px_numbers.specs.NumberLaws.{one_at, one_model, one_node}
+use Rattle.px_numbers.specs.NumberLaws.{one_model, one_node}
 use Rattle.px_ends.specs.Lacks.{lacks, lacks_of, needs}
 use Rattle.px_ends.specs.Tasks.{goal_from}
 use Rattle.px_support.specs.Asking.{task_for}

@@ -1,10 +1,8 @@
 -- Proofs of the goals that `Picker::pick` of src/picker.rt leaves open.
-use Rattle.std.proofs.Common.{◌≡◌, ◌<◌, ◌≤◌, ◌∷◌, [], ℕ, List, Some, length, sym, subst, slice_get, Contains, ◌∙◌}
-use Rattle.px_table.specs.declared.entry.Move.{Move}
-use Rattle.px_order.specs.Breadth.{down_from}
+use Rattle.std.proofs.Common.{◌<◌, ◌≤◌, ℕ, List, sym, subst, Contains}
 use Rattle.px_order.specs.Runs.{Comes, IsNext}
 use Rattle.px_ends.specs.ByValue.{space_of}
-use Rattle.px_search.specs.Picking.{IsPickerOf, IsRanking}
+use Rattle.px_search.specs.Picking.{IsPickerOf}
 use Rattle.px_search.specs.Searching.{order_of}
 use Rattle.px_search.proofs.PickLaws.{agenda_next, agenda_over, counter_next, counter_over}
 use Rattle.px_search.proofs.picker.Picker.pick.Goals as goal
