@@ -58,7 +58,7 @@ any-writable problem old written name table named = by (table_named old.plans na
         (table-there old.plans.names old.plans.tables name table (at ∙ same))
 
 -- what the causes say of such a table
-record HasNoCause (table : Table) : Type 0 where
+pub record HasNoCause (table : Table) : Type 0 where
   pub short : ¬ IsTooLong table
   pub low : ¬ IsTooDeep table
   pub few : ¬ (last_number < table.params)
@@ -72,8 +72,8 @@ no-cause table allowed = record {
 
 module _ (problem : Problem) (old : SessionState) (session : IsSession problem old) (written : HasWritableTables problem old)
     (name : ℕ) (table : Table) (named : any_table old name ≡ Some table) (none : HasNoCause table) where
-  abbrev goal : IsWritable problem table
-  goal = any-writable problem old written name table named
+  abbrev aim : IsWritable problem table
+  aim = any-writable problem old written name table named
 
   pub in-block : IsSavedTable 2 problem table
   in-block = record {
@@ -81,12 +81,12 @@ module _ (problem : Problem) (old : SessionState) (session : IsSession problem o
     short = grind (arith, none.short);
     low = low-proofs table none.low;
     few_parameters = grind (arith, none.few);
-    some = goal.some;
-    few_atoms = goal.few_atoms;
-    few_variables = goal.few_variables;
-    last_occurs = goal.last_occurs;
-    sorts = goal.sorts;
-    no_objects = goal.no_objects;
+    some = aim.some;
+    few_atoms = aim.few_atoms;
+    few_variables = aim.few_variables;
+    last_occurs = aim.last_occurs;
+    sorts = aim.sorts;
+    no_objects = aim.no_objects;
   }
 
   pub certifiable : IsValid problem → IsCertifiableProblem problem → IsCertifiable problem table
@@ -99,7 +99,7 @@ module _ (problem : Problem) (old : SessionState) (session : IsSession problem o
     operators = limits.operators;
     params = grind (arith, none.few);
     steps = grind (arith, none.short);
-    goal = (goal.few_variables, goal.few_atoms);
+    goal = (aim.few_variables, aim.few_atoms);
     low = low-proofs table none.low;
   }
 
