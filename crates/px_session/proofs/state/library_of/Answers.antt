@@ -12,10 +12,10 @@ loop-name-init c = (c.new-library.ensures, c.into_iter-name-iterator.ensures.int
 pub loop-name-preserved : goal.loop-name-preserved
 loop-name-preserved c = (
   c.in-Ok.ensures.learned
-  ∙ ap (λ (library : LibraryValue). with_table library c.in-Some.name c.in-Some.table) c.loop-name.invariant.0
-  ∙ sym (named-more c.loop-name.yielded (c.in-Some.name, c.in-Some.table)),
+      ∙ ap (λ (library : LibraryValue). with_table library c.in-Some.name c.in-Some.table) c.loop-name.invariant.0
+      ∙ sym (named-more c.loop-name.yielded (c.in-Some.name, c.in-Some.table)),
   more-whole c.args.saved c.loop-name.yielded c.loop-name.name-iterator.rest.items c.next.new.self.rest.items
-  (c.in-Some.name, c.in-Some.table) c.loop-name.invariant.1 c.in-Some.ensures.steps.0,
+      (c.in-Some.name, c.in-Some.table) c.loop-name.invariant.1 c.in-Some.ensures.steps.0,
 )
 
 pub unreachable-requires : goal.unreachable-requires
