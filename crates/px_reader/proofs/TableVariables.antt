@@ -2,7 +2,7 @@
 use Rattle.px_reader.proofs.Common.{◌≡◌, ℕ, false, List, [], ◌∷◌, refl, ap, Option, None, Some, codes, has_name, option_map, Declared, Reader, declared_of}
 use Rattle.std.specs.Fmt.{digits}
 use Rattle.px_script.specs.Causes.{is_goal_variable, is_numbered_by, is_table_parameter}
-use Rattle.px_script.specs.Faults.{is_bad_table}
+use Rattle.px_script.specs.Faults.{is_bad_table, steps_here}
 use Rattle.px_script.specs.Statements.{Statement, end}
 use Rattle.px_script.specs.Declarations.{table_parameters, table_parameters_here}
 use Rattle.px_reader.specs.Readers.{kind_view, open_block_view}
@@ -21,6 +21,19 @@ pub no-table : (reader : Reader) → table_parameters_here (declared_of reader).
 no-table reader = block-has-none _ reader.block
 
 pub ruleset no_table = (no-table)
+
+steps-of : (number : ℕ) (opened : Option OpenBlock) → steps_here (option_map (open_block_view number) opened) ≡ 0
+steps-of number None = refl
+steps-of number (Some b) = kind-steps number b.line b.kind
+  where
+    kind-steps : (number line : ℕ) (kind : block.BlockKind) → steps_here (Some (record { line = line; kind = kind_view number kind })) ≡ 0
+    kind-steps number line (block.TheVariants.Operator o) = refl
+    kind-steps number line block.TheVariants.Building = refl
+
+pub no-steps : (reader : Reader) → steps_here (declared_of reader).block ≡ 0
+no-steps reader = steps-of _ reader.block
+
+pub ruleset no_steps = (no-steps)
 
 -- nor is a block closed that is no table's
 module _ (reader : Reader) (number : ℕ) where

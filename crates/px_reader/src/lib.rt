@@ -23,7 +23,7 @@
 //!
 //! A line is read by `px_lines`. `Reader` has what the lines so far have declared, with the fields of `Declared` of `px_script`
 //! (`declared_of` in `specs/Readers`). The causes to refuse a line are tests of the reader, in the order of their codes (`order`,
-//! `naming`, `duplicates`, `limits`): most go over the line's items, whatever its word. What its word alone says, its own limits, what
+//! `naming`, `duplicates`, `limits`, `tables`): most go over the line's items, whatever its word. What its word alone says, its own limits, what
 //! may stand once, and what it adds, is told by a `Statement` (`statements`), which borrows the line's lists. A line without a fault is
 //! declared (`declaring`, `blocks`, `commands`, over `terms`). Only facts are counted after they are added. Of `specs/`, public clauses
 //! cite only `LineReads`.
@@ -43,6 +43,7 @@ mod refused;
 mod sorts;
 mod statement;
 mod statements;
+mod tables;
 mod terms;
 
 pub use reading::read_script;

@@ -1,5 +1,5 @@
 //! Reads all lines of an input.
-ghost use Rattle.std.specs.Prelude.{◌≡◌, ℕ, ◌<◌, ◌≤◌, ◌+◌, ◌==◌, IfOk, IfErr, OnOk, length, map, count_by};
+ghost use Rattle.std.specs.Prelude.{◌≡◌, ℕ, ◌<◌, ◌≤◌, ◌+◌, ◌==◌, None, IfOk, IfErr, OnOk, length, map, count_by};
 ghost use Rattle.px_base.specs.Bounds.{u32_max};
 ghost use Rattle.px_script.specs.Lines.{without_mark, without_return};
 ghost use Rattle.px_script.specs.Ranges.{IsOfStage};
@@ -96,6 +96,21 @@ fn read_each(stage: &[&str], reader: &mut Reader, lines: &[&str]) -> Result<(), 
     Ok(())
 }
 
+/// Reads all lines, after which no block may be open.
+fn read_closed(stage: &[&str], reader: &mut Reader, lines: &[&str]) -> Result<(), ScriptErr>
+    requires start { declared_of reader.old ≡ nothing_declared }
+    requires few { length lines.now ≤ u32_max }
+    ensures passes { OnOk result (PassAll (stage_view stage.now) 1 nothing_declared (characters_of lines.now) (declared_of reader.new)) }
+    ensures closed { OnOk result ((declared_of reader.new).block ≡ None) }
+    ensures fails { IfErr result (LinesFail (stage_view stage.now) (characters_of lines.now)) }
+{
+    read_each(stage, reader, lines)?;
+    match &reader.block {
+        Some(block) => Err(refused(block.line, LineFault::MissingEnd)),
+        None => Ok(()),
+    }
+}
+
 fn read_text(alloc: Global, stage: &[&str], text: &str) -> Result<Script, ScriptErr>
     requires { length text.now < u32_max }
     ensures script { IfOk result (λ script. IsScript (stage_view stage.now) text.now (content script)) }
@@ -107,13 +122,10 @@ fn read_text(alloc: Global, stage: &[&str], text: &str) -> Result<Script, Script
     let Ok(mut reader) = Reader::new(alloc) else {
         return Err(ScriptErr::NoMemory);
     };
-    read_each(stage, &mut reader, &lines)?;
-    match &reader.block {
-        Some(block) => Err(refused(block.line, LineFault::MissingEnd)),
-        None => match reader.finish() {
-            Ok(script) => Ok(script),
-            Err(_) => Err(ScriptErr::NoMemory),
-        },
+    read_closed(stage, &mut reader, &lines)?;
+    match reader.finish() {
+        Ok(script) => Ok(script),
+        Err(_) => Err(ScriptErr::NoMemory),
     }
 }
 

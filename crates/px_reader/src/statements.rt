@@ -3,7 +3,7 @@ ghost use Rattle.std.specs.Prelude.{◌≡◌, ℕ, List, ◌∷◌, Some, None,
 ghost use Rattle.px_script.specs.Items as items;
 ghost use Rattle.px_script.specs.Statements as spec;
 ghost use Rattle.px_script.specs.Statements.{time_word};
-ghost use Rattle.px_script.proofs.Rows.{entry_of, make_atoms, make_box, make_disturb, make_door, make_duo, make_edit, make_learn, make_nothing, make_number, make_object, make_of_table, make_operator, make_param, make_plan, make_predicate, make_proof, make_pursue, make_robot, make_room, make_run, make_show, make_sort, make_step, make_table, row_of, statement_of};
+ghost use Rattle.px_script.proofs.Rows.{entries_of_two, entry_among, entry_of, make_atoms, make_box, make_disturb, make_door, make_duo, make_edit, make_learn, make_nothing, make_number, make_object, make_of_table, make_operator, make_param, make_plan, make_predicate, make_proof, make_pursue, make_robot, make_room, make_run, make_show, make_sort, make_step, make_table, row_among, row_of, statement_of};
 ghost use Rattle.px_lines.specs.ItemViews.{rest_view, said_items};
 ghost use Rattle.px_lines.specs.LineViews.{line_view, IsShaped};
 ghost use Rattle.px_reader.specs.Common.{bytes_eq, option_and_then, option_map, time_of, signed_view, statement_view};
@@ -678,6 +678,21 @@ fn made<'line, 'text>(
         "disturb" => disturb(with_building, ones, last),
         "run" => run(ones, last),
         "facts" => facts(ones, last),
+        _ => made_of_two(word, ones, last),
+    }
+}
+
+/// Returns what the items of a line say whose word only version 2 has.
+fn made_of_two<'line, 'text>(
+    word: &str,
+    ones: &[Said<'text>],
+    last: &'line Rest<'text>,
+) -> Option<Statement<'line, 'text>>
+    requires { IfSome (row_among word.now entries_of_two) (λ row. length ones.now ≡ length row.ones) }
+    ensures { option_map statement_view result
+        ≡ option_and_then (λ entry. entry.make (said_items ones.now last.now)) (entry_among word.now entries_of_two) }
+{
+    match word {
         "duo" => duo(ones, last),
         "sort" => sort(ones, last),
         "param" => param(ones, last),
