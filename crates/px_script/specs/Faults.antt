@@ -7,8 +7,7 @@ use Rattle.px_script.specs.Items.{SignedAtom, Binding, Part, a_fact, an_ancestor
 use Rattle.px_script.specs.Statements.{Statement, line_of, script, object, predicate, «axiom», operator, pre, delete, add, building, room, door, box, robot, end, fact, height, nodes, shapes, plan, learn, show, disturb_atoms, disturb_rooms, run, facts, sort, param, duo, save, certify, edit, pursue, table, step, goal, proof}
 use Rattle.px_script.specs.Limits as limit
 use Rattle.px_script.specs.Limits.{Limit, Bounds, greatest, number_of, number_of_numbers, of_version, of_height, of_nodes, of_shapes, of_turn, of_executor, last_number}
-use Rattle.px_script.specs.Declarations.{Declared, OpenOperator, operator_here, has_building, number_in, variable_names_of, atom_of, WrittenTable, BlockKind, of_table_steps, of_table_rows, table_here, OpenBlock}
-use Rattle.px_script.specs.Content.{own_problem, problem_of}
+use Rattle.px_script.specs.Declarations.{Declared, OpenOperator, operator_here, has_building, number_in, variable_names_of, atom_of, WrittenTable, BlockKind, of_table_steps, of_table_rows, table_here, OpenBlock, problem_here}
 use Rattle.px_table.specs.Deciding.{rows_are_table}
 use Rattle.px_table.specs.WellSorted.{sorts_by_places}
 use Rattle.px_script.specs.Stages.{Stage, whole_language, is_unbuilt}
@@ -125,7 +124,7 @@ own_limits d (duo one other ns) = one_more_command d ∷ any_outside of_executor
 own_limits d facts = one_more_command d ∷ []
 own_limits d (sort n ns) = over d limit.objects (length d.names.objects + length ns) ∷ over d limit.sorts (length d.sorts + 1) ∷ []
 own_limits d (param n ps) = []
-own_limits d (table n parameters) = has_great_number (parameters ∷ []) ∷ over d limit.tables (length d.tables + 1) ∷ []
+own_limits d (table n parameters) = has_great_number (parameters ∷ []) ∷ over d limit.tables (length d.saved + 1) ∷ []
 own_limits d (step o ts) = over d limit.table_steps (steps_here d.block + 1) ∷ []
 own_limits d (goal xs) = over d limit.goal_atoms (length xs) ∷ []
 own_limits d (proof parts) = has_great_number (flat_map numbers_of_part parts) ∷ over d limit.proof_height (highest (heights_of parts)) ∷ []
@@ -149,10 +148,6 @@ abbrev pub passed : Bool × ℕ → Bool × Refusal
 passed test = (test.0, record { code = 8; limit = test.1 })
 
 -- ---- a table's block that is no table's
-
--- the problem that the lines so far give
-abbrev pub problem_here : Declared → Problem
-problem_here d = problem_of (own_problem d) d.things
 
 -- The block is a table's, and has no goal, or its parts make no table of the problem with the sorts that their places have.
 abbrev pub is_bad_block : Problem → BlockKind → Bool

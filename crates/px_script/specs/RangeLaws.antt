@@ -108,9 +108,9 @@ IsCommandOf-prop : (version : ℕ) (problem : Problem) (building : Option (List 
 IsCommandOf-prop version problem building results (DisturbRooms turn between edits) = Prim.hlevel (AreRoomEditsOf-prop, parts)
 IsCommandOf-prop version problem building results _ = Prim.hlevel parts
 
-NamesEarlier-prop : (before : List Command) (command : Command) → IsProp (NamesEarlier before command)
-NamesEarlier-prop before (Plan name goal vars) = Prim.hlevel props
-NamesEarlier-prop before _ = Prim.hlevel props
+NamesEarlier-prop : (given : List ℕ) (before : List Command) (command : Command) → IsProp (NamesEarlier given before command)
+NamesEarlier-prop given before (Plan name goal vars) = Prim.hlevel props
+NamesEarlier-prop given before _ = Prim.hlevel props
 
 pub IsInRange-prop : (script : ScriptValue) → IsProp (IsInRange script)
 IsInRange-prop script = Prim.hlevel (IsCommandOf-prop, NamesEarlier-prop, IsValid-prop, Term-set, parts)

@@ -8,6 +8,7 @@ use px_base::Sequence;
 use px_names::Names;
 use px_ops::Model;
 use px_rooms::Building;
+use px_table::Table;
 use px_terms::Problem;
 
 /// A script that was read. It keeps that its problem is valid, that each of its numbers has a name and no name stands twice in
@@ -26,7 +27,9 @@ pub struct Script {
     pub facts: Model,
     /// The building, if the script has one.
     pub building: Option<Building>,
+    /// The tables that stand in the script, in their order, each with the number of its name. Each is a table of the problem.
+    pub tables: Sequence<(u32, Table)>,
     /// The commands, in their order.
     pub commands: Sequence<Command>,
-    pub ghost in_range: { IsInRange (script_of version names problem facts building commands) } by { IsInRange-prop _ },
+    pub ghost in_range: { IsInRange (script_of version names problem facts building tables commands) } by { IsInRange-prop _ },
 }
