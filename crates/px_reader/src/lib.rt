@@ -30,16 +30,21 @@
 #![tactic(auto)]
 
 mod blocks;
+mod closing;
 mod commands;
 mod declaring;
 mod duplicates;
 mod fault;
 mod limits;
+mod line_variables;
 mod naming;
+mod open_tables;
 mod order;
+mod problem;
 mod reader;
 mod reading;
 mod refused;
+mod rows;
 mod sorts;
 mod statement;
 mod statements;

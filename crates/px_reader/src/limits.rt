@@ -293,19 +293,28 @@ impl Reader {
             .or(self.over(pairs.len(), Limit::Pairs))
     }
 
-    /// Returns the limits of a line that opens a table's block, which is the first: none is built.
     fn table_limit(&self, parameters: u32) -> Option<PassedLimit>
-        ensures { IsFirstLimit result (has_great_number (parameters ∷ []) ∷ over (declared_of self.now) limit.Tables 1 ∷ []) }
+        ensures { IsFirstLimit result (has_great_number (parameters ∷ [])
+            ∷ over (declared_of self.now) limit.Tables (length self.now.saved.items + 1) ∷ []) }
     {
-        great_number(parameters, &[]).or(self.over(1, Limit::Tables))
+        great_number(parameters, &[]).or(self.over(self.saved.len() + 1, Limit::Tables))
     }
 
-    /// Returns the limit of a line of a table's block, of which none is open.
-    #[tactic(auto, using(crate::proofs::TableVariables::no_steps))]
     fn step_limit(&self) -> Option<PassedLimit>
         ensures { IsFirstLimit result (over (declared_of self.now) limit.TableSteps (steps_here (declared_of self.now).block + 1) ∷ []) }
     {
-        self.over(1, Limit::TableSteps)
+        self.over(self.steps_here() + 1, Limit::TableSteps)
+    }
+
+    /// Returns how many steps the table has whose block is open.
+    fn steps_here(&self) -> usize
+        ensures count { result ≡ steps_here (declared_of self.now).block }
+        ensures few { result < 2 ^ 63 }
+    {
+        match self.open_table() {
+            Some(table) => table.steps.len(),
+            None => 0,
+        }
     }
 
     fn proof_limit(&self, parts: &[Part<'_>]) -> Result<Option<PassedLimit>, NoMemory>

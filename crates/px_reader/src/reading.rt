@@ -4,7 +4,7 @@ ghost use Rattle.px_base.specs.Bounds.{u32_max};
 ghost use Rattle.px_script.specs.Lines.{without_mark, without_return};
 ghost use Rattle.px_script.specs.Ranges.{IsOfStage};
 ghost use Rattle.px_script.specs.Scripts.{PassAll, IsScript, FirstFault};
-ghost use Rattle.px_reader.specs.Common.{slice_split, ScriptValue, nothing_declared, Refusal, stage_now, characters_of, stage_view, LinesFail, HasFirstFault, IsRead, IsLineRefused, content, told, declared_of};
+ghost use Rattle.px_reader.specs.Common.{slice_split, AreScript, ScriptValue, nothing_declared, Refusal, stage_now, characters_of, stage_view, LinesFail, HasFirstFault, IsRead, IsLineRefused, content, told, declared_of};
 
 use crate::fault::LineFault;
 use crate::reader::Reader;
@@ -13,8 +13,8 @@ use px_script::Script;
 use std::alloc::{AllocError, Global};
 use std::str;
 
-/// The words that are built: all of version 1, sorts, two executors in one world, and edited tables.
-const STAGE: [&str; 28] = [
+/// The words that are built: all of version 1, sorts, tables, edited tables, and two executors in one world.
+const STAGE: [&str; 32] = [
     "script",
     "object",
     "predicate",
@@ -41,8 +41,12 @@ const STAGE: [&str; 28] = [
     "facts",
     "sort",
     "param",
-    "duo",
+    "table",
+    "step",
+    "goal",
+    "proof",
     "edit",
+    "duo",
 ];
 
 /// Returns the parts of a text between line feeds.
@@ -111,6 +115,20 @@ fn read_closed(stage: &[&str], reader: &mut Reader, lines: &[&str]) -> Result<()
     }
 }
 
+/// Reads all lines, and returns the script that they are.
+fn read_lines(stage: &[&str], reader: &mut Reader, lines: &[&str]) -> Result<Script, ScriptErr>
+    requires start { declared_of reader.old ≡ nothing_declared }
+    requires few { length lines.now ≤ u32_max }
+    ensures script { IfOk result (λ script. AreScript (stage_view stage.now) (characters_of lines.now) (content script)) }
+    ensures fails { IfErr result (LinesFail (stage_view stage.now) (characters_of lines.now)) }
+{
+    read_closed(stage, reader, lines)?;
+    match reader.finish() {
+        Ok(script) => Ok(script),
+        Err(_) => Err(ScriptErr::NoMemory),
+    }
+}
+
 fn read_text(alloc: Global, stage: &[&str], text: &str) -> Result<Script, ScriptErr>
     requires { length text.now < u32_max }
     ensures script { IfOk result (λ script. IsScript (stage_view stage.now) text.now (content script)) }
@@ -122,11 +140,7 @@ fn read_text(alloc: Global, stage: &[&str], text: &str) -> Result<Script, Script
     let Ok(mut reader) = Reader::new(alloc) else {
         return Err(ScriptErr::NoMemory);
     };
-    read_closed(stage, &mut reader, &lines)?;
-    match reader.finish() {
-        Ok(script) => Ok(script),
-        Err(_) => Err(ScriptErr::NoMemory),
-    }
+    read_lines(stage, &mut reader, &lines)
 }
 
 /// Returns the line of the byte after these.

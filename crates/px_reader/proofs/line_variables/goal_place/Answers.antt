@@ -1,0 +1,6 @@
+-- Proofs of the goals that `goal_place` of src/line_variables.rt leaves open.
+use Rattle.px_reader.proofs.TableVariables.{goal-names-are, goal-place}
+use Rattle.px_reader.proofs.line_variables.goal_place.Goals as goal
+
+pub returns-clause-place : goal.returns-clause-place
+returns-clause-place c = goal-place c.args.name.now _ c.place_among.result goal-names-are c.place_among.ensures.number
