@@ -277,14 +277,14 @@ object_sorts_here d = filled_up (length d.names.objects) d.object_sorts
 
 -- the problem with these parts, whose objects have these sorts up to the last that has one; its search goes by the number of moves alone
 abbrev pub problem_with : ℕ → List ℕ → List Clause → List Schema → ℕ → ℕ → ℕ → ℕ → List ℕ → Problem
-problem_with objects arities axioms schemas height nodes shapes sorts object_sorts = record {
+problem_with objects arities axioms schemas tall many wide sorts object_sorts = record {
   objects = objects;
   arities = arities;
   axioms = axioms;
   schemas = schemas;
-  height = height;
-  nodes = nodes;
-  shapes = shapes;
+  height = tall;
+  nodes = many;
+  shapes = wide;
   sorts = sorts;
   object_sorts = filled_up objects object_sorts;
   weight = 0;

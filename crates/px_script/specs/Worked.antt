@@ -30,6 +30,7 @@ nothing = record {
   problem = of_objects 0;
   facts = [];
   building = None;
+  saved = [];
   commands = [];
 }
 
@@ -94,6 +95,7 @@ pub record WorkedScripts : Type 0 where
         facts = in_room (Obj 0) (Obj 1) ∷ in_room (Obj 4) (Obj 2) ∷ connects (Obj 3) (Obj 1) (Obj 2) ∷ connects (Obj 3) (Obj 2) (Obj 1)
             ∷ closed (Obj 3) ∷ is_room (Obj 1) ∷ is_room (Obj 2) ∷ is_door (Obj 3) ∷ is_box (Obj 4) ∷ [];
         building = Some (thing.Room ∷ thing.Room ∷ thing.Door 1 2 false ∷ thing.Box 2 ∷ thing.Robot 1 ∷ []);
+        saved = [];
         commands = Plan 0 (in_room (Obj 0) (Obj 2) ∷ []) 0 ∷ DisturbRooms 3 false (room_edit.Door 3 false ∷ []) ∷ Facts ∷ [];
       })
   -- sorts of two objects and of a parameter

@@ -5,12 +5,15 @@ use Rattle.std.specs.Fmt.{decimal}
 use Rattle.std.specs.List.{AllByRecursion, range_with_len}
 use Rattle.px_proof.specs.Derivation as derivation
 use Rattle.px_proof.specs.Derivation.{none, also}
+use Rattle.px_proof.specs.LayerLaws.{proof_of}
+use Rattle.px_table.specs.Tables.{empty_table}
+use Rattle.px_table.specs.declared.table.Table.{Table}
 use Rattle.px_script.specs.Common.{Var, Obj}
 use Rattle.px_script.specs.Items.{Argument, SignedAtom, Part, named, open_variable, anything, bare, a_fact, an_ancestor, an_axiom, are_proofs, a_result, a_plan, a_table}
 use Rattle.px_script.specs.Statements.{Statement, line_of, end, object, save, certify, edit, pursue, table, step, goal, proof}
 use Rattle.px_script.specs.Limits as limit
 use Rattle.px_script.specs.Limits.{greatest}
-use Rattle.px_script.specs.Declarations.{Declared, WrittenTable, nothing_declared, with_all_names, declared_by, after_line}
+use Rattle.px_script.specs.Declarations.{Declared, nothing_declared, with_all_names, declared_by, after_line}
 use Rattle.px_script.specs.Forms.{is_formed}
 use Rattle.px_script.specs.Causes.{is_out_of_order, has_unknown_name, has_wrong_arity, is_unbound}
 use Rattle.px_script.specs.Faults.{Refusal, coded, passed, first_of, has_duplicate, limits, is_bad_table}
@@ -132,11 +135,8 @@ abbrev by_axiom : ℕ → List Argument → List Statement
 by_axiom place terms = table (codes "T") 1 ∷ goal (atom_of_p (codes "G") 1 ∷ [])
     ∷ proof (an_axiom 0 place 1 terms ∷ a_fact 0 0 (atom_of_p (codes "P") 1) ∷ []) ∷ end ∷ []
 
-abbrev no_table : WrittenTable
-no_table = record { name = 0; parameters = 0; steps = []; goal = []; goal_vars = 0; rows = [] }
-
 abbrev tables : ℕ → Declared → Declared
-tables n d = record d { tables = replicate n no_table }
+tables k d = record d { saved = replicate k (0, empty_table) }
 
 -- a proof of this height, whose steps take one proof each
 abbrev chain : ℕ → List Part
@@ -167,7 +167,6 @@ pub record WorkedTables : Type 0 where
   ) ∷ [])
   pub out_of_order : Refuse 9 ((codes "script 2\n" ++ small, codes "step O\ngoal Q\nproof\nproof a 0 s 0 0 2 () a 0 a 1")
       ∷ (codes "script 2\n" ++ in_operator, codes "table M 2") ∷ (codes "script 2\nfacts", codes "table M 2") ∷ [])
-  pub unbuilt : Refuse 11 ((codes "script 2\n" ++ small, codes "table M 2\ntable M 10000") ∷ [])
   pub whole_proofs : are_proofs (a_fact 0 0 q ∷ an_axiom 0 1 2 [] ∷ a_fact 1 0 q ∷ an_ancestor 1 ∷ []) ≡ true
   pub no_proofs : are_proofs [] ≡ true
   pub cut_proof : are_proofs (an_axiom 0 1 2 [] ∷ a_fact 1 0 q ∷ []) ≡ false
@@ -176,13 +175,13 @@ pub record WorkedTables : Type 0 where
   pub with_a_building : WouldRead (codes "script 2\n" ++ closed_building) None ((table (codes "M") 2 ∷ []) ∷ [])
   pub proved : WouldRead with_axiom None (by_axiom 1 (p 1 ∷ []) ∷ [])
   pub steps_left : Leave danger
-      (λ d. map (λ (t : WrittenTable). t.steps) (would_leave (steps_of ++ aim ∷ rows_by 1 ++ end ∷ []) d).tables)
+      (λ d. map (λ (one : ℕ × Table). one.1.steps) (would_leave (steps_of ++ aim ∷ rows_by 1 ++ end ∷ []) d).saved)
       ((record { op = 0; args = Var 0 ∷ [] } ∷ record { op = 1; args = Var 0 ∷ Var 1 ∷ [] } ∷ []) ∷ [])
-  pub rows_left : Leave with_axiom (λ d. map (λ (t : WrittenTable). t.rows) (would_leave (by_axiom 1 (p 1 ∷ [])) d).tables)
-      (((derivation.step 0 (Var 0 ∷ []) 1
-      (also (derivation.fact (record { column = 0; index = 0; atom = numbered 0 (Var 0 ∷ []) })) none) ∷ []) ∷ []) ∷ [])
-  pub goals_left : Leave with_axiom (λ d. map (λ (t : WrittenTable). t.goal_vars)
-      (would_leave (table (codes "T") 1 ∷ goal (p_of (g 2 ∷ []) ∷ p_of (p 1 ∷ []) ∷ []) ∷ end ∷ []) d).tables) (2 ∷ [])
+  pub rows_left : Leave with_axiom (λ d. map (λ (one : ℕ × Table). one.1.proofs) (would_leave (by_axiom 1 (p 1 ∷ [])) d).saved)
+      (((proof_of (derivation.step 0 (Var 0 ∷ []) 1
+      (also (derivation.fact (record { column = 0; index = 0; atom = numbered 0 (Var 0 ∷ []) })) none)) ∷ []) ∷ []) ∷ [])
+  pub goals_left : Leave with_axiom (λ d. map (λ (one : ℕ × Table). one.1.goal_vars)
+      (would_leave (table (codes "T") 1 ∷ goal (p_of (g 2 ∷ []) ∷ p_of (p 1 ∷ []) ∷ []) ∷ end ∷ []) d).saved) (2 ∷ [])
   pub closed : Leave danger (λ d. (would_leave (steps_of ++ aim ∷ rows_by 1 ++ end ∷ []) d).block) None
   -- blocks of tables that are none: a fact from a step that doesn't add it, lines that lack, one too many; another place, other terms
   pub bad_tables : WouldRead danger (Some (coded 12)) ((steps_of ++ aim ∷ rows_by 2 ++ end ∷ []) ∷ (steps_of ++ end ∷ [])

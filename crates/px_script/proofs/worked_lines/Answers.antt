@@ -123,7 +123,6 @@ returns-clause-tables c = record {
   new = search (refuse-so) depth 14;
   no_form = search (refuse-so) depth 14;
   out_of_order = search (refuse-so) depth 14;
-  unbuilt = search (refuse-so) depth 14;
   whole_proofs = refl;
   no_proofs = refl;
   cut_proof = refl;
