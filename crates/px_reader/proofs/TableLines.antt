@@ -6,7 +6,7 @@ use Rattle.px_script.proofs.States.{IsBlockInRange}
 use Rattle.px_script.specs.Declarations.{BlockKind, WrittenTable, after_goal, change_table, of_operator, of_building, of_table_steps, of_table_rows, problem_here, table_here, table_parameters, table_parameters_here, parameters_here, operator_here}
 use Rattle.px_script.specs.Faults.{is_bad_block, steps_here}
 use Rattle.px_script.specs.Items.{atoms_of_part}
-use Rattle.px_script.specs.Limits.{last_number}
+use Rattle.px_script.specs.declared.limits.TheConstants.{LAST_NUMBER as last_number}
 use Rattle.px_script.specs.Statements.{proof, end}
 use Rattle.px_lines.specs.ItemViews.{part_view}
 use Rattle.px_lines.specs.declared.parts.Part.{Part}

@@ -8,7 +8,7 @@ use Rattle.std.proofs.lemmas.List.FromFn.{length-range_with_len}
 use Rattle.std.proofs.lemmas.Str.Parse.{parse_plain}
 use Rattle.std.specs.Fmt.{decimal, digits}
 use Rattle.std.specs.List.{position_or_len, range_with_len}
-use Rattle.std.specs.Str.{all_ascii_digits, digits_value}
+use Rattle.px_script.proofs.Common.{all_ascii_digits, digits_value}
 use Rattle.std.specs.Str.Parse.{ParsesUnsigned}
 use Rattle.px_lines.proofs.Numbers.{own}
 use Rattle.px_lines.proofs.Parameters.{decimal-begins}

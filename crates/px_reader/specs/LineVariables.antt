@@ -5,7 +5,7 @@ use Rattle.std.specs.Str.{bytes_eq}
 use Rattle.px_terms.specs.Limits.{most_formula_variables}
 use Rattle.px_script.specs.Declarations.{letter_numbers, number_in}
 use Rattle.px_script.specs.Items.{Argument, open_variable}
-use Rattle.px_script.specs.Limits.{last_number}
+use Rattle.px_script.specs.declared.limits.TheConstants.{LAST_NUMBER as last_number}
 use Rattle.px_lines.specs.ItemViews.{text_of}
 use Rattle.px_reader.specs.declared.line_variables.Variables.{Variables}
 use Rattle.px_reader.specs.declared.line_variables.Variables.TheVariants as variables

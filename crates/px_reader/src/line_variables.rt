@@ -65,7 +65,7 @@ pub fn parameter_place(parameters: u32, name: &str) -> Option<u32>
     if digits.starts_with('0') || digits.starts_with('+') {
         return None;
     }
-    match digits.parse() {
+    match digits.parse::<u32>() {
         Ok(number) if number <= parameters => Some(number - 1),
         _ => None,
     }
