@@ -1,7 +1,7 @@
 //! The table of the words.
-ghost use Rattle.std.specs.Prelude.{◌≡◌, IfSome};
+ghost use Rattle.std.specs.Prelude.{◌≡◌, ◌++◌, IfSome};
 ghost use Rattle.std.specs.Option.{option_map};
-ghost use Rattle.px_script.proofs.Rows.{disturb_row, entries_of_two, is_of, newer, row_among, row as spec_row, row_of};
+ghost use Rattle.px_script.proofs.Rows.{disturb_row, entries_of_three, entries_of_two, is_of, newer, row_among, row as spec_row, row_of};
 ghost use Rattle.px_script.specs.Limits.{is_word};
 ghost use Rattle.px_lines.specs.LineViews.{row_view};
 
@@ -101,13 +101,13 @@ fn plain(word: &'static str, place: Place, ones: &'static [One], last: Last) -> 
     described(word, place, Manner::Plain, ones, last)
 }
 
-/// Returns the row as one that version 2 is the first to have.
-fn newer(row: Row) -> Row
-    ensures { row_view result ≡ newer (row_view row) }
+/// Returns the row as one that this version is the first to have.
+fn newer(version: u32, row: Row) -> Row
+    ensures { row_view result ≡ newer version (row_view row) }
 {
     Row {
         word: row.word,
-        since: 2,
+        since: version,
         place: row.place,
         manner: row.manner,
         ones: row.ones,
@@ -137,57 +137,67 @@ fn disturbance(with_building: bool) -> Row
     }
 }
 
-/// Returns the row of a word that version 2 is the first to have.
-fn row_of_two(word: &str) -> Option<Row>
-    ensures { option_map row_view result ≡ row_among word.now entries_of_two }
+/// Returns the row of a word that version 3 is the first to have.
+fn row_of_three(word: &str) -> Option<Row>
+    ensures { option_map row_view result ≡ row_among word.now entries_of_three }
 {
     match word {
-        "sort" => Some(newer(plain("sort", Place::Domain, &SORT, Last::New(Named::Object)))),
-        "duo" => Some(newer(plain("duo", Place::Command, &DUO, Last::Numbers))),
-        "param" => Some(newer(plain(
+        "weight" => Some(newer(3, plain("weight", Place::Setting, &NUMBER, Last::Nothing))),
+        _ => None,
+    }
+}
+
+/// Returns the row of a word that version 2 or a later one is the first to have.
+fn row_of_two(word: &str) -> Option<Row>
+    ensures { option_map row_view result ≡ row_among word.now (entries_of_two ++ entries_of_three) }
+{
+    match word {
+        "sort" => Some(newer(2, plain("sort", Place::Domain, &SORT, Last::New(Named::Object)))),
+        "duo" => Some(newer(2, plain("duo", Place::Command, &DUO, Last::Numbers))),
+        "param" => Some(newer(2, plain(
             "param",
             Place::Inside(Block::Operator),
             &PARAM,
             Last::Known(Named::Parameter),
         ))),
-        "table" => Some(newer(plain(
+        "table" => Some(newer(2, plain(
             "table",
             Place::Opens(Block::TableSteps),
             &NEW_TABLE,
             Last::Nothing,
         ))),
-        "step" => Some(newer(described(
+        "step" => Some(newer(2, described(
             "step",
             Place::Inside(Block::TableSteps),
             Manner::TableTerms,
             &STEP,
             Last::Arguments,
         ))),
-        "goal" => Some(newer(described(
+        "goal" => Some(newer(2, described(
             "goal",
             Place::Inside(Block::TableSteps),
             Manner::TableGoals,
             &NONE,
             Last::Atoms,
         ))),
-        "proof" => Some(newer(described(
+        "proof" => Some(newer(2, described(
             "proof",
             Place::Inside(Block::TableRows),
             Manner::TableTerms,
             &NONE,
             Last::Proofs,
         ))),
-        "save" => Some(newer(plain("save", Place::Command, &TABLE, Last::Nothing))),
-        "certify" => Some(newer(plain("certify", Place::Command, &TABLE, Last::Nothing))),
-        "edit" => Some(newer(plain("edit", Place::Command, &EDIT, Last::Pairs))),
-        "pursue" => Some(newer(described(
+        "save" => Some(newer(2, plain("save", Place::Command, &TABLE, Last::Nothing))),
+        "certify" => Some(newer(2, plain("certify", Place::Command, &TABLE, Last::Nothing))),
+        "edit" => Some(newer(2, plain("edit", Place::Command, &EDIT, Last::Pairs))),
+        "pursue" => Some(newer(2, described(
             "pursue",
             Place::Command,
             Manner::Goals,
             &RESULT,
             Last::Atoms,
         ))),
-        _ => None,
+        _ => row_of_three(word),
     }
 }
 
@@ -261,6 +271,6 @@ impl Row {
     fn is_of(&self, version: u32) -> bool
         ensures { result ≡ is_of version (row_view self.now) }
     {
-        self.since == 1 || version == 2
+        self.since == 1 || self.since <= version
     }
 }

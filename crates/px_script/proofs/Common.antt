@@ -1,6 +1,6 @@
 -- What the proofs here and in px_reader cite of std, of the lower crates and of what a script is.
 pub use Rattle.std.proofs.Common.{◌≡◌, ◌≢◌, ◌⊎◌, ℕ, zero, suc, ◌+◌, ◌<◌, ◌≤◌, Bool, true, false, cond, not, ◌&&◌, ◌||◌, List, [], ◌∷◌, ◌++◌, map, length, get_or, take, drop, refl, sym, ap, ◌∙◌, subst, inl, inr, arith, append_assoc, append-nil, map-id, length-append, ltb-true, leb-true, eqb-true}
-pub use Rattle.std.specs.Prelude.{◌==◌, nat_lt, Option, None, Some, is_some, IfSome, unwrap_or, All, AllPairs, EachIndex, Contains, slice_get, slice_index, slice_index_or, replicate, ◌-◌, fold, position, count_by, codes, if◌then◌else◌, encode_utf8_all, max}
+pub use Rattle.std.specs.Prelude.{◌==◌, nat_lt, nat_le, Option, None, Some, is_some, IfSome, unwrap_or, All, AllPairs, EachIndex, Contains, slice_get, slice_index, slice_index_or, replicate, ◌-◌, fold, position, count_by, codes, if◌then◌else◌, encode_utf8_all, max}
 pub use Rattle.std.specs.List.{AllByRecursion, list_any, list_all, flat_map, filter, filter_map, range_with_len, scan, prefix_len, position_or_len}
 pub use Rattle.std.specs.Option.{option_map, option_and_then}
 pub use Rattle.std.specs.Str.{IsUtf8, all_ascii_digits, bytes_eq}
@@ -32,10 +32,10 @@ pub use Rattle.px_terms.specs.Validity.{HasArity, IsPatternOf, IsSchemaOf, IsAxi
 pub use Rattle.px_script.specs.Lexemes.{Lexeme, name, number, sign, Lexes, variable, is_blank, is_sign, goes_on, is_comment, IsLexeme, ends_before, Begins, IsIgnored, number_value}
 pub use Rattle.px_script.specs.Lines.{lines_of}
 pub use Rattle.px_script.specs.Items.{SignedAtom, is_empty, Named, Sign, WrittenRoomEdit, Binding, bare, robot_to, box_to, door_to, is_parameter_number, wanted_by_edit, an_object, Argument, named, open_variable, anything, is_variable, WrittenAtom, spell, spell_argument, spell_sign, spell_atom, spell_room_edit, spell_binding, is_filled, parameter_name, open_word, with_commas, parenthesised, negated, added, removed, spell_pair, Part, a_fact, an_ancestor, an_axiom, spell_part, spell_terms}
-pub use Rattle.px_script.specs.Statements.{Statement, Block, plain, inside, operator_block, building_block, line_of, script, object, predicate, «axiom», operator, pre, delete, add, building, room, door, box, robot, end, fact, height, nodes, shapes, plan, learn, show, disturb_atoms, disturb_rooms, run, facts, sort, param, literals, goals, atom_changes, Line, Place, Manner, patterns, spelling, time_word, duo, save, certify, edit, pursue, table, step, goal, proof, table_terms, table_goals, table_steps, table_rows}
-pub use Rattle.px_script.specs.Limits.{greatest, of_height, of_nodes, of_shapes, of_version, Bounds, of_turn, is_word, of_executor, last_number}
-pub use Rattle.px_script.specs.Commands.{Command, Show, Facts, Plan, Learn, DisturbAtoms, DisturbRooms, Run, Duo, Edit}
-pub use Rattle.px_script.specs.Declarations.{Declared, Roles, OpenBlock, BlockKind, OpenOperator, of_operator, of_building, block_here, kind_of_block, number_in, atom_of, nothing_declared, after_line, predicate_names, predicate_arities, operator_names, operator_here, parameters_here, parameters_of, names_here, variable_names_of, literal_of, clause_of, atom_edit_of, edit_by, room_edit_of, binding_of, declared_by, with_variable, term_of, has_building, filled_up, object_sorts_here, with_sort, give_sort, WrittenTable, table_closed, table_in, problem_here, problem_of, of_table_steps, of_table_rows, table_made, table_variables, letter_numbers, goal_number, goal_variables, proofs_read, table_term, instance_of_step, table_parameters_here, own_problem}
+pub use Rattle.px_script.specs.Statements.{Statement, Block, plain, inside, operator_block, building_block, line_of, script, object, predicate, «axiom», operator, pre, delete, add, building, room, door, box, robot, end, fact, height, nodes, shapes, weight, plan, learn, show, disturb_atoms, disturb_rooms, run, facts, sort, param, literals, goals, atom_changes, Line, Place, Manner, patterns, spelling, time_word, duo, save, certify, edit, pursue, table, step, goal, proof, table_terms, table_goals, table_steps, table_rows}
+pub use Rattle.px_script.specs.Limits.{greatest, words_of_all, words_of_two, words_of_three, default_nodes, default_weight, from_three, of_weight, of_height, of_nodes, of_shapes, of_version, Bounds, of_turn, is_word, of_executor, last_number}
+pub use Rattle.px_script.specs.Commands.{Command, Show, Save, Certify, Facts, Plan, Learn, DisturbAtoms, DisturbRooms, Run, Duo, Edit}
+pub use Rattle.px_script.specs.Declarations.{Declared, Roles, OpenBlock, BlockKind, OpenOperator, of_operator, of_building, block_here, kind_of_block, number_in, atom_of, nothing_declared, after_line, predicate_names, predicate_arities, operator_names, operator_here, parameters_here, parameters_of, names_here, variable_names_of, literal_of, clause_of, atom_edit_of, edit_by, room_edit_of, binding_of, declared_by, with_variable, term_of, has_building, filled_up, object_sorts_here, with_sort, give_sort, WrittenTable, table_closed, table_in, problem_here, problem_of, building_with, of_table_steps, of_table_rows, table_made, table_variables, letter_numbers, goal_number, goal_variables, proofs_read, table_term, instance_of_step, table_parameters_here, own_problem}
 pub use Rattle.px_script.specs.Content.{ScriptValue, content_of}
 pub use Rattle.px_script.specs.Forms.{is_formed, Forms, begins_with_word, is_signed, is_of_script}
 pub use Rattle.px_script.specs.Stages.{Stage, whole_language, is_built, is_unbuilt, stage_now, words_to_come}

@@ -1,6 +1,6 @@
 -- A line without a fault: what each cause says where it isn't there.
 use Rattle.px_script.specs.Faults as faults
-use Rattle.px_script.proofs.Common.{◌≡◌, ℕ, Bool, true, false, not, ◌&&◌, List, [], ◌∷◌, map, refl, sym, ◌∙◌, inl, inr, Option, None, Some, AllByRecursion, list_any, option_map, not-false, or_parts, both_answers, has_name, Statement, Line, Block, line_of, save, certify, pursue, words_to_come, Declared, OpenBlock, block_here, declared_by, names_here, kind_of_block, Stage, whole_language, is_unbuilt, is_out_of_order, declares_after_command, may_stand, is_late, has_two_domains, varies_too_early, lacks_robot, has_unknown_name, wanted_by, repeats, repeats_name, taken_here, has_wrong_arity, is_unbound, has_long_name, is_long, is_numbered, causes_with, fault_at, first_of, passed, own_limits, has_duplicate, repeats_itself, OnlyTakesAway, ◌++◌, Refusal, is_bad_table}
+use Rattle.px_script.proofs.Common.{◌≡◌, ℕ, Bool, true, false, not, ◌&&◌, List, [], ◌∷◌, map, refl, sym, ◌∙◌, inl, inr, Option, None, Some, AllByRecursion, list_any, option_map, not-false, or_parts, both_answers, has_name, Statement, Line, Block, line_of, pursue, words_to_come, Declared, OpenBlock, block_here, declared_by, names_here, kind_of_block, Stage, whole_language, is_unbuilt, is_out_of_order, declares_after_command, may_stand, is_late, has_two_domains, varies_too_early, lacks_robot, has_unknown_name, wanted_by, repeats, repeats_name, taken_here, has_wrong_arity, is_unbound, has_long_name, is_long, is_numbered, causes_with, fault_at, first_of, passed, own_limits, has_duplicate, repeats_itself, OnlyTakesAway, ◌++◌, Refusal, is_bad_table}
 use Rattle.px_script.proofs.Lists.{by_test, none-passes, passes-test}
 
 -- No cause to refuse the line is there but for limits and for what isn't built.
@@ -84,8 +84,6 @@ no-fault stage d s e = let l = line_of s in let first = none-first (causes_with 
 
 -- each line that is built somewhere is built in the whole language
 whole-built : (stage : Stage) (s : Statement) → is_unbuilt stage s ≡ false → is_unbuilt whole_language s ≡ false
-whole-built stage (save n) built = cc
-whole-built stage (certify n) built = cc
 whole-built stage (pursue n xs) built = cc
 whole-built stage _ built = refl
 

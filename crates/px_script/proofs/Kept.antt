@@ -5,7 +5,7 @@ use Rattle.std.specs.List.Sorted.{IsStrictlySortedBy}
 use Rattle.px_base.specs.Bounds.{u32_max}
 use Rattle.px_rooms.proofs.Valid.{buildings_are_valid}
 use Rattle.px_rooms.proofs.Belonging.{facts-are-atoms}
-use Rattle.px_script.proofs.Common.{both_ways, building_problem, robot_name, room_schemas, building_rules, thing_at, no_schema, ◌≡◌, ◌≢◌, ℕ, suc, ◌+◌, ◌<◌, ◌≤◌, ◌==◌, Bool, true, false, not, ◌||◌, List, [], ◌∷◌, ◌++◌, map, length, refl, sym, ap, ◌∙◌, subst, arith, leb-true, append-nil, length-append, nat_lt, Option, None, Some, is_some, IfSome, All, slice_index_or, list_any, option_map, not-false, not-true, length-map, All-append, All-map, All-from_recursion, All-nil, cases_lt, inl, inr, range_with_len, slice_index, if◌then◌else◌, both_answers, has_name, bytes_eq, bytes_eq-itself, Standing, a_room, a_door, a_box, IsBoxAt, IsDoorAt, IsRoomAt, first_state, rendering, robot_rooms, standings, standings-more, Atom, Problem, IsAtomOf, IsPatternOf, Thing, codes, All-push, NameLists, IsSchemaOf, Lexeme, lines_of, SignedAtom, is_empty, Statement, Block, plain, inside, operator_block, building_block, line_of, script, object, predicate, «axiom», operator, pre, delete, add, building, room, door, box, robot, end, fact, height, nodes, shapes, plan, learn, show, disturb_atoms, disturb_rooms, run, sort, param, filled_up, with_sort, greatest, of_height, of_nodes, of_shapes, of_version, Command, Declared, OpenBlock, BlockKind, OpenOperator, of_operator, of_building, kind_of_block, number_in, atom_of, nothing_declared, after_line, predicate_names, predicate_arities, operator_names, ScriptValue, own_problem, content_of, is_robot, may_stand, is_long, repeats, same_block, has_two_domains, fault_at, is_formed, AreNamesOf, AreNumbered, HasShortLists, IsInRange, IsThingAfter, PassesLexemes, PassAll, IsScript, IsBuiltCommand, IsOfStage, Stage, whole_language, is_built, facts, get_or-append, duo, save, certify, edit, pursue, table, step, goal, proof, WrittenTable, of_table_steps, of_table_rows, table_steps, table_rows, Table, IsSavedTable, problem_of, CommandsInRange}
+use Rattle.px_script.proofs.Common.{both_ways, building_problem, robot_name, room_schemas, building_rules, thing_at, no_schema, ◌≡◌, ◌≢◌, ℕ, suc, ◌+◌, ◌<◌, ◌≤◌, ◌==◌, Bool, true, false, not, ◌||◌, List, [], ◌∷◌, ◌++◌, map, length, refl, sym, ap, ◌∙◌, subst, arith, leb-true, append-nil, length-append, nat_lt, nat_le, Option, None, Some, is_some, IfSome, All, slice_index_or, list_any, option_map, not-false, not-true, length-map, All-append, All-map, All-from_recursion, All-nil, cases_lt, inl, inr, range_with_len, slice_index, if◌then◌else◌, both_answers, has_name, bytes_eq, bytes_eq-itself, Standing, a_room, a_door, a_box, IsBoxAt, IsDoorAt, IsRoomAt, first_state, rendering, robot_rooms, standings, standings-more, Atom, Problem, IsAtomOf, IsPatternOf, Thing, codes, All-push, NameLists, IsSchemaOf, Lexeme, lines_of, SignedAtom, is_empty, Statement, Block, plain, inside, operator_block, building_block, line_of, script, object, predicate, «axiom», operator, pre, delete, add, building, room, door, box, robot, end, fact, height, nodes, shapes, weight, of_weight, building_with, plan, learn, show, disturb_atoms, disturb_rooms, run, sort, param, filled_up, with_sort, greatest, of_height, of_nodes, of_shapes, of_version, Command, Declared, OpenBlock, BlockKind, OpenOperator, of_operator, of_building, kind_of_block, number_in, atom_of, nothing_declared, after_line, predicate_names, predicate_arities, operator_names, ScriptValue, own_problem, content_of, is_robot, may_stand, is_long, repeats, same_block, has_two_domains, fault_at, is_formed, AreNamesOf, AreNumbered, HasShortLists, IsInRange, IsThingAfter, PassesLexemes, PassAll, IsScript, IsBuiltCommand, IsOfStage, Stage, whole_language, is_built, facts, get_or-append, duo, save, certify, edit, pursue, table, step, goal, proof, WrittenTable, of_table_steps, of_table_rows, table_steps, table_rows, Table, IsSavedTable, problem_of, CommandsInRange}
 use Rattle.px_world.specs.declared.thing.Thing.TheVariants as thing
 use Rattle.px_script.specs.Limits as limit
 use Rattle.px_script.proofs.Atoms.{atoms-right, atoms-with, patterns-with, AreRight}
@@ -13,13 +13,14 @@ use Rattle.px_script.proofs.Buildings.{rooms-kind, doors-kind, boxes-kind, IsKin
 use Rattle.px_script.proofs.Commands.{commands-moved}
 use Rattle.px_script.proofs.Faultless.{IsFaultless, no-fault, only-takes-away, stage-takes-away}
 use Rattle.px_script.proofs.Forms.{IsWellFormed, well-formed}
-use Rattle.px_script.proofs.KeptLines.{more-objects, saved-kept, in-version, sorts-filled, still-sorted, script-kept, sort-kept, few-objects, no-own, settings-kept, in-bounds, still-none, carried, Keeps, object-kept, predicate-kept, axiom-kept, fact-kept, operator-kept, show-kept, facts-kept, disturb-atoms-kept, disturb-rooms-kept, run-kept, learn-kept, plan-kept, duo-kept, edit-kept}
+use Rattle.px_script.proofs.KeptLines.{more-objects, saved-kept, in-version, sorts-filled, still-sorted, script-kept, sort-kept, few-objects, no-own, settings-kept, in-bounds, still-none, carried, Keeps, object-kept, predicate-kept, axiom-kept, fact-kept, operator-kept, show-kept, save-kept, certify-kept, facts-kept, disturb-atoms-kept, disturb-rooms-kept, run-kept, learn-kept, plan-kept, duo-kept, edit-kept}
 use Rattle.px_proof.specs.Derivation.{no_atom}
+use Rattle.px_terms.specs.Validity.{IsValid}
 use Rattle.px_table.proofs.DecidingLaws.{tables_are_decided}
 use Rattle.px_table.specs.GrowthLaws as growth
 use Rattle.px_script.proofs.KeptTables.{table-kept, step-kept, goal-kept, proof-kept, end-table}
 use Rattle.px_script.proofs.Lists.{by_test, number-below, at-most, each-fails, same-number, at-name, is-new, each-pushed}
-use Rattle.px_script.proofs.Problems.{same-lists, alike, atoms-kept, names-more, schema-kept}
+use Rattle.px_script.proofs.Problems.{heavier, same-lists, alike, atoms-kept, names-more, schema-kept}
 use Rattle.px_script.proofs.States.{from_blocks, AreInRange, AreRolesOf, IsBegun, OperatorsInRange, AreStanding}
 
 -- ---- the lines of an operator's block, and its end
@@ -160,7 +161,7 @@ module _ (n : ℕ) (d : Declared) where
       λ k one below. no-table (own_problem e) _ refl (r.saved k one below) in
       let still = still-sorted d.version 0 1 d.sorts d.object_sorts (omega arith) r.sorts in
       let sorts = sorts-filled q 1 d.object_sorts still.count r.sorts.numbers (omega arith) in
-      let one : 1 ≤ greatest d.version limit.objects = by_test (d.version == 2) (λ two. rw two (omega arith)) (λ old. rw old (omega arith)) in
+      let one : 1 ≤ greatest d.version limit.objects = by_test (nat_le d.version 1) (λ two. rw two (omega arith)) (λ old. rw old (omega arith)) in
       let few_predicates : length predicate_names ≤ 64 = omega arith in let few_operators : length operator_names ≤ 32 = omega arith in
       let short : length predicate_arities < u32_max = omega arith in let standing : AreStanding [] = search (All-nil, leb-true) in
       let objects_are = names-more d.version [] (robot_name ∷ []) r.names.objects refl refl in
@@ -399,11 +400,14 @@ module _ (n : ℕ) (d : Declared) where
   line-kept r (robot in_room) w = λ f. inside-building n d _ (λ line things. robot-kept n d line things in_room) d.block f.order.stands r f
   line-kept r end w = end-kept n d d.block d.things r
   line-kept r (height most) w = outside _ (λ b. refl) d.block d.things (λ r f. let v = r.problem.valid in settings-kept n d r
-      (Some most) d.nodes d.shapes f.order.after (in-bounds of_height most f.limits.0) r.problem.nodes v.shapes) r
+      (Some most) d.nodes d.shapes d.weight f.order.after (in-bounds of_height most f.limits.0) r.problem.nodes v.shapes r.problem.weight) r
   line-kept r (nodes most) w = outside _ (λ b. refl) d.block d.things (λ r f. let v = r.problem.valid in settings-kept n d r
-      d.height (Some most) d.shapes f.order.after v.height (in-bounds of_nodes most f.limits.0) v.shapes) r
+      d.height (Some most) d.shapes d.weight f.order.after v.height (in-bounds (of_nodes d.version) most f.limits.0) v.shapes
+      r.problem.weight) r
   line-kept r (shapes most) w = outside _ (λ b. refl) d.block d.things (λ r f. let v = r.problem.valid in settings-kept n d r
-      d.height d.nodes (Some most) f.order.after v.height r.problem.nodes (in-bounds of_shapes most f.limits.0)) r
+      d.height d.nodes (Some most) d.weight f.order.after v.height r.problem.nodes (in-bounds of_shapes most f.limits.0) r.problem.weight) r
+  line-kept r (weight most) w = outside _ (λ b. refl) d.block d.things (λ r f. let v = r.problem.valid in settings-kept n d r
+      d.height d.nodes d.shapes (Some most) f.order.after v.height r.problem.nodes v.shapes (in-bounds (of_weight d.version) most f.limits.0)) r
   line-kept r (plan name xs) w = outside _ (λ b. refl) d.block d.things (λ r. plan-kept n d r name xs w.filled) r
   line-kept r (learn name source) w = outside _ (λ b. refl) d.block d.things (λ r. learn-kept n d r name source) r
   line-kept r (show name) w = outside _ (λ b. refl) d.block d.things (λ r. show-kept n d r name) r
@@ -420,8 +424,8 @@ module _ (n : ℕ) (d : Declared) where
   line-kept r (step o ts) w = λ f. inside-steps n d (step o ts) (λ line t r. step-kept n d line t r o ts) d.block f.order.stands r f
   line-kept r (goal xs) w = λ f. inside-steps n d (goal xs) (λ line t r. goal-kept n d line t r xs w.filled) d.block f.order.stands r f
   line-kept r (proof parts) w = λ f. inside-rows n d (proof parts) (λ line t r. proof-kept n d line t r parts) d.block f.order.stands r f
-  line-kept r (save name) w = λ f. let no = f.has_come in cc
-  line-kept r (certify name) w = λ f. let no = f.has_come in cc
+  line-kept r (save name) w = outside _ (λ b. refl) d.block d.things (λ r. save-kept n d r name) r
+  line-kept r (certify name) w = outside _ (λ b. refl) d.block d.things (λ r. certify-kept n d r name) r
   line-kept r (pursue name xs) w = λ f. let no = f.has_come in cc
 
 -- what a line without a fault keeps, all lines keep
@@ -481,12 +485,12 @@ module _ (d : Declared) where
       assumption (within, few-left r.few_saved, plain-blocks r.commands)
   closed-in-range None (Some things) closed r = let is = r.building in
       let of_things = is-building things is.standing (robots-some things r.block) in let p : Problem = own_problem d in
-      let q : Problem = building_problem p.objects p.height p.nodes p.shapes in let rules = building_rules (first_state things) in
+      let q : Problem = building_with p.objects p.height p.nodes p.shapes p.weight in let rules = building_rules (first_state things) in
       let facts_are = facts-are-atoms (first_state things) of_things.1 in let l = r.problem.valid in
       let some : 1 ≤ p.objects = omega (arith, is.objects_are) in
       let few_objects = few-objects d.version p.objects r.names.few_objects in
-      let valid =
-      buildings_are_valid p.objects p.height p.nodes p.shapes (some, few_objects) l.height l.nodes l.shapes in
+      let light = buildings_are_valid p.objects p.height p.nodes p.shapes (some, few_objects) l.height l.nodes l.shapes in
+      let valid : IsValid q = heavier _ p.weight l.weight light in
       let laws = All-from_recursion (λ clause. AreNumbered clause.vars (map (λ lit. lit.atom) clause.lits)) (both_ways ∷ []) (refl, tt) in
       let schemas = All-from_recursion (HasShortLists d.version) room_schemas (search leb-true depth 20) in
       let count = sym (ap length is.predicates_are) in let operators = ap length is.operators_are in

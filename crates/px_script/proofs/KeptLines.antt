@@ -1,14 +1,14 @@
 -- Each line of a domain, each setting and each command keeps what was declared in range.
 use Rattle.std.proofs.lemmas.List.Kept.{AllPairs-cons}
 use Rattle.px_base.specs.Bounds.{u32_max}
-use Rattle.px_script.proofs.Common.{table_given, IsTableBefore, IsSavedTable, problem_of, problem_here, replicate-append-replicate, replicate, ◌-◌, fold-append, flat_map-append, IsClause, no_schema, ◌≡◌, ◌≢◌, ℕ, suc, ◌+◌, ◌<◌, ◌≤◌, Bool, true, false, not, ◌&&◌, ◌||◌, ◌==◌, List, [], ◌∷◌, ◌++◌, map, length, refl, sym, ap, ◌∙◌, subst, arith, leb-true, length-append, nat_lt, Option, None, Some, is_some, unwrap_or, All, AllPairs, AllByRecursion, slice_index_or, list_any, list_all, flat_map, filter, range_with_len, append_assoc, get_or-append, get_or-map, and_parts, or_parts, or_right, nat_tests, length-map, All-append, All-cons, All-map, All-nil, All-push, both_answers, All-at, All-each, set_of-is_sorted, set_of-members, has_name, IsBoxAt, IsDoorAt, IsRoomAt, first_state, standings, Clause, Problem, atom_set, atom_cmp, atom_cmp-total, atom_cmp-same, IsAtomOf, Thing, EachIndex, NameLists, IsAxiomOf, append-nil, IsSchemaOf, Standing, Atom, Named, SignedAtom, Sign, WrittenRoomEdit, Binding, bare, robot_to, box_to, door_to, is_empty, is_parameter_number, wanted_by_edit, an_object, plain, literals, goals, atom_changes, line_of, script, object, predicate, «axiom», operator, fact, plan, learn, disturb_atoms, disturb_rooms, run, Statement, show, sort, filled_up, of_version, Bounds, greatest, of_height, of_nodes, of_shapes, of_turn, facts, Command, Plan, Learn, DisturbAtoms, DisturbRooms, Run, Facts, Show, Declared, Roles, operator_here, parameters_here, parameters_of, names_here, number_in, variable_names_of, atom_of, literal_of, clause_of, atom_edit_of, edit_by, room_edit_of, binding_of, after_line, own_problem, is_long, repeats, disturbance_limits, AreNumbered, AreRoomEditsOf, CommandsInRange, HasTurn, IsAmong, IsBindingOf, IsCommandOf, IsEditOf, IsWithin, NamesEarlier, disturbs_after, plan_given, result_given, AreNamesOf, all_disturbs, duo, Duo, edit, Edit, of_executor, outside}
+use Rattle.px_script.proofs.Common.{table_given, IsTableBefore, IsSavedTable, problem_of, problem_here, replicate-append-replicate, replicate, ◌-◌, fold-append, flat_map-append, IsClause, no_schema, ◌≡◌, ◌≢◌, ℕ, suc, ◌+◌, ◌<◌, ◌≤◌, Bool, true, false, not, ◌&&◌, ◌||◌, ◌==◌, List, [], ◌∷◌, ◌++◌, map, length, refl, sym, ap, ◌∙◌, subst, arith, leb-true, length-append, nat_lt, nat_le, Option, None, Some, is_some, unwrap_or, All, AllPairs, AllByRecursion, slice_index_or, list_any, list_all, flat_map, filter, range_with_len, append_assoc, get_or-append, get_or-map, and_parts, or_parts, or_right, nat_tests, length-map, All-append, All-cons, All-map, All-nil, All-push, both_answers, All-at, All-each, set_of-is_sorted, set_of-members, has_name, IsBoxAt, IsDoorAt, IsRoomAt, first_state, standings, Clause, Schema, Problem, atom_set, atom_cmp, atom_cmp-total, atom_cmp-same, IsAtomOf, Thing, EachIndex, NameLists, IsAxiomOf, append-nil, IsSchemaOf, Standing, Atom, Named, SignedAtom, Sign, WrittenRoomEdit, Binding, bare, robot_to, box_to, door_to, is_empty, is_parameter_number, wanted_by_edit, an_object, plain, literals, goals, atom_changes, line_of, script, object, predicate, «axiom», operator, fact, plan, learn, disturb_atoms, disturb_rooms, run, Statement, show, save, certify, Save, Certify, sort, filled_up, of_version, Bounds, greatest, of_height, of_nodes, of_shapes, of_turn, facts, Command, Plan, Learn, DisturbAtoms, DisturbRooms, Run, Facts, Show, Declared, Roles, operator_here, parameters_here, parameters_of, names_here, number_in, variable_names_of, atom_of, literal_of, clause_of, atom_edit_of, edit_by, room_edit_of, binding_of, after_line, own_problem, is_long, repeats, disturbance_limits, AreNumbered, AreRoomEditsOf, CommandsInRange, HasTurn, IsAmong, IsBindingOf, IsCommandOf, IsEditOf, IsWithin, NamesEarlier, disturbs_after, plan_given, result_given, AreNamesOf, all_disturbs, duo, Duo, edit, Edit, of_executor, outside}
 use Rattle.px_script.specs.Items.{last_parameter}
 use Rattle.px_rooms.specs.Changes.{IsAdmitted}
-use Rattle.px_terms.specs.Limits.{most_nodes}
+use Rattle.px_terms.specs.Limits.{most_nodes, most_weight}
 use Rattle.px_terms.specs.SortLaws.{no_sorts-are}
 use Rattle.px_terms.specs.Validity.{AreSortsOf, IsShort}
 use Rattle.std.proofs.lemmas.List.{get_or-replicate, length-replicate}
-use Rattle.px_script.specs.Limits.{default_height, default_nodes, default_shapes, last_number}
+use Rattle.px_script.specs.Limits.{default_height, default_nodes, default_shapes, default_weight, from_three, of_weight, last_number}
 use Rattle.px_script.specs.Limits as limit
 use Rattle.px_script.proofs.Atoms.{HasAtoms, numbered, atoms-right, atoms-with, atoms-open, no-variables, empty-length}
 use Rattle.px_script.proofs.Buildings.{roles-kept, AreOfKind}
@@ -53,7 +53,23 @@ unbegun d r = told d.begun d.version r.version
 -- what may be in version 1 may be in each
 version-more : (old version n a b : ℕ) → old ≡ 1 → a ≤ b → n ≤ by_version old a b → n ≤ by_version version a b
 version-more old version n a b is more few = let least : n ≤ a = subst (λ v. n ≤ by_version v a b) is few in
-    by_test (version == 2) (λ two. rw two (omega (arith, least, more))) (λ one. rw one least)
+    by_test (nat_le version 1) (λ one. rw one least) (λ two. rw two (omega (arith, least, more)))
+
+-- and so may what may be in the versions before 3
+three-more : (old version n a b : ℕ) → old ≡ 1 → a ≤ b → n ≤ from_three old a b → n ≤ from_three version a b
+three-more old version n a b is more few = let least : n ≤ a = subst (λ v. n ≤ from_three v a b) is few in
+    by_test (nat_le version 2) (λ one. rw one least) (λ two. rw two (omega (arith, least, more)))
+
+-- what may be in some version may be in the last
+three-most : (version n a b : ℕ) → a ≤ b → n ≤ from_three version a b → n ≤ b
+three-most version n a b more few = by_test (nat_le version 2) (λ one. let least : n ≤ a = rw one at few in omega (arith, least, more))
+    (λ two. rw two at few)
+
+-- where no line says it, what is chosen may be chosen
+defaults-in : (version least a b most_a most_b : ℕ) → least ≤ a → least ≤ b → a ≤ most_a → b ≤ most_b
+    → (least ≤ from_three version a b) × (from_three version a b ≤ from_three version most_a most_b)
+defaults-in version least a b most_a most_b least_a least_b few_a few_b =
+    by_test (nat_le version 2) (λ one. rw one (least_a, few_a)) (λ two. rw two (least_b, few_b))
 
 -- ---- sorts
 
@@ -331,17 +347,26 @@ module _ (n : ℕ) (d : Declared) where
   -- ---- settings and commands, which stand in no block
 
   module _ (r : AreInRange top) where
-    pub settings-kept : (tall many wide : Option ℕ) → not (is_empty d.commands) ≡ false
-        → IsWithin of_height (unwrap_or tall default_height) → IsWithin of_nodes (unwrap_or many default_nodes)
+    pub settings-kept : (tall many wide heavy : Option ℕ) → not (is_empty d.commands) ≡ false
+        → IsWithin of_height (unwrap_or tall default_height) → IsWithin (of_nodes d.version) (unwrap_or many (default_nodes d.version))
         → IsWithin of_shapes (unwrap_or wide default_shapes)
-        → AreInRange (record top { height = tall; nodes = many; shapes = wide; own_domain = d.own_domain || false; begun = true })
-    settings-kept tall many wide early in_height in_nodes in_shapes =
+        → IsWithin (of_weight d.version) (unwrap_or heavy (default_weight d.version)) → AreInRange (record top {
+          height = tall;
+          nodes = many;
+          shapes = wide;
+          weight = heavy;
+          own_domain = d.own_domain || false;
+          begun = true;
+        })
+    settings-kept tall many wide heavy early in_height in_nodes in_shapes in_weight =
         let q : Problem = record p {
           height = unwrap_or tall default_height;
-          nodes = unwrap_or many default_nodes;
+          nodes = unwrap_or many (default_nodes d.version);
           shapes = unwrap_or wide default_shapes;
+          weight = unwrap_or heavy (default_weight d.version);
         } in
-        let most : q.nodes ≤ most_nodes = omega (arith, in_nodes.1) in
+        let most : q.nodes ≤ most_nodes = three-most d.version q.nodes 50000 most_nodes (omega arith) in_nodes.1 in
+        let most_heavy : q.weight ≤ most_weight = three-most d.version q.weight 0 most_weight (omega arith) in_weight.1 in
         let more = same-lists p q refl refl refl refl (omega arith) refl in
         assumption (
           still-none top r,
@@ -349,39 +374,66 @@ module _ (n : ℕ) (d : Declared) where
           in_nodes,
           most,
           in_shapes,
+          in_weight,
+          most_heavy,
           carried top q d.things r more (saved-kept top q d.things refl r more) early,
           in-version top r,
         )
 
-    operators-there : (version : ℕ) (things : Option (List Thing)) → OperatorsInRange d.version d.names p things None
-        → OperatorsInRange version d.names p things None
-    operators-there version None is = is
-    operators-there version (Some things) is = is
+    operators-there : (version : ℕ) (q : Problem) → q.schemas ≡ p.schemas → (things : Option (List Thing))
+        → OperatorsInRange d.version d.names p things None → OperatorsInRange version d.names q things None
+    operators-there version q same None is = is ∙ sym (ap (λ (l : List Schema). length l) same)
+    operators-there version q same (Some things) is = is
 
     -- The version, which stands before all else.
     pub script-kept : (version : ℕ) → Keeps n top (script version)
     script-kept version f = let first = unbegun top r f.order.late in let is = in-bounds of_version version f.limits.0 in
+        let q : Problem = record p {
+          nodes = unwrap_or d.nodes (default_nodes version);
+          weight = unwrap_or d.weight (default_weight version);
+        } in
+        let more = same-lists p q refl refl refl refl (omega arith) refl in
+        let grown = carried top q d.things r more (saved-kept top q d.things refl r more) f.order.after in
+        let in_nodes = nodes-in version first d.nodes r.problem.nodes in let in_weight = weight-in version first d.weight r.problem.weight in
+        let most : q.nodes ≤ most_nodes = three-most version q.nodes 50000 most_nodes (omega arith) in_nodes.1 in
+        let most_heavy : q.weight ≤ most_weight = three-most version q.weight 0 most_weight (omega arith) in_weight.1 in
         let few_objects = version-more d.version version _ 256 1024 first (omega arith) r.names.few_objects in
         let few_facts : d.things ≡ None → length d.facts ≤ greatest version limit.facts =
         λ none. version-more d.version version _ 512 1024 first (omega arith) (r.facts.few none) in
         let few_commands = version-more d.version version _ 512 1024 first (omega arith) r.commands.few in
-        let each : All (IsCommandOf version p d.things results) d.commands =
+        let each : All (IsCommandOf version q d.things results) d.commands =
         λ k c below. absurd (omega (arith, below, no-commands d.commands f.order.after)) in
         assumption (
           is,
+          in_nodes,
+          in_weight,
+          most,
+          most_heavy,
+          grown,
           few_objects,
           few_facts,
           few_commands,
           each,
           still-none top r,
-          operators-there version d.things r.operators,
-          all-there version r.saved,
+          operators-there version q refl d.things r.operators,
+          all-there version q grown.saved,
         )
       where
         -- the limits of tables are those of each version
-        all-there : (version : ℕ) → All (λ one. IsSavedTable d.version (problem_here top) one.1) d.saved
-            → All (λ one. IsSavedTable version (problem_here top) one.1) d.saved
-        all-there version saved = λ k one below. let is = saved k one below in assumption
+        all-there : (version : ℕ) (q : Problem) → All (λ one. IsSavedTable d.version (problem_of q d.things) one.1) d.saved
+            → All (λ one. IsSavedTable version (problem_of q d.things) one.1) d.saved
+        all-there version q saved = λ k one below. let is = saved k one below in assumption
+
+        -- what a script may ask for in version 1 it may ask for in each
+        nodes-in : (version : ℕ) → d.version ≡ 1 → (o : Option ℕ) → IsWithin (of_nodes d.version) (unwrap_or o (default_nodes d.version))
+            → IsWithin (of_nodes version) (unwrap_or o (default_nodes version))
+        nodes-in version first None is = defaults-in version 1 10000 100000 50000 most_nodes (omega arith) (omega arith) (omega arith) (omega arith)
+        nodes-in version first (Some n) is = (is.0, three-more d.version version n 50000 most_nodes first (omega arith) is.1)
+
+        weight-in : (version : ℕ) → d.version ≡ 1 → (o : Option ℕ) → IsWithin (of_weight d.version) (unwrap_or o (default_weight d.version))
+            → IsWithin (of_weight version) (unwrap_or o (default_weight version))
+        weight-in version first None is = defaults-in version 0 0 16 0 most_weight (omega arith) (omega arith) (omega arith) (omega arith)
+        weight-in version first (Some n) is = (is.0, three-more d.version version n 0 most_weight first (omega arith) is.1)
 
     -- what is declared after a command, with the results and the roles after it
     abbrev given : Command → List (List ℕ) → Roles → Declared
@@ -472,6 +524,14 @@ module _ (n : ℕ) (d : Declared) where
 
     pub show-kept : (name : List ℕ) → Keeps n top (show name)
     show-kept name f = plain-kept (Show (number_in name d.names.results)) refl f.limits.0 r.few_disturbs
+        (known-result name f.known.0) (named-earlier name f.known.0)
+
+    pub save-kept : (name : List ℕ) → Keeps n top (save name)
+    save-kept name f = plain-kept (Save (number_in name d.names.results)) refl f.limits.0 r.few_disturbs
+        (known-result name f.known.0) (named-earlier name f.known.0)
+
+    pub certify-kept : (name : List ℕ) → Keeps n top (certify name)
+    certify-kept name f = plain-kept (Certify (number_in name d.names.results)) refl f.limits.0 r.few_disturbs
         (known-result name f.known.0) (named-earlier name f.known.0)
 
     pub facts-kept : Keeps n top facts

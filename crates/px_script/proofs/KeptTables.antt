@@ -1,6 +1,8 @@
 -- Each line of a table's block keeps what was declared in range, and its end gives a table of the script.
-use Rattle.px_script.proofs.Common.{All, All-cons, All-drop, All-head, All-map, All-nil, All-push, All-tail, All-take, Argument, Bool, CommandsInRange, Declared, Derivation, HasNoOpenPlace, HaveNoOpenPlace, IsAmong, IsCommandOf, IsSavedTable, IsTableBefore, List, None, Option, Part, Problem, SignedAtom, Some, Table, Thing, WrittenTable, [], a_fact, also, an_ancestor, an_axiom, anything, ap, append-nil, arith, atom_of, both_answers, bytes_eq, decimal, derivation_of, derivation_of-proof_of, derivations, drop, end, false, flat_map, fold, goal, goal_number, goal_place, goal_variables, greatest, greatest_height, has_name, height_of, heights_of, highest, instance_of_step, is_empty, is_known_argument, is_variable, last_number, length, length-append, length-map, letter_numbers, line_of, list_any, map, map-append, max, name, named, nat_lt, not, not-false, number, number_in, of_table_rows, of_table_steps, open_variable, or_parts, own_problem, plain, plan_given, problem_here, problem_of, proof, proof_of, proofs_read, range_with_len, refl, result_given, rows_of, slice_index, slice_index_or, step, subst, sym, table, table_given, table_goals, table_made, table_term, table_variables, take, takes, true, ℕ, ◌&&◌, ◌++◌, ◌+◌, ◌-◌, ◌||◌, ◌∙◌, ◌∷◌, ◌≡◌, ◌≤◌}
+use Rattle.px_script.proofs.Common.{position, position_or_len, All, All-cons, All-drop, All-head, All-map, All-nil, All-push, All-tail, All-take, Argument, Bool, CommandsInRange, Declared, Derivation, HasNoOpenPlace, HaveNoOpenPlace, IsAmong, IsCommandOf, IsSavedTable, IsTableBefore, List, None, Option, Part, Problem, SignedAtom, Some, Table, Thing, WrittenTable, [], a_fact, an_ancestor, an_axiom, anything, ap, append-nil, arith, atom_of, both_answers, bytes_eq, decimal, derivation_of, derivation_of-proof_of, derivations, drop, end, false, flat_map, fold, goal, goal_number, goal_place, goal_variables, greatest, greatest_height, has_name, height_of, heights_of, highest, instance_of_step, is_empty, is_known_argument, is_variable, last_number, length, length-append, length-map, letter_numbers, line_of, list_any, map, map-append, max, named, nat_lt, not, not-false, number_in, of_table_rows, of_table_steps, open_variable, or_parts, own_problem, plan_given, problem_here, problem_of, proof, proof_of, proofs_read, range_with_len, refl, result_given, rows_of, slice_index, slice_index_or, step, subst, sym, table, table_given, table_goals, table_made, table_term, table_variables, take, takes, true, ℕ, ◌&&◌, ◌++◌, ◌+◌, ◌-◌, ◌||◌, ◌∙◌, ◌∷◌, ◌≡◌, ◌≤◌, Line, AreNamesOf, ◌<◌}
 use Rattle.std.proofs.lemmas.List.FromFn.{length-range_with_len}
+use Rattle.std.proofs.lemmas.List.{take-map, drop-map}
+use Rattle.px_script.specs.Causes.{is_numbered_by, is_table_parameter, is_goal_variable}
 use Rattle.std.specs.Cmp.Lexicographic.{pointwise, pointwise_decides}
 use Rattle.px_table.specs.Deciding.{rows_are_table}
 use Rattle.px_table.specs.MarkLaws.{mark_eq-decides}
@@ -10,9 +12,9 @@ use Rattle.px_script.specs.Limits as limit
 use Rattle.px_script.proofs.Atoms.{args-of, arguments_of, AreRight, HasAtoms, atoms-right, no-variable}
 use Rattle.px_script.proofs.Commands.{one-more-result, none-given, among-more, among-new}
 use Rattle.px_script.proofs.KeptLines.{in-version, still-none, no-commands, some-items, Keeps}
-use Rattle.px_script.proofs.Lists.{at-most, at-name, by_test, is-new, known-last, known-still, number-after, number-below, number-kept, number-new, within, each-fails}
+use Rattle.px_script.proofs.Lists.{at-most, at-name, by_test, is-new, known-last, known-still, number-after, number-below, number-kept, number-known, number-new, within, each-fails}
 use Rattle.px_script.proofs.Problems.{names-more}
-use Rattle.px_script.proofs.States.{AreInRange, IsTableBegun, IsTableAimed, ResultsInRange, from_blocks}
+use Rattle.px_script.proofs.States.{AreInRange, HasNoDomain, IsTableBegun, IsTableAimed, ResultsInRange, from_blocks}
 
 -- ---- proofs that are read
 
@@ -54,9 +56,9 @@ heights-are d (a_fact column index x ∷ parts) = ap (λ t. 1 ∷ t) (heights-ar
 heights-are d (an_ancestor k ∷ parts) = ap (λ t. 1 ∷ t) (heights-are d parts)
 heights-are d (an_axiom k place count ts ∷ parts) = let after = proofs_read d parts in let same = heights-are d parts in
     let first : highest (take count (heights_of parts)) ≡ greatest_height (derivations (take count after)) =
-    ap (λ hs. highest (take count hs)) same ∙ ap highest (sym (map-take height_of count after)) ∙ fold-max 0 (take count after) ∙ omega arith in
+    ap (λ hs. highest (take count hs)) same ∙ ap highest (take-map height_of count after) ∙ fold-max 0 (take count after) ∙ omega arith in
     let rest : drop count (heights_of parts) ≡ map height_of (drop count after) =
-    ap (drop count) same ∙ sym (map-drop height_of count after) in
+    ap (drop count) same ∙ drop-map height_of count after in
     ap (λ h. (1 + h) ∷ drop count (heights_of parts)) first ∙ ap (λ t. (1 + greatest_height (derivations (take count after))) ∷ t) rest
 
 below-highest : (most : ℕ) (ds : List Derivation) → greatest_height (derivations ds) ≤ most → All (λ d. height_of d ≤ most) ds
@@ -87,6 +89,19 @@ any-mapped p f (x ∷ xs) = ap (λ b. p (f x) || b) (any-mapped p f xs)
 numbered-named : (letter most : ℕ) (v : List ℕ) → is_numbered_by letter most v ≡ has_name v (letter_numbers letter most)
 numbered-named letter most v = sym (any-mapped (bytes_eq v) (λ k. letter ∷ decimal k) (range_with_len 1 most))
 
+-- the place of a name, counted from 1, and 0 where it isn't there
+abbrev from_one : Option ℕ → ℕ
+from_one o = elim o [ None ↦ 0 | Some k ↦ k + 1 ]
+
+place-known : (v : List ℕ) (names : List (List ℕ)) → has_name v names ≡ true
+    → from_one (position (bytes_eq v) names) ≡ number_in v names + 1
+place-known v names known = let there : position (bytes_eq v) names ≡ Some (position_or_len (bytes_eq v) names) =
+    rw (within (bytes_eq v) names, known) refl in ap from_one there ∙ ap (λ k. k + 1) (sym (number-known v names known))
+
+place-unknown : (v : List ℕ) (names : List (List ℕ)) → has_name v names ≡ false → from_one (position (bytes_eq v) names) ≡ 0
+place-unknown v names unknown = let none : position (bytes_eq v) names ≡ None = rw (within (bytes_eq v) names, unknown) refl in
+    ap from_one none
+
 module _ (d : Declared) (line : ℕ) (t : WrittenTable) where
   abbrev in_steps : Declared
   in_steps = record d { block = Some (record { line = line; kind = of_table_steps t }) }
@@ -105,15 +120,15 @@ module _ (d : Declared) (line : ℕ) (t : WrittenTable) where
   goal-number anything right = cc
   goal-number (open_variable v) right = let count = numbers-count 112 t.parameters in by_test (has_name v of_goal)
       (λ known.
-      let letter = lettered 103 _ v known in
+      let letter = lettered 103 (greatest d.version limit.variables) v known in
       let other : has_name v parameters ≡ false = by_test (has_name v parameters)
-      (λ also. absurd (omega (arith, letter, lettered 112 _ v also))) (λ not_there. not_there) in
+      (λ also. absurd (omega (arith, letter, lettered 112 t.parameters v also))) (λ not_there. not_there) in
       let place = number-after v parameters of_goal other known in
-      let found : goal_number in_steps (open_variable v) ≡ number_in v of_goal + 1 = rw (within (bytes_eq v) of_goal, known) refl in
+      let found : goal_number in_steps (open_variable v) ≡ number_in v of_goal + 1 = place-known v of_goal known in
       let below = number-below v of_goal known in let all = numbers-count 103 (greatest d.version limit.variables) in
       (omega (arith, found, place, count), omega (arith, found, below, all)))
       (λ unknown.
-      let found : goal_number in_steps (open_variable v) ≡ 0 = rw (within (bytes_eq v) of_goal, unknown) refl in
+      let found : goal_number in_steps (open_variable v) ≡ 0 = place-unknown v of_goal unknown in
       let known : has_name v parameters ≡ true = one-of right unknown in
       let place = number-kept v parameters of_goal known in let below = number-below v parameters known in
       (omega (arith, found, place, below, count), omega (arith, found)))
@@ -218,7 +233,9 @@ module _ (n : ℕ) (d : Declared) where
         closed = All-nil _;
       } in
       let names_are = names-more d.version d.names.results (name ∷ []) r.names.results f.single.0 f.short.0 in
-      assumption (names_are, results, commands, few_now, begun, still-none top r, in-version top r)
+      let none : (d.own_domain || false) ≡ false → d.things ≡ None → HasNoDomain (record d.names { results = names }) d.arities =
+      λ own none. let old = still-none top r own none in assumption in
+      assumption (names_are, results, commands, few_now, begun, none, in-version top r)
 
 -- ---- the lines of the block
 

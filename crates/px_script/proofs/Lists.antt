@@ -85,7 +85,7 @@ module _ {A : Type 0} (p : A → Bool) where
       let both = or_parts (p x) (list_any p xs) none in let rest = place-after xs ys both.1 in rw both.0 (omega (arith, rest))
 
 -- a name that is there has its place as its number, and one that isn't has 0
-number-known : (n : List ℕ) (names : List (List ℕ)) → has_name n names ≡ true → number_in n names ≡ position_or_len (bytes_eq n) names
+pub number-known : (n : List ℕ) (names : List (List ℕ)) → has_name n names ≡ true → number_in n names ≡ position_or_len (bytes_eq n) names
 number-known n names known = rw (within (bytes_eq n) names, known) refl
 
 pub number-unknown : (n : List ℕ) (names : List (List ℕ)) → has_name n names ≡ false → number_in n names ≡ 0

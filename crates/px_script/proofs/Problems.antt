@@ -1,7 +1,8 @@
 -- Names and a problem stay in range where there are more of them, and what is of a problem is of one with more objects and predicates.
 use Rattle.px_script.proofs.Common.{All-head, All-tail, slice_index_or, replicate-append-replicate, replicate, ◌+◌, ◌-◌, append-nil, length-append, get_or-append, subst, ap, [], ◌∷◌, map, range_with_len, true, is_some, Option, None, Some, Thing, Table, IsSavedTable, problem_of, OpInst, no_schema, IsClause, HasClauseLength, ◌≡◌, ℕ, ◌<◌, ◌≤◌, false, List, ◌++◌, length, refl, sym, ◌∙◌, arith, list_any, All, slice_index, All-append, Atom, Clause, Problem, Schema, Term, Obj, HasArity, IsTermOf, IsPatternTermOf, IsAtomOf, IsPatternOf, IsSchemaOf, IsAxiomOf, greatest, repeats, is_long, AreNamesOf}
 use Rattle.px_terms.specs.Language.{IsPlainBelow}
-use Rattle.px_terms.specs.Validity.{AreSortsOf}
+use Rattle.px_terms.specs.Limits.{most_weight}
+use Rattle.px_terms.specs.Validity.{AreSortsOf, IsValid}
 use Rattle.px_terms.specs.Operators.{schema_of}
 use Rattle.px_table.specs.GrowthLaws as growth
 use Rattle.px_table.specs.WellSorted.{paired, sort_places, sorts_by_places, first_sort}
@@ -62,6 +63,21 @@ module _ (p q : Problem) (more : Grows p q) where
     vars = is.vars;
     lits = λ j lit inner. let of = is.lits j lit inner in (arity-kept _ of.0, λ i t within. term-kept _ _ (of.1 i t within));
   }
+
+-- a valid problem with another weight
+pub heavier : (p : Problem) (weight : ℕ) → weight ≤ most_weight → IsValid p → IsValid (record p { weight = weight })
+heavier p weight few is = let q : Problem = record p { weight = weight } in let more = alike p q refl refl in record {
+  schemas = λ k below. schema-kept p q more (omega arith) k _ (is.schemas k below);
+  axioms = λ k c below. of-axiom-kept p q more _ (is.axioms k c below);
+  arena = is.arena;
+  short = is.short;
+  height = is.height;
+  nodes = is.nodes;
+  shapes = is.shapes;
+  weight = few;
+  sorts = is.sorts;
+  no_objects = is.no_objects;
+}
 
 -- ---- axioms
 

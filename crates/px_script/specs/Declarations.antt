@@ -16,10 +16,10 @@ use Rattle.px_world.specs.declared.edits.AtomEdit.TheVariants as atom_edit
 use Rattle.px_world.specs.declared.edits.RoomEdit.TheVariants as room_edit
 use Rattle.px_world.specs.declared.thing.Thing.TheVariants as thing
 use Rattle.px_script.specs.Items.{Named, Argument, SignedAtom, Sign, WrittenRoomEdit, Binding, named, open_variable, anything, bare, added, robot_to, box_to, door_to, declared_in, an_object, a_predicate, an_operator, a_result, a_parameter, a_sort, a_room, a_door, a_box, a_plan, a_table, Part, a_fact, an_ancestor, an_axiom}
-use Rattle.px_script.specs.Statements.{Statement, Line, Place, Block, line_of, domain, opens, operator_block, building_block, table_steps, table_rows, script, object, predicate, «axiom», operator, pre, delete, add, building, room, door, box, robot, end, fact, height, nodes, shapes, plan, learn, show, disturb_atoms, disturb_rooms, run, facts, sort, param, duo, save, certify, edit, pursue, table, step, goal, proof}
+use Rattle.px_script.specs.Statements.{Statement, Line, Place, Block, line_of, domain, opens, operator_block, building_block, table_steps, table_rows, script, object, predicate, «axiom», operator, pre, delete, add, building, room, door, box, robot, end, fact, height, nodes, shapes, weight, plan, learn, show, disturb_atoms, disturb_rooms, run, facts, sort, param, duo, save, certify, edit, pursue, table, step, goal, proof}
 use Rattle.px_script.specs.Limits as limit
-use Rattle.px_script.specs.Limits.{greatest, default_height, default_nodes, default_shapes}
-use Rattle.px_script.specs.Commands.{Command, Plan, Learn, Show, DisturbAtoms, DisturbRooms, Run, Facts, Duo, Edit}
+use Rattle.px_script.specs.Limits.{greatest, default_height, default_nodes, default_shapes, default_weight}
+use Rattle.px_script.specs.Commands.{Command, Plan, Learn, Show, Save, Certify, DisturbAtoms, DisturbRooms, Run, Facts, Duo, Edit}
 
 -- the operator whose block is open: its parameters' names, and its schema so far
 pub record OpenOperator : Type 0 where
@@ -72,6 +72,7 @@ pub record Declared : Type 0 where
   pub height : Option ℕ
   pub nodes : Option ℕ
   pub shapes : Option ℕ
+  pub weight : Option ℕ
   -- the tables whose blocks are closed, each with the number of its name
   pub saved : List (ℕ × Table)
   pub commands : List Command
@@ -98,6 +99,7 @@ nothing_declared = record {
   height = None;
   nodes = None;
   shapes = None;
+  weight = None;
   saved = [];
   commands = [];
   disturbs = 0;
@@ -275,9 +277,9 @@ object_sorts_here d = filled_up (length d.names.objects) d.object_sorts
 
 -- ---- the problem that the lines so far give
 
--- the problem with these parts, whose objects have these sorts up to the last that has one; its search goes by the number of moves alone
-abbrev pub problem_with : ℕ → List ℕ → List Clause → List Schema → ℕ → ℕ → ℕ → ℕ → List ℕ → Problem
-problem_with objects arities axioms schemas tall many wide sorts object_sorts = record {
+-- the problem with these parts, whose objects have these sorts up to the last that has one
+abbrev pub problem_with : ℕ → List ℕ → List Clause → List Schema → ℕ → ℕ → ℕ → ℕ → List ℕ → ℕ → Problem
+problem_with objects arities axioms schemas tall many wide sorts object_sorts heavy = record {
   objects = objects;
   arities = arities;
   axioms = axioms;
@@ -287,19 +289,22 @@ problem_with objects arities axioms schemas tall many wide sorts object_sorts = 
   shapes = wide;
   sorts = sorts;
   object_sorts = filled_up objects object_sorts;
-  weight = 0;
+  weight = heavy;
 }
 
 -- the problem by the script's own sorts, axioms and operators, with the limits that its lines leave at their defaults
 abbrev pub own_problem : Declared → Problem
 own_problem d = problem_with (length d.names.objects) d.arities d.axioms d.schemas
-    (unwrap_or d.height default_height) (unwrap_or d.nodes default_nodes) (unwrap_or d.shapes default_shapes)
-    (length d.sorts) d.object_sorts
+    (unwrap_or d.height default_height) (unwrap_or d.nodes (default_nodes d.version)) (unwrap_or d.shapes default_shapes)
+    (length d.sorts) d.object_sorts (unwrap_or d.weight (default_weight d.version))
 
--- A building has the axiom and the operators of every building (`px_rooms`).
+-- A building has the axiom and the operators of every building (`px_rooms`), with the script's limits.
+abbrev pub building_with : ℕ → ℕ → ℕ → ℕ → ℕ → Problem
+building_with objects tall many wide heavy = record (building_problem objects tall many wide) { weight = heavy }
+
 abbrev pub problem_of : Problem → Option (List Thing) → Problem
 problem_of own None = own
-problem_of own (Some things) = building_problem own.objects own.height own.nodes own.shapes
+problem_of own (Some things) = building_with own.objects own.height own.nodes own.shapes own.weight
 
 abbrev pub problem_here : Declared → Problem
 problem_here d = problem_of (own_problem d) d.things
@@ -431,6 +436,7 @@ declares n d (fact xs) = record d { facts = atom_set (map (atom_of d []) xs ++ d
 declares n d (height limit) = record d { height = Some limit }
 declares n d (nodes limit) = record d { nodes = Some limit }
 declares n d (shapes limit) = record d { shapes = Some limit }
+declares n d (weight limit) = record d { weight = Some limit }
 declares n d (plan m xs) =
     with_command (Plan (length d.names.results) (map (atom_of d (variable_names_of xs)) xs) (length (variable_names_of xs))) d
 declares n d (learn m source) = with_command (Learn (length d.names.results) (number_in source d.names.results)) d
@@ -454,8 +460,8 @@ declares n d (step o ts) = in_block (change_table (λ t. record t { steps = t.st
 declares n d (goal xs) = in_block (λ kind. after_goal (change_table
     (λ t. record t { goal = map (atom_of d (table_variables d)) xs; goal_vars = goal_variables d xs }) kind)) d
 declares n d (proof parts) = in_block (change_table (λ t. record t { rows = t.rows ++ proofs_read d parts ∷ [] })) d
-declares n d (save m) = d
-declares n d (certify m) = d
+declares n d (save m) = with_command (Save (number_in m d.names.results)) d
+declares n d (certify m) = with_command (Certify (number_in m d.names.results)) d
 declares n d (pursue m xs) = d
 declares n d (param m ps) =
     record d { block = option_map {T = OpenBlock} (λ block. record block { kind = give_sort (number_in m d.sorts + 1) ps block.kind }) d.block }

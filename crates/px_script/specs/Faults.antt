@@ -4,9 +4,9 @@ use Rattle.std.specs.List.{list_any, filter, flat_map}
 use Rattle.std.specs.Str.{bytes_eq}
 use Rattle.px_script.specs.Common.{Schema, atom_set, Problem}
 use Rattle.px_script.specs.Items.{SignedAtom, Binding, Part, a_fact, an_ancestor, an_axiom}
-use Rattle.px_script.specs.Statements.{Statement, line_of, script, object, predicate, «axiom», operator, pre, delete, add, building, room, door, box, robot, end, fact, height, nodes, shapes, plan, learn, show, disturb_atoms, disturb_rooms, run, facts, sort, param, duo, save, certify, edit, pursue, table, step, goal, proof}
+use Rattle.px_script.specs.Statements.{Statement, line_of, script, object, predicate, «axiom», operator, pre, delete, add, building, room, door, box, robot, end, fact, height, nodes, shapes, weight, plan, learn, show, disturb_atoms, disturb_rooms, run, facts, sort, param, duo, save, certify, edit, pursue, table, step, goal, proof}
 use Rattle.px_script.specs.Limits as limit
-use Rattle.px_script.specs.Limits.{Limit, Bounds, greatest, number_of, number_of_numbers, of_version, of_height, of_nodes, of_shapes, of_turn, of_executor, last_number}
+use Rattle.px_script.specs.Limits.{Limit, Bounds, greatest, number_of, number_of_numbers, of_version, of_height, of_nodes, of_shapes, of_weight, of_turn, of_executor, last_number}
 use Rattle.px_script.specs.Declarations.{Declared, OpenOperator, operator_here, has_building, number_in, variable_names_of, atom_of, WrittenTable, BlockKind, of_table_steps, of_table_rows, table_here, OpenBlock, problem_here}
 use Rattle.px_table.specs.Deciding.{rows_are_table}
 use Rattle.px_table.specs.WellSorted.{sorts_by_places}
@@ -38,6 +38,7 @@ repeats_itself d (robot r) = has_robot d
 repeats_itself d (height limit) = is_some d.height
 repeats_itself d (nodes limit) = is_some d.nodes
 repeats_itself d (shapes limit) = is_some d.shapes
+repeats_itself d (weight limit) = is_some d.weight
 repeats_itself d (run n bs) = binds_twice bs
 repeats_itself d (param n ps) = sorts_twice d ps
 repeats_itself d _ = false
@@ -111,8 +112,9 @@ own_limits d (door n one other is_open) = one_more_object d ∷ []
 own_limits d (box b r) = one_more_object d ∷ []
 own_limits d (fact xs) = over d limit.facts (length (atom_set (map (atom_of d []) xs ++ d.facts))) ∷ []
 own_limits d (height n) = outside of_height n ∷ []
-own_limits d (nodes n) = outside of_nodes n ∷ []
+own_limits d (nodes n) = outside (of_nodes d.version) n ∷ []
 own_limits d (shapes n) = outside of_shapes n ∷ []
+own_limits d (weight n) = outside (of_weight d.version) n ∷ []
 own_limits d (plan n xs) =
     over d limit.variables (length (variable_names_of xs)) ∷ over d limit.goal_atoms (length xs) ∷ one_more_command d ∷ []
 own_limits d (learn n source) = one_more_command d ∷ []

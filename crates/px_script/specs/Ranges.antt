@@ -1,7 +1,7 @@
 -- The numbers of a script are in range, by subject.
 use Rattle.std.specs.Prelude.{◌≡◌, ◌≢◌, ◌<◌, ◌≤◌, ℕ, ◌+◌, ◌-◌, max, fold, true, false, List, [], ◌∷◌, ◌++◌, map, length, take, Option, None, Some, is_some, All, AllPairs, IfSome, slice_index_or, EachIndex, ◌==◌, not, codes}
 use Rattle.std.specs.List.{flat_map, filter, filter_map, list_any, range_with_len, scan}
-use Rattle.px_script.specs.Common.{NameLists, AreDistinct, IsAdmitted, building_problem, robot_name, IsBuilding, IsRoomAt, first_state, rendering, standings, IsAtomSet, IsValid, IsAtomOf, Atom, Problem, Schema, Term, Var, AtomEdit, RoomEdit, Thing}
+use Rattle.px_script.specs.Common.{NameLists, AreDistinct, IsAdmitted, robot_name, IsBuilding, IsRoomAt, first_state, rendering, standings, IsAtomSet, IsValid, IsAtomOf, Atom, Problem, Schema, Term, Var, AtomEdit, RoomEdit, Thing}
 use Rattle.px_proof.specs.Derivation.{height}
 use Rattle.px_table.specs.declared.table.Table.{Table}
 use Rattle.px_table.specs.Deciding.{is_table}
@@ -11,9 +11,9 @@ use Rattle.px_world.specs.declared.edits.AtomEdit.TheVariants as atom_edit
 use Rattle.px_world.specs.declared.thing.Thing.TheVariants.{Room, Door, Box, Robot}
 use Rattle.px_script.specs.Items.{last_parameter}
 use Rattle.px_script.specs.Limits as limit
-use Rattle.px_script.specs.Limits.{Bounds, greatest, of_nodes, of_turn, of_version, of_executor, last_number}
-use Rattle.px_script.specs.Commands.{Command, Plan, Learn, Show, DisturbAtoms, DisturbRooms, Run, Facts, Duo, Edit}
-use Rattle.px_script.specs.Declarations.{operator_names, predicate_names}
+use Rattle.px_script.specs.Limits.{Bounds, greatest, of_nodes, of_weight, of_turn, of_version, of_executor, last_number}
+use Rattle.px_script.specs.Commands.{Command, Plan, Learn, Show, Save, Certify, DisturbAtoms, DisturbRooms, Run, Facts, Duo, Edit}
+use Rattle.px_script.specs.Declarations.{building_with, operator_names, predicate_names}
 use Rattle.px_script.specs.Content.{ScriptValue}
 use Rattle.px_script.specs.Stages.{Stage, is_built}
 
@@ -56,11 +56,12 @@ HasShortLists version schema =
     (length schema.pre ≤ greatest version limit.operator_atoms) × (length schema.del ≤ greatest version limit.operator_atoms)
     × (length schema.add ≤ greatest version limit.operator_atoms)
 
--- The problem is valid, with no more nodes than a script may ask for, and its objects and predicates have names. Variables of axioms are
+-- The problem is valid, with no more nodes and no more weight than a script of the version may ask for, and its objects and predicates have names. Variables of axioms are
 -- numbered as they occur.
 pub record ProblemInRange (version : ℕ) (names : NameLists) (problem : Problem) : Type 0 where
   pub valid : IsValid problem
-  pub nodes : IsWithin of_nodes problem.nodes
+  pub nodes : IsWithin (of_nodes version) problem.nodes
+  pub weight : IsWithin (of_weight version) problem.weight
   pub objects : problem.objects ≡ length names.objects
   pub predicates : length problem.arities ≡ length names.predicates
   pub arities : All (λ n. n ≤ greatest version limit.arity) problem.arities
@@ -90,7 +91,7 @@ pub record IsBuildingOf (names : NameLists) (problem : Problem) (facts : List At
   pub robot_first : slice_index_or names.objects 0 [] ≡ robot_name
   pub predicates : names.predicates ≡ predicate_names
   pub operators : names.operators ≡ operator_names
-  pub of_building : problem ≡ building_problem (length names.objects) problem.height problem.nodes problem.shapes
+  pub of_building : problem ≡ building_with (length names.objects) problem.height problem.nodes problem.shapes problem.weight
   pub rendered : facts ≡ rendering (first_state things)
 
 -- tables that stand in the script
@@ -164,6 +165,8 @@ abbrev pub IsCommandOf : ℕ → Problem → Option (List Thing) → ℕ → Com
 IsCommandOf version problem building results (Plan name goal vars) = (name < results) × IsGoalOf version problem goal vars
 IsCommandOf version problem building results (Learn name source) = (name < results) × (source < results)
 IsCommandOf version problem building results (Show name) = name < results
+IsCommandOf version problem building results (Save name) = name < results
+IsCommandOf version problem building results (Certify name) = name < results
 IsCommandOf version problem building results (DisturbAtoms turn between edits) =
     HasTurn version turn (length edits) × (is_some building ≡ false) × All (IsEditOf problem) edits
 IsCommandOf version problem building results (DisturbRooms turn between edits) =
@@ -202,6 +205,8 @@ IsTableBefore given before name = IsAmong (given ++ flat_map table_given before)
 abbrev pub NamesEarlier : List ℕ → List Command → Command → Type 0
 NamesEarlier given before (Learn name source) = IsAmong (flat_map plan_given before) source
 NamesEarlier given before (Show name) = IsTableBefore given before name
+NamesEarlier given before (Save name) = IsTableBefore given before name
+NamesEarlier given before (Certify name) = IsTableBefore given before name
 NamesEarlier given before (Run name bindings) = IsTableBefore given before name
 NamesEarlier given before (Duo first second events) = IsTableBefore given before first × IsTableBefore given before second
 NamesEarlier given before (Edit name source prefix wanted) = IsTableBefore given before source
@@ -246,6 +251,8 @@ abbrev pub word_of : Command → List ℕ
 word_of (Plan name goal vars) = codes "plan"
 word_of (Learn name source) = codes "learn"
 word_of (Show name) = codes "show"
+word_of (Save name) = codes "save"
+word_of (Certify name) = codes "certify"
 word_of (Run name bindings) = codes "run"
 word_of (Duo first second events) = codes "duo"
 word_of (Edit name source prefix wanted) = codes "edit"

@@ -50,7 +50,9 @@ ghost use Rattle.px_script.specs.Statements.{Statement};
 ghost use Rattle.px_script.specs.Scripts.{ReadsOneWay, IsScript};
 ghost use Rattle.px_script.specs.Worked.{WorkedScripts, WorkedRefusals};
 ghost use Rattle.px_script.specs.WorkedLines.{WorkedBuildings, WorkedCommands, WorkedDomains, WorkedDuos, WorkedEdits, WorkedLimits, WorkedSorts, WorkedSpellings};
-ghost use Rattle.px_script.specs.WorkedLater.{WorkedLater, WorkedTables, WorkedUnbuilt};
+ghost use Rattle.px_script.specs.WorkedTables.{WorkedSaves, WorkedTables};
+ghost use Rattle.px_script.specs.WorkedThree.{WorkedWeights};
+ghost use Rattle.px_script.specs.WorkedLater.{WorkedLater, WorkedUnbuilt};
 
 mod command;
 mod kinds;
@@ -60,8 +62,10 @@ mod script;
 pub use command::{Binding, Command};
 pub use kinds::{Block, Choice, Last, Manner, Named, One, Place, Sign};
 pub use limits::{
-    DEFAULT_HEIGHT, DEFAULT_NODES, DEFAULT_SHAPES, EXECUTORS, LAST_NUMBER, LAST_PARAMETER,
-    LAST_TURN, LAST_VERSION, Limit, MOST_SCRIPT_NODES, NAME_BYTES, NUMBER_OF_NUMBERS, greatest,
+    DEFAULT_HEIGHT, DEFAULT_NODES, DEFAULT_OLD_NODES, DEFAULT_SHAPES, DEFAULT_WEIGHT, EXECUTORS,
+    LAST_NUMBER, LAST_PARAMETER, LAST_TURN, LAST_VERSION, Limit, MOST_OLD_NODES, NAME_BYTES,
+    NUMBER_OF_NUMBERS, default_nodes, default_weight, greatest, most_script_nodes,
+    most_script_weight,
 };
 pub use script::Script;
 
@@ -78,6 +82,8 @@ pub fn worked_lines()
     ensures edits { WorkedEdits }
     ensures unbuilt { WorkedUnbuilt }
     ensures tables { WorkedTables }
+    ensures saves { WorkedSaves }
+    ensures weights { WorkedWeights }
     ensures later { WorkedLater }
 {}
 
