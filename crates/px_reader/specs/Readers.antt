@@ -78,6 +78,7 @@ declared_of reader = record {
   height = reader.height;
   nodes = reader.nodes;
   shapes = reader.shapes;
+  weight = reader.weight;
   saved = reader.saved.items;
   commands = reader.commands.items;
   disturbs = reader.disturbs;

@@ -1,5 +1,5 @@
 //! Blocks that are open, and what their lines add.
-ghost use Rattle.std.specs.Prelude.{◌≡◌, ◌≤◌, ◌++◌, ◌∷◌, ℕ, [], length, map, IfOk, OnOk};
+ghost use Rattle.std.specs.Prelude.{◌≡◌, ◌≤◌, ◌++◌, ◌∷◌, ℕ, false, [], length, map, IfOk, OnOk};
 ghost use Rattle.px_base.specs.Bounds.{u32_max};
 ghost use Rattle.px_script.specs.Faults.{is_bad_table};
 ghost use Rattle.px_script.specs.Statements as spec;

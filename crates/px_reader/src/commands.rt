@@ -65,6 +65,20 @@ impl Reader {
         self.add_command(Command::Show { name })
     }
 
+    pub fn add_save(&mut self, name: &str) -> Result<(), NoMemory>
+        ensures { OnOk result (declared_of self.new ≡ leaves 0 (declared_of self.old) (spec.save name.now)) }
+    {
+        let name = self.number(Kind::Result, name);
+        self.add_command(Command::Save { name })
+    }
+
+    pub fn add_certify(&mut self, name: &str) -> Result<(), NoMemory>
+        ensures { OnOk result (declared_of self.new ≡ leaves 0 (declared_of self.old) (spec.certify name.now)) }
+    {
+        let name = self.number(Kind::Result, name);
+        self.add_command(Command::Certify { name })
+    }
+
     #[tactic(auto, using(crate::proofs::Facts::map_map))]
     pub fn disturb_atoms(
         &mut self,

@@ -19,8 +19,8 @@ use px_base::NoMemory;
 use px_lines::{Line, Part, Rest, Said, SignedAtom};
 use px_names::Kind;
 use px_script::{
-    EXECUTORS, LAST_NUMBER, LAST_TURN, LAST_VERSION, Limit, MOST_SCRIPT_NODES, NAME_BYTES, Named,
-    greatest,
+    EXECUTORS, LAST_NUMBER, LAST_TURN, LAST_VERSION, Limit, NAME_BYTES, Named, greatest,
+    most_script_nodes, most_script_weight,
 };
 use px_terms::{MOST_HEIGHT, MOST_SHAPES};
 
@@ -174,8 +174,9 @@ impl Reader {
                 self.over(self.grown(statement), Limit::OperatorAtoms)
             }
             Statement::Height(height) => outside(height, 1, MOST_HEIGHT),
-            Statement::Nodes(nodes) => outside(nodes, 1, MOST_SCRIPT_NODES),
+            Statement::Nodes(nodes) => outside(nodes, 1, most_script_nodes(self.version)),
             Statement::Shapes(shapes) => outside(shapes, 2, MOST_SHAPES),
+            Statement::Weight(weight) => outside(weight, 0, most_script_weight(self.version)),
             Statement::Plan(_, goal) => self.plan_limit(goal)?,
             Statement::DisturbAtoms(turn, _, edits) => self.disturbance_limit(turn, edits.len()),
             Statement::DisturbRooms(turn, _, edits) => self.disturbance_limit(turn, edits.len()),

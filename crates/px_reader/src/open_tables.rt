@@ -1,5 +1,6 @@
 //! Tables of the script whose blocks are open, and what their lines add.
-ghost use Rattle.std.specs.Prelude.{◌≡◌, ◌≤◌, length, map, IfOk, MatchOption, OnOk, list_any, nat_lt};
+ghost use Rattle.std.specs.Prelude.{◌≡◌, ◌≤◌, length, map, IfOk, MatchOption, OnOk, nat_lt, true};
+ghost use Rattle.std.specs.List.{list_any};
 ghost use Rattle.px_terms.specs.Limits.{most_parameters};
 ghost use Rattle.px_script.specs.Statements as spec;
 ghost use Rattle.px_script.specs.declared.limits.TheConstants.{LAST_NUMBER as last_number};

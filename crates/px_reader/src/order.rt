@@ -68,8 +68,8 @@ fn others_vary(others: &[Argument<'_>], parts: &[Part<'_>]) -> bool
     any_variable(others) || any_part_varies(parts)
 }
 
-/// The words of commands that there aren't yet.
-const TO_COME: [&str; 3] = ["save", "certify", "pursue"];
+/// The word of the command that there isn't yet.
+const TO_COME: [&str; 1] = ["pursue"];
 
 /// Returns whether the line's word isn't built.
 pub fn is_unbuilt(stage: &[&str], line: &Line<'_>) -> bool

@@ -10,7 +10,7 @@ use crate::sorts::fill_up;
 use px_base::{NoMemory, Sequence, push};
 use px_names::Kind;
 use px_rooms::{Building, rooms_problem};
-use px_script::{DEFAULT_HEIGHT, DEFAULT_NODES, DEFAULT_SHAPES};
+use px_script::{DEFAULT_HEIGHT, DEFAULT_SHAPES, default_nodes, default_weight};
 use px_terms::{ClauseArena, Problem, Schema};
 use std::alloc::Global;
 
@@ -73,11 +73,11 @@ impl Reader {
             axioms,
             schemas: Sequence::from_vec(schemas),
             height: self.height.unwrap_or(DEFAULT_HEIGHT),
-            nodes: self.nodes.unwrap_or(DEFAULT_NODES),
+            nodes: self.nodes.unwrap_or(default_nodes(self.version)),
             shapes: self.shapes.unwrap_or(DEFAULT_SHAPES),
             sorts: self.sort_count(),
             object_sorts: Sequence::from_vec(object_sorts),
-            weight: 0,
+            weight: self.weight.unwrap_or(default_weight(self.version)),
         })
     }
 

@@ -50,6 +50,7 @@ pub struct Reader {
     pub height: Option<u32>,
     pub nodes: Option<u32>,
     pub shapes: Option<u32>,
+    pub weight: Option<u32>,
     /// The tables whose blocks are closed, each with the number of its name.
     pub saved: Vec<(u32, Table)>,
     pub commands: Vec<Command>,
@@ -96,6 +97,7 @@ impl Reader {
             height: None,
             nodes: None,
             shapes: None,
+            weight: None,
             saved: Vec::new(alloc),
             commands: Vec::new(alloc),
             disturbs: 0,

@@ -13,8 +13,9 @@ use px_script::Script;
 use std::alloc::{AllocError, Global};
 use std::str;
 
-/// The words that are built: all of version 1, sorts, tables, edited tables, and two executors in one world.
-const STAGE: [&str; 32] = [
+/// The words that are built: all of version 1; of version 2 sorts, tables, what saves, certifies and edits them, and two executors in one
+/// world; and the weight of version 3.
+const STAGE: [&str; 35] = [
     "script",
     "object",
     "predicate",
@@ -45,8 +46,11 @@ const STAGE: [&str; 32] = [
     "step",
     "goal",
     "proof",
+    "save",
+    "certify",
     "edit",
     "duo",
+    "weight",
 ];
 
 /// Returns the parts of a text between line feeds.
