@@ -4,6 +4,7 @@ use Rattle.px_reader.proofs.Common.{◌≡◌, ◌<◌, ◌≤◌, ◌+◌, ℕ,
 use Rattle.px_script.specs.Causes.{is_robot}
 use Rattle.px_script.specs.Declarations.{kind_of_block, problem_here, WrittenTable}
 use Rattle.px_script.proofs.Buildings.{is-building as stands-building, robots-some}
+use Rattle.px_script.proofs.Problems.{heavier}
 use Rattle.px_script.proofs.States.{SuitsBlock}
 use Rattle.px_script.specs.RangeLaws.{version-most}
 use Rattle.px_ops.specs.ModelValue.{ModelValue}
@@ -30,8 +31,8 @@ has-problem d r robots = go d.things r robots
     go (Some things) r robots = let is = r.building in
         let whole = stands-building things is.standing (robots-some things robots) in let p : Problem = own_problem d in
         let few = version-most d.version _ 256 1024 (omega arith) r.names.few_objects in let l = r.problem.valid in record {
-          valid = buildings_are_valid p.objects p.height p.nodes p.shapes (omega (arith, is.objects_are), omega (arith, few)) l.height
-              l.nodes l.shapes;
+          valid = heavier _ p.weight l.weight (buildings_are_valid p.objects p.height p.nodes p.shapes
+              (omega (arith, is.objects_are), omega (arith, few)) l.height l.nodes l.shapes);
           building = whole;
           short = omega (arith, few, is.objects_are, objects_are things whole.0);
           few_sorts = r.problem.few_sorts;

@@ -54,6 +54,15 @@ fn copied_schemas(alloc: Global, schemas: &[Schema]) -> Result<Vec<Schema>, NoMe
     Ok(copies)
 }
 
+/// Returns the problem with this weight of its search.
+fn weighted(problem: Problem, weight: u32) -> Problem
+    ensures { result ≡ record problem { weight = weight } }
+{
+    let mut problem = problem;
+    problem.weight = weight;
+    problem
+}
+
 impl Reader {
     /// Returns the problem of the script's own lines, with the limits that they give, or those that hold where they give none.
     fn own_problem(&self) -> Result<Problem, NoMemory>
@@ -93,7 +102,10 @@ impl Reader {
                 let building = Building {
                     things: Sequence::from_slice(self.alloc, things)?,
                 };
-                rooms_problem(self.alloc, &building, own.height, own.nodes, own.shapes)
+                let rules = rooms_problem(
+                    self.alloc, &building, own.height, own.nodes, own.shapes,
+                )?;
+                Ok(weighted(rules, own.weight))
             }
         }
     }

@@ -701,7 +701,7 @@ fn made_of_two<'line, 'text>(
     requires { IfSome (row_among word.now (entries_of_two ++ entries_of_three)) (λ row. length ones.now ≡ length row.ones) }
     ensures { option_map statement_view result
         ≡ option_and_then (λ entry. entry.make (said_items ones.now last.now))
-            (entry_among word.now (entries_of_two ++ entries_of_three)) }
+        (entry_among word.now (entries_of_two ++ entries_of_three)) }
 {
     match word {
         "duo" => duo(ones, last),
