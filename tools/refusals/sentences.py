@@ -211,7 +211,8 @@ def order(line, known, limit):
         if word == 'end':
             return f'the building that line {number} opens has no line robot: say in it where the robot is, as robot R1'
     elif COMMAND not in places and DECLARATION not in places and word != 'script':
-        opens = ' or '.join(opener for opener, inside in BLOCKS.items() if inside in places)
+        openers = [opener for opener, inside in BLOCKS.items() if inside in places]
+        opens = ' or '.join(filter(None, (', '.join(openers[:-1]), openers[-1])))
         return f'{word} stands outside a block: a line {opens} opens one, and end closes it'
     if COMMAND not in places and known.command:
         return f'a declaration stands after the command of line {known.command}: move it before that'

@@ -1,7 +1,7 @@
 -- Each line of a domain, each setting and each command keeps what was declared in range.
 use Rattle.std.proofs.lemmas.List.Kept.{AllPairs-cons}
 use Rattle.px_base.specs.Bounds.{u32_max}
-use Rattle.px_script.proofs.Common.{table_given, IsTableBefore, IsSavedTable, problem_of, problem_here, replicate-append-replicate, replicate, ◌-◌, fold-append, flat_map-append, IsClause, no_schema, ◌≡◌, ◌≢◌, ℕ, suc, ◌+◌, ◌<◌, ◌≤◌, Bool, true, false, not, ◌&&◌, ◌||◌, ◌==◌, List, [], ◌∷◌, ◌++◌, map, length, refl, sym, ap, ◌∙◌, subst, arith, leb-true, length-append, nat_lt, nat_le, Option, None, Some, is_some, unwrap_or, All, AllPairs, AllByRecursion, slice_index_or, list_any, list_all, flat_map, filter, range_with_len, append_assoc, get_or-append, get_or-map, and_parts, or_parts, or_right, nat_tests, length-map, All-append, All-cons, All-map, All-nil, All-push, both_answers, All-at, All-each, set_of-is_sorted, set_of-members, has_name, IsBoxAt, IsDoorAt, IsRoomAt, first_state, standings, Clause, Schema, Problem, atom_set, atom_cmp, atom_cmp-total, atom_cmp-same, IsAtomOf, Thing, EachIndex, NameLists, IsAxiomOf, append-nil, IsSchemaOf, Standing, Atom, Named, SignedAtom, Sign, WrittenRoomEdit, Binding, bare, robot_to, box_to, door_to, is_empty, is_parameter_number, wanted_by_edit, an_object, plain, literals, goals, atom_changes, line_of, script, object, predicate, «axiom», operator, fact, plan, learn, disturb_atoms, disturb_rooms, run, Statement, show, save, certify, Save, Certify, sort, filled_up, of_version, Bounds, greatest, of_height, of_nodes, of_shapes, of_turn, facts, Command, Plan, Learn, DisturbAtoms, DisturbRooms, Run, Facts, Show, Declared, Roles, operator_here, parameters_here, parameters_of, names_here, number_in, variable_names_of, atom_of, literal_of, clause_of, atom_edit_of, edit_by, room_edit_of, binding_of, after_line, own_problem, is_long, repeats, disturbance_limits, AreNumbered, AreRoomEditsOf, CommandsInRange, HasTurn, IsAmong, IsBindingOf, IsCommandOf, IsEditOf, IsWithin, NamesEarlier, disturbs_after, plan_given, result_given, AreNamesOf, all_disturbs, duo, Duo, edit, Edit, of_executor, outside}
+use Rattle.px_script.proofs.Common.{table_given, IsTableBefore, IsSavedTable, problem_of, problem_here, replicate-append-replicate, replicate, ◌-◌, fold-append, flat_map-append, IsClause, no_schema, ◌≡◌, ◌≢◌, ℕ, suc, ◌+◌, ◌<◌, ◌≤◌, Bool, true, false, not, ◌&&◌, ◌||◌, ◌==◌, List, [], ◌∷◌, ◌++◌, map, length, refl, sym, ap, ◌∙◌, subst, arith, leb-true, length-append, nat_lt, nat_le, Option, None, Some, is_some, unwrap_or, All, AllPairs, AllByRecursion, slice_index_or, list_any, list_all, flat_map, filter, range_with_len, append_assoc, get_or-map, and_parts, or_parts, or_right, nat_tests, length-map, All-append, All-cons, All-map, All-nil, All-push, both_answers, All-at, All-each, set_of-is_sorted, set_of-members, has_name, IsBoxAt, IsDoorAt, IsRoomAt, first_state, standings, Clause, Schema, Problem, atom_set, atom_cmp, atom_cmp-total, atom_cmp-same, IsAtomOf, Thing, EachIndex, NameLists, IsAxiomOf, append-nil, IsSchemaOf, Standing, Atom, Named, SignedAtom, Sign, WrittenRoomEdit, Binding, bare, robot_to, box_to, door_to, is_empty, is_parameter_number, wanted_by_edit, an_object, plain, literals, goals, atom_changes, line_of, script, object, predicate, «axiom», operator, fact, plan, learn, disturb_atoms, disturb_rooms, run, Statement, show, save, certify, Save, Certify, sort, filled_up, of_version, Bounds, greatest, of_height, of_nodes, of_shapes, of_turn, facts, Command, Plan, Learn, DisturbAtoms, DisturbRooms, Run, Facts, Show, Declared, Roles, operator_here, parameters_here, parameters_of, names_here, number_in, variable_names_of, atom_of, literal_of, clause_of, atom_edit_of, edit_by, room_edit_of, binding_of, after_line, own_problem, is_long, repeats, disturbance_limits, AreNumbered, AreRoomEditsOf, CommandsInRange, HasTurn, IsAmong, IsBindingOf, IsCommandOf, IsEditOf, IsWithin, NamesEarlier, disturbs_after, plan_given, result_given, AreNamesOf, all_disturbs, duo, Duo, edit, Edit, of_executor, outside}
 use Rattle.px_script.specs.Items.{last_parameter}
 use Rattle.px_rooms.specs.Changes.{IsAdmitted}
 use Rattle.px_terms.specs.Limits.{most_nodes, most_weight}

@@ -1,18 +1,18 @@
 -- Each line of a table's block keeps what was declared in range, and its end gives a table of the script.
-use Rattle.px_script.proofs.Common.{position, position_or_len, All, All-cons, All-drop, All-head, All-map, All-nil, All-push, All-tail, All-take, Argument, Bool, CommandsInRange, Declared, Derivation, HasNoOpenPlace, HaveNoOpenPlace, IsAmong, IsCommandOf, IsSavedTable, IsTableBefore, List, None, Option, Part, Problem, SignedAtom, Some, Table, Thing, WrittenTable, [], a_fact, an_ancestor, an_axiom, anything, ap, append-nil, arith, atom_of, both_answers, bytes_eq, decimal, derivation_of, derivation_of-proof_of, derivations, drop, end, false, flat_map, fold, goal, goal_number, goal_place, goal_variables, greatest, greatest_height, has_name, height_of, heights_of, highest, instance_of_step, is_empty, is_known_argument, is_variable, last_number, length, length-append, length-map, letter_numbers, line_of, list_any, map, map-append, max, named, nat_lt, not, not-false, number_in, of_table_rows, of_table_steps, open_variable, or_parts, own_problem, plan_given, problem_here, problem_of, proof, proof_of, proofs_read, range_with_len, refl, result_given, rows_of, slice_index, slice_index_or, step, subst, sym, table, table_given, table_goals, table_made, table_term, table_variables, take, takes, true, ℕ, ◌&&◌, ◌++◌, ◌+◌, ◌-◌, ◌||◌, ◌∙◌, ◌∷◌, ◌≡◌, ◌≤◌, Line, AreNamesOf, ◌<◌}
+use Rattle.px_script.proofs.Common.{position, position_or_len, All, All-cons, All-drop, All-head, All-map, All-nil, All-push, All-tail, All-take, Argument, Bool, CommandsInRange, Declared, Derivation, HasNoOpenPlace, HaveNoOpenPlace, IsAmong, IsCommandOf, IsSavedTable, IsTableBefore, List, None, Option, Part, Problem, SignedAtom, Some, Table, Thing, WrittenTable, [], a_fact, an_ancestor, an_axiom, anything, ap, append-nil, arith, atom_of, both_answers, bytes_eq, decimal, derivation_of, derivation_of-proof_of, derivations, drop, end, false, flat_map, fold, goal, goal_number, goal_place, goal_variables, greatest, greatest_height, has_name, height_of, heights_of, highest, instance_of_step, is_empty, is_known_argument, is_variable, last_number, length, length-append, length-map, letter_numbers, line_of, list_any, map, map-append, max, named, nat_lt, not, not-false, number_in, of_table_rows, of_table_steps, open_variable, or_parts, own_problem, plan_given, problem_here, problem_of, proof, proof_of, proofs_read, range_with_len, refl, result_given, rows_of, slice_index, slice_index_or, step, subst, sym, table, table_given, table_goals, table_made, table_term, table_variables, take, takes, true, ℕ, ◌&&◌, ◌++◌, ◌+◌, ◌||◌, ◌∙◌, ◌∷◌, ◌≡◌, ◌≤◌}
 use Rattle.std.proofs.lemmas.List.FromFn.{length-range_with_len}
 use Rattle.std.proofs.lemmas.List.{take-map, drop-map}
 use Rattle.px_script.specs.Causes.{is_numbered_by, is_table_parameter, is_goal_variable}
 use Rattle.std.specs.Cmp.Lexicographic.{pointwise, pointwise_decides}
 use Rattle.px_table.specs.Deciding.{rows_are_table}
 use Rattle.px_table.specs.MarkLaws.{mark_eq-decides}
-use Rattle.px_table.specs.Marks.{mark_eq, marks_from}
+use Rattle.px_table.specs.Marks.{mark_eq}
 use Rattle.px_table.specs.WellSorted.{sorts_by_places}
 use Rattle.px_script.specs.Limits as limit
-use Rattle.px_script.proofs.Atoms.{args-of, arguments_of, AreRight, HasAtoms, atoms-right, no-variable}
+use Rattle.px_script.proofs.Atoms.{args-of, arguments_of, HasAtoms, atoms-right, no-variable}
 use Rattle.px_script.proofs.Commands.{one-more-result, none-given, among-more, among-new}
 use Rattle.px_script.proofs.KeptLines.{in-version, still-none, no-commands, some-items, Keeps}
-use Rattle.px_script.proofs.Lists.{at-most, at-name, by_test, is-new, known-last, known-still, number-after, number-below, number-kept, number-known, number-new, within, each-fails}
+use Rattle.px_script.proofs.Lists.{at-most, at-name, by_test, is-new, known-last, known-still, number-after, number-below, number-kept, number-known, number-new, within}
 use Rattle.px_script.proofs.Problems.{names-more}
 use Rattle.px_script.proofs.States.{AreInRange, HasNoDomain, IsTableBegun, IsTableAimed, ResultsInRange, from_blocks}
 
@@ -150,7 +150,7 @@ module _ (d : Declared) (line : ℕ) (t : WrittenTable) where
   goal-numbers (a ∷ arguments) bound = let both = or_parts _ (list_any (λ x. not (takes in_steps table_goals x)) arguments) bound in
       let one = goal-number a (not-false _ both.0) in let more = goal-numbers arguments both.1 in (
         ap (λ n. n ∷ map (goal_number in_steps) arguments) one.0
-        ∙ ap (λ ns. goal_place t.parameters (table_term in_steps a) ∷ ns) more.0,
+            ∙ ap (λ ns. goal_place t.parameters (table_term in_steps a) ∷ ns) more.0,
         All-cons (λ n. n ≤ greatest d.version limit.variables) _ _ one.1 more.1,
       )
 

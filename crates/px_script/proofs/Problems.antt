@@ -1,5 +1,5 @@
 -- Names and a problem stay in range where there are more of them, and what is of a problem is of one with more objects and predicates.
-use Rattle.px_script.proofs.Common.{All-head, All-tail, slice_index_or, replicate-append-replicate, replicate, ◌+◌, ◌-◌, append-nil, length-append, get_or-append, subst, ap, [], ◌∷◌, map, range_with_len, true, is_some, Option, None, Some, Thing, Table, IsSavedTable, problem_of, OpInst, no_schema, IsClause, HasClauseLength, ◌≡◌, ℕ, ◌<◌, ◌≤◌, false, List, ◌++◌, length, refl, sym, ◌∙◌, arith, list_any, All, slice_index, All-append, Atom, Clause, Problem, Schema, Term, Obj, HasArity, IsTermOf, IsPatternTermOf, IsAtomOf, IsPatternOf, IsSchemaOf, IsAxiomOf, greatest, repeats, is_long, AreNamesOf}
+use Rattle.px_script.proofs.Common.{All-head, All-tail, slice_index_or, replicate-append-replicate, replicate, ◌+◌, ◌-◌, append-nil, length-append, get_or-append, subst, ap, [], ◌∷◌, map, range_with_len, is_some, Option, None, Some, Thing, Table, IsSavedTable, problem_of, OpInst, no_schema, IsClause, HasClauseLength, ◌≡◌, ℕ, ◌<◌, ◌≤◌, false, List, ◌++◌, length, refl, sym, ◌∙◌, arith, list_any, All, slice_index, All-append, Atom, Clause, Problem, Schema, Term, Obj, HasArity, IsTermOf, IsPatternTermOf, IsAtomOf, IsPatternOf, IsSchemaOf, IsAxiomOf, greatest, repeats, is_long, AreNamesOf}
 use Rattle.px_terms.specs.Language.{IsPlainBelow}
 use Rattle.px_terms.specs.Limits.{most_weight}
 use Rattle.px_terms.specs.Validity.{AreSortsOf, IsValid}

@@ -1,5 +1,5 @@
 -- The reader by the table reads exactly the forms of lines: each spelling back, and nothing else.
-use Rattle.px_script.proofs.Common.{◌≡◌, ℕ, Bool, true, false, List, [], ◌∷◌, ◌++◌, map, length, drop, refl, sym, ap, ◌∙◌, subst, append_assoc, append-nil, flat_map-append, Option, None, Some, is_some, codes, AllByRecursion, list_any, flat_map, option_map, option_and_then, IfSome, bytes_eq, if◌then◌else◌, ◌||◌, ◌==◌, not-true, and_parts, Lexeme, name, number, SignedAtom, spell, spell_atom, spell_binding, spell_room_edit, open_word, time_word, is_word, Line, line_of, spelling, Declared, has_building, Forms, is_formed, Statement, inside, plain, goals, atom_changes, operator_block, building_block, script, «axiom», pre, delete, add, building, door, end, fact, height, nodes, shapes, disturb_atoms, disturb_rooms, run, facts, duo, spell_pair, save, certify, edit, table, step, goal, proof, spell_part, table_terms, table_goals, table_steps, table_rows, not, ◌&&◌, nat_le, weight, words_of_all, words_of_two, words_of_three, list_any-append, nat_tests, arith, ◌<◌, ◌≤◌}
+use Rattle.px_script.proofs.Common.{◌≡◌, ℕ, Bool, true, false, List, [], ◌∷◌, ◌++◌, map, length, drop, refl, sym, ap, ◌∙◌, subst, append_assoc, append-nil, flat_map-append, Option, None, Some, is_some, codes, AllByRecursion, list_any, flat_map, option_map, option_and_then, IfSome, bytes_eq, if◌then◌else◌, ◌||◌, not-true, and_parts, Lexeme, name, number, SignedAtom, spell, spell_atom, spell_binding, spell_room_edit, open_word, time_word, is_word, Line, line_of, spelling, Declared, has_building, Forms, is_formed, Statement, inside, plain, goals, atom_changes, operator_block, building_block, script, «axiom», pre, delete, add, building, door, end, fact, height, nodes, shapes, disturb_atoms, disturb_rooms, run, facts, duo, spell_pair, save, certify, edit, step, goal, proof, spell_part, table_terms, table_steps, table_rows, not, ◌&&◌, nat_le, weight, words_of_all, words_of_two, words_of_three, list_any-append, nat_tests, arith, ◌<◌, ◌≤◌}
 use Rattle.px_script.specs.Items.{Item, the, amount, amounts, new, declared, listed, known, wanted, atoms, bindings, room_edits, an_object, a_predicate, an_operator, a_parameter, a_sort, a_room as room_name, a_door as door_name, a_box as box_name, a_plan, a_table, pairs, a_result, arguments, proofs}
 use Rattle.px_script.specs.Statements.{room_changes, line, spelling_of, domain, opens, command}
 use Rattle.px_script.specs.declared.kinds.One.{One}

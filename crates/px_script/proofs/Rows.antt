@@ -222,21 +222,29 @@ entries_of_all b =
     ∷ entry (row (codes "facts") command plain [] last.Nothing) (make_nothing facts)
     ∷ []
 
--- those that version 2 is the first to have
-abbrev pub entries_of_two : List Entry
-entries_of_two = entry (newer 2 (row (codes "sort") domain plain (one.New a_sort ∷ []) (last.New an_object))) make_sort
-    ∷ entry (newer 2 (row (codes "param") (inside operator_block) plain (one.Known a_sort ∷ []) (last.Known a_parameter))) make_param
-    ∷ entry (newer 2 (row (codes "table") (opens table_steps) plain (one.New a_table ∷ one.Number ∷ []) last.Nothing)) make_table
+-- those of a table's block
+abbrev pub entries_of_tables : List Entry
+entries_of_tables = entry (newer 2 (row (codes "table") (opens table_steps) plain (one.New a_table ∷ one.Number ∷ []) last.Nothing)) make_table
     ∷ entry (newer 2 (row (codes "step") (inside table_steps) table_terms (one.Known an_operator ∷ []) last.Arguments)) make_step
     ∷ entry (newer 2 (row (codes "goal") (inside table_steps) table_goals [] last.Atoms)) (make_atoms goal)
     ∷ entry (newer 2 (row (codes "proof") (inside table_rows) table_terms [] last.Proofs)) make_proof
-    ∷ entry (newer 2 (row (codes "save") command plain (one.Known a_table ∷ []) last.Nothing)) (make_of_table save)
+    ∷ []
+
+-- the commands of version 2
+abbrev pub entries_of_commands : List Entry
+entries_of_commands = entry (newer 2 (row (codes "save") command plain (one.Known a_table ∷ []) last.Nothing)) (make_of_table save)
     ∷ entry (newer 2 (row (codes "certify") command plain (one.Known a_table ∷ []) last.Nothing)) (make_of_table certify)
     ∷ entry (newer 2 (row (codes "edit") command plain
     (one.New a_table ∷ one.Word choice.Source ∷ one.Known a_table ∷ one.Number ∷ []) last.Pairs)) make_edit
     ∷ entry (newer 2 (row (codes "duo") command plain (one.Known a_table ∷ one.Known a_table ∷ []) last.Numbers)) make_duo
     ∷ entry (newer 2 (row (codes "pursue") command goals (one.New a_result ∷ []) last.Atoms)) make_pursue
     ∷ []
+
+-- those that version 2 is the first to have
+abbrev pub entries_of_two : List Entry
+entries_of_two = entry (newer 2 (row (codes "sort") domain plain (one.New a_sort ∷ []) (last.New an_object))) make_sort
+    ∷ entry (newer 2 (row (codes "param") (inside operator_block) plain (one.Known a_sort ∷ []) (last.Known a_parameter))) make_param
+    ∷ (entries_of_tables ++ entries_of_commands)
 
 -- those that version 3 is the first to have
 abbrev pub entries_of_three : List Entry

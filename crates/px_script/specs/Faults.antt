@@ -7,7 +7,7 @@ use Rattle.px_script.specs.Items.{SignedAtom, Binding, Part, a_fact, an_ancestor
 use Rattle.px_script.specs.Statements.{Statement, line_of, script, object, predicate, «axiom», operator, pre, delete, add, building, room, door, box, robot, end, fact, height, nodes, shapes, weight, plan, learn, show, disturb_atoms, disturb_rooms, run, facts, sort, param, duo, save, certify, edit, pursue, table, step, goal, proof}
 use Rattle.px_script.specs.Limits as limit
 use Rattle.px_script.specs.Limits.{Limit, Bounds, greatest, number_of, number_of_numbers, of_version, of_height, of_nodes, of_shapes, of_weight, of_turn, of_executor, last_number}
-use Rattle.px_script.specs.Declarations.{Declared, OpenOperator, operator_here, has_building, number_in, variable_names_of, atom_of, WrittenTable, BlockKind, of_table_steps, of_table_rows, table_here, OpenBlock, problem_here}
+use Rattle.px_script.specs.Declarations.{Declared, OpenOperator, operator_here, has_building, number_in, variable_names_of, atom_of, BlockKind, of_table_steps, of_table_rows, table_here, OpenBlock, problem_here}
 use Rattle.px_table.specs.Deciding.{rows_are_table}
 use Rattle.px_table.specs.WellSorted.{sorts_by_places}
 use Rattle.px_script.specs.Stages.{Stage, whole_language, is_unbuilt}

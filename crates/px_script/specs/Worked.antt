@@ -51,21 +51,21 @@ table_by column = codes "table M 2\nstep A(?p1)\nstep B(?p1,?p2)\ngoal G(?p1)\np
 pub record WorkedScripts : Type 0 where
   -- two objects, two operators, the second of which needs what the first may delete, two facts, and two commands
   pub danger : IsScript stage_now (two_operators ++ codes "plan N G(a)\nfacts\n") (record nothing {
-        names = record {
-          objects = words_in (codes "a b");
-          predicates = words_in (codes "P Q R G");
-          operators = words_in (codes "A B");
-          results = codes "N" ∷ [];
-        };
-        problem = record (of_objects 2) {
-          arities = 1 ∷ 1 ∷ 1 ∷ 1 ∷ [];
-          schemas =
-              schema_without_sorts 0 1 (numbered 0 (Var 0 ∷ []) ∷ []) (numbered 1 (Var 0 ∷ []) ∷ []) (numbered 2 (Var 0 ∷ []) ∷ [])
-              ∷ schema_without_sorts 1 2 (numbered 2 (Var 0 ∷ []) ∷ numbered 1 (Var 1 ∷ []) ∷ []) [] (numbered 3 (Var 0 ∷ []) ∷ []) ∷ [];
-        };
-        facts = numbered 0 (Obj 0 ∷ []) ∷ numbered 1 (Obj 1 ∷ []) ∷ [];
-        commands = Plan 0 (numbered 3 (Obj 0 ∷ []) ∷ []) 0 ∷ Facts ∷ [];
-      })
+    names = record {
+      objects = words_in (codes "a b");
+      predicates = words_in (codes "P Q R G");
+      operators = words_in (codes "A B");
+      results = codes "N" ∷ [];
+    };
+    problem = record (of_objects 2) {
+      arities = 1 ∷ 1 ∷ 1 ∷ 1 ∷ [];
+      schemas =
+          schema_without_sorts 0 1 (numbered 0 (Var 0 ∷ []) ∷ []) (numbered 1 (Var 0 ∷ []) ∷ []) (numbered 2 (Var 0 ∷ []) ∷ [])
+          ∷ schema_without_sorts 1 2 (numbered 2 (Var 0 ∷ []) ∷ numbered 1 (Var 1 ∷ []) ∷ []) [] (numbered 3 (Var 0 ∷ []) ∷ []) ∷ [];
+    };
+    facts = numbered 0 (Obj 0 ∷ []) ∷ numbered 1 (Obj 1 ∷ []) ∷ [];
+    commands = Plan 0 (numbered 3 (Obj 0 ∷ []) ∷ []) 0 ∷ Facts ∷ [];
+  })
   -- Carriage returns, an empty line, comments, tabs, zeros in front of a number, a fact that stands twice, and no line feed at the end.
   pub blanks : IsScript stage_now
       (codes "script 1\r\n\r\n# object c\nobject\ta b#c\npredicate P 01\nfact P(b)P( a )\nfact P (a)\nnodes 007\r") (record nothing {

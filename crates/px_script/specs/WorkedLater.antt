@@ -1,22 +1,16 @@
 -- Lines of version 2 that aren't built. They are refused as not built once they stand right; and what else they would be refused for.
-use Rattle.std.specs.Prelude.{◌≡◌, ℕ, ◌+◌, true, false, List, [], ◌∷◌, ◌++◌, codes, fold, map, replicate, take, Option, None, Some}
+use Rattle.std.specs.Prelude.{◌≡◌, ℕ, ◌+◌, false, List, [], ◌∷◌, ◌++◌, codes, map, replicate, Option, None, Some}
 use Rattle.std.specs.Fmt.{decimal}
 use Rattle.std.specs.List.{AllByRecursion, range_with_len}
-use Rattle.px_proof.specs.Derivation as derivation
-use Rattle.px_proof.specs.Derivation.{none, also}
-use Rattle.px_proof.specs.LayerLaws.{proof_of}
-use Rattle.px_table.specs.Tables.{empty_table}
-use Rattle.px_table.specs.declared.table.Table.{Table}
-use Rattle.px_script.specs.Common.{Var, Obj}
-use Rattle.px_script.specs.Items.{Argument, SignedAtom, Part, named, open_variable, anything, bare, a_fact, an_ancestor, an_axiom, are_proofs, a_result, a_plan, a_table}
-use Rattle.px_script.specs.Statements.{Statement, line_of, end, object, save, certify, edit, pursue, table, step, goal, proof}
+use Rattle.px_script.specs.Items.{Argument, SignedAtom, named, open_variable, anything, bare, a_result, a_plan, a_table}
+use Rattle.px_script.specs.Statements.{Statement, line_of, edit, pursue}
 use Rattle.px_script.specs.Limits as limit
 use Rattle.px_script.specs.Limits.{greatest}
-use Rattle.px_script.specs.Declarations.{Declared, nothing_declared, with_all_names, declared_by, after_line}
+use Rattle.px_script.specs.Declarations.{Declared, nothing_declared, with_all_names, declared_by}
 use Rattle.px_script.specs.Forms.{is_formed}
 use Rattle.px_script.specs.Causes.{is_out_of_order, has_unknown_name, has_wrong_arity, is_unbound}
 use Rattle.px_script.specs.Faults.{Refusal, coded, passed, first_of, has_duplicate, limits, is_bad_table}
-use Rattle.px_script.specs.WorkedLines.{After, Leave, small, in_operator, closed_building, with_sign, numbered, q, long_name, learned, learned_in_two, commands, Refuse, Spell}
+use Rattle.px_script.specs.WorkedLines.{After, Leave, small, in_operator, with_sign, q, long_name, learned, learned_in_two, commands, Refuse, Spell}
 
 -- the first fault of what a line says, if its word were built
 abbrev fault_of : Declared → Statement → Option Refusal

@@ -1,5 +1,5 @@
 -- Lines that version 3 has: how they are written, what they leave, and what they are refused for.
-use Rattle.std.specs.Prelude.{ℕ, List, [], ◌∷◌, ◌++◌, codes, Some}
+use Rattle.std.specs.Prelude.{[], ◌∷◌, ◌++◌, codes, Some}
 use Rattle.px_script.specs.Statements.{weight}
 use Rattle.px_script.specs.Declarations.{problem_here}
 use Rattle.px_script.specs.WorkedLines.{Exceed, Fit, Leave, LeaveBoth, Refuse, Spell, closed_building, small}

@@ -8,7 +8,8 @@
 //! 2. `Items` and `Statements`: what may stand in a line after its word, and each line described once (`line_of`): its word, its
 //!    place, what its atoms may be, and its items.
 //! 3. `Limits`: the words and the limits of each version (`greatest`).
-//! 4. `Commands` (those of the code) and `Declarations`: what a line adds to what the lines before it declared (`declares`, `after_line`).
+//! 4. `Commands` (those of the code) and `Declarations`: what a line adds to what the lines before it declared (`declares`, `after_line`),
+//!    the problem that lines so far give (`problem_here`), and the table that the block of a table gives at its end (`table_made`).
 //! 5. `Forms`: which statement the lexemes of a line are.
 //! 6. `Stages`, `Causes` and `Faults`: what is built; the causes to refuse a line that follow from its description alone; and all
 //!    causes in their order (`causes`), of which the first that is there is the fault (`fault_at`).
@@ -31,8 +32,8 @@
 //! - [`only_takes_away`]: where only some words are built, a line is refused as where all are, or as not built, and a
 //!   script is a script of the whole of it.
 //! - [`is_in_range`]: what a script is about is in range, and of the language as far as it is built (`IsOfStage`), so a caller may
-//!   hand its numbers on. What is built is one list of words, `stage_now`: the whole of version 1, sorts, `duo` and `edit`; all
-//!   laws hold of any list.
+//!   hand its numbers on. What is built is one list of words, `stage_now`: all that are described but `pursue`; all laws hold of any
+//!   list.
 //! - [`worked_lines`] and [`worked_texts`]: what the definition says of small lines, and of small texts from their bytes, to be
 //!   compared with what a reader expects.
 //!
@@ -103,9 +104,9 @@ pub fn only_takes_away()
 {}
 
 /// The problem of a script is valid, each of its numbers has a name and no name stands twice in its kind, the facts, the building and
-/// the commands are over its numbers, all is within the limits, and each result is given once and named only by later commands. With a
-/// building the problem is the building's, and the facts are those of its first state. Whatever is built, its commands are of words that
-/// are built, and it has a building only where buildings are built.
+/// the commands are over its numbers, each table that stands in it is a table of the problem, all is within the limits, and each result is
+/// given once and named only by later commands. With a building the problem is the building's, and the facts are those of its first
+/// state. Whatever is built, its commands are of words that are built, and it has a building only where buildings are built.
 pub fn is_in_range()
     ensures range { (stage : Stage) (bytes : List ℕ) (script : ScriptValue) → IsScript stage bytes script → IsInRange script }
     ensures stage { (stage : Stage) (bytes : List ℕ) (script : ScriptValue) → IsScript stage bytes script → IsOfStage stage script }

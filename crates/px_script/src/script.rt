@@ -12,9 +12,9 @@ use px_table::Table;
 use px_terms::Problem;
 
 /// A script that was read. It keeps that its problem is valid, that each of its numbers has a name and no name stands twice in
-/// its kind, that the facts and the commands are over its numbers, that all is within the limits, that no result is given
-/// twice, and that with a building the problem is the building's and the facts are those of its first state (`in_range`). That
-/// each name is one is kept by `Names`.
+/// its kind, that the facts and the commands are over its numbers, that each table is a table of its problem, that all is within the
+/// limits, that no result is given twice, and that with a building the problem is the building's and the facts are those of its first
+/// state (`in_range`). That each name is one is kept by `Names`.
 #[derive(Drop)]
 pub struct Script {
     /// The version of the language.
