@@ -1,6 +1,10 @@
 -- Facts are counted once they are added: what a line's fault is before and after that.
 use Rattle.px_reader.proofs.Common.{◌≡◌, ℕ, Bool, true, false, length, List, [], ◌∷◌, ◌++◌, map, refl, sym, ap, ◌∙◌, ◌&&◌, None, Some, nat_lt, Declared, Statement, fact, greatest, fault_at, first_of, passed, Stage, SignedAtom, no-cause, only-limits, IsRight, Atom, atom_set, atom_of, is_fact, early_fault, early_limits, leaves, own_limits, limits, Refusal, causes_with, most_facts, is_bad_table, coded}
+use Rattle.std.specs.Prelude.{Option}
 use Rattle.px_script.proofs.Faultless.{none-first}
+use Rattle.px_reader.specs.Checks.{IsFirstLimit, late_fault}
+use Rattle.px_reader.specs.FaultViews.{limit_refusal}
+use Rattle.px_reader.specs.declared.fault.PassedLimit.{PassedLimit}
 
 -- a last cause that isn't there
 without-last : (causes : List (Bool × Refusal)) (last : Bool × Refusal) → last.0 ≡ false → first_of (causes ++ last ∷ []) ≡ first_of causes
@@ -18,6 +22,20 @@ first-front : (causes more : List (Bool × Refusal)) (fault : Refusal) → first
 first-front [] more fault is = cc
 first-front ((true, cause) ∷ causes) more fault is = is
 first-front ((false, cause) ∷ causes) more fault is = first-front causes more fault is
+
+first-none : (causes more : List (Bool × Refusal)) → first_of causes ≡ None → first_of (causes ++ more) ≡ first_of more
+first-none [] more none = refl
+first-none ((true, cause) ∷ causes) more none = cc
+first-none ((false, cause) ∷ causes) more none = first-none causes more none
+
+-- a limit that is passed is the fault, and where none is, what is told of a bad table
+pub late-limit : (d : Declared) (s : Statement) (limit : PassedLimit) → IsFirstLimit (Some limit) (early_limits d s)
+    → Some (limit_refusal limit) ≡ late_fault d s
+late-limit d s limit is = sym (first-front (map passed (early_limits d s)) ((is_bad_table d s, coded 12) ∷ []) (limit_refusal limit) (sym is))
+
+pub late-table : (d : Declared) (s : Statement) (fault : Option Refusal) → IsFirstLimit None (early_limits d s)
+    → fault ≡ first_of ((is_bad_table d s, coded 12) ∷ []) → fault ≡ late_fault d s
+late-table d s fault none is = is ∙ sym (first-none (map passed (early_limits d s)) ((is_bad_table d s, coded 12) ∷ []) (sym none))
 
 -- a fault that is there early is the line's
 pub early-some : (stage : Stage) (d : Declared) (s : Statement) (fault : Refusal) → early_fault stage d s ≡ Some fault
