@@ -2,7 +2,9 @@
 use Rattle.px_base.specs.Bounds.{u32_max}
 use Rattle.px_reader.proofs.Common.{◌≡◌, ◌<◌, ◌≤◌, ◌+◌, ℕ, Bool, true, false, List, length, sym, ap, ◌∙◌, subst, arith, IfSome, Option, None, Some, option_map, Atom, Problem, content_of, facts_of, own_problem, Declared, OpenBlock, script_of, Thing, IsBuilding, first_state, rendering, IsInRange, AreInRange, list_any}
 use Rattle.px_script.specs.Causes.{is_robot}
-use Rattle.px_script.specs.Declarations.{kind_of_block, problem_here, WrittenTable}
+use Rattle.px_rooms.specs.Domain.{building_problem}
+use Rattle.px_rooms.specs.States.{standings}
+use Rattle.px_script.specs.Declarations.{kind_of_block, problem_here, problem_of, WrittenTable}
 use Rattle.px_script.proofs.Buildings.{is-building as stands-building, robots-some}
 use Rattle.px_script.proofs.Problems.{heavier}
 use Rattle.px_script.proofs.States.{SuitsBlock}
@@ -27,7 +29,7 @@ has-problem d r robots = go d.things r robots
   where
     go : (things : Option (List Thing)) → AreInRange (record d { things = things }) → HasRobot things
         → HasProblem (record d { things = things })
-    go None r robots = record { valid = r.problem.valid; building = tt; short = tt; few_sorts = r.problem.few_sorts }
+    go None r robots = record { valid = r.problem.valid; building = tt; short = tt; objects = tt; few_sorts = r.problem.few_sorts }
     go (Some things) r robots = let is = r.building in
         let whole = stands-building things is.standing (robots-some things robots) in let p : Problem = own_problem d in
         let few = version-most d.version _ 256 1024 (omega arith) r.names.few_objects in let l = r.problem.valid in record {
@@ -35,6 +37,7 @@ has-problem d r robots = go d.things r robots
               (omega (arith, is.objects_are), omega (arith, few)) l.height l.nodes l.shapes);
           building = whole;
           short = omega (arith, few, is.objects_are, objects_are things whole.0);
+          objects = is.objects_are;
           few_sorts = r.problem.few_sorts;
         }
 
@@ -59,6 +62,15 @@ table-problem d has_goal t is r = has-problem d r (go d.block is r.block)
         (let same : block.kind ≡ table_kind has_goal t = cc in subst (λ k. SuitsBlock (Some (kind_of_block k)) d.things) same suits)
 
 -- ---- the building
+
+-- the problem of a building with the script's limits
+pub rooms-made : (d : Declared) → HasProblem d → (things : List Thing) (own p : Problem) → d.things ≡ Some things → own ≡ own_problem d
+    → p ≡ building_problem (length (standings things) + 1) own.height own.nodes own.shapes → record p { weight = own.weight } ≡ problem_here d
+rooms-made d h things own p is own_is made =
+    let counts : own.objects ≡ length (standings things) + 1 = ap (λ q. q.objects) own_is
+    ∙ subst (λ o. IfSome o (λ things. length d.names.objects ≡ length (standings things) + 1)) is h.objects in
+    ap (λ (q : Problem). record q { weight = own.weight }) (made ∙ ap (λ n. building_problem n own.height own.nodes own.shapes) (sym counts))
+    ∙ ap (problem_of own) (sym is) ∙ ap (λ q. problem_of q d.things) own_is
 
 abbrev pub things_of : Option Building → Option (List Thing)
 things_of b = option_map (λ building. building.things) b

@@ -1,7 +1,7 @@
 -- Proofs made of their parts, from the last part to the first, and their heights: what is taken off the end of a list, and how great
 -- heights can be.
 use Rattle.px_reader.proofs.Common.{◌≡◌, ℕ, ◌≤◌, ◌<◌, ◌+◌, ◌-◌, suc, List, [], ◌∷◌, ◌++◌, map, take, drop, fold, length, refl, sym, ap, ◌∙◌, subst, arith, AllByRecursion, All, drop_more, drop_all, take_all, take-append-drop, fold-append, length-map, length-append, length-drop, flat_map, list_any, nat_lt, list_any-map, list_any_flat, get_or, Declared, atom_of, signed_view, argument_view, cases_lt, inl, inr}
-use Rattle.std.specs.Prelude.{max, reverse}
+use Rattle.std.specs.Prelude.{max, reverse, ◌^◌}
 use Rattle.std.proofs.Math.Nat.{max-le}
 use Rattle.std.proofs.lemmas.List.{reverse-append, length-reverse, reverse-reverse}
 use Rattle.std.proofs.Common.{zero}

@@ -7,7 +7,11 @@ use Rattle.px_proof.specs.LayerLaws.{comes_back, proof_of}
 use Rattle.px_proof.specs.ProofTerm.{derivation_of}
 use Rattle.px_proof.specs.declared.proof.Proof.{Proof}
 use Rattle.px_table.specs.Deciding.{are_in_range, is_step_of, is_term_of, rows_are_table, rows_prove}
+use Rattle.px_table.specs.Marks.{marks_from}
 use Rattle.px_table.specs.Tables.{rows_of}
+use Rattle.px_table.specs.declared.mark.Mark.{Mark}
+use Rattle.px_table.specs.declared.table.Table.{Table}
+use Rattle.px_script.specs.Declarations.{table_made}
 use Rattle.px_table.specs.WellSorted.{sorts_by_places}
 use Rattle.px_script.specs.Faults.{is_bad_block}
 use Rattle.px_terms.specs.Limits.{most_parameters}
@@ -119,3 +123,31 @@ module _ (problem : Problem) (valid : IsValid problem) (t : OpenTable) where
 
   pub rows-few : is_bad_block problem (table_kind t.has_goal (table_view t)) ≡ false → length t.rows.items ≤ u32_max
   rows-few good = few-rows problem t.parameters _ (map step_view t.steps.items) t.goal.items t.goal_vars t.rows.items (good-table good)
+
+-- the table that the parts make
+module _ (problem : Problem) (t : OpenTable) (steps : List OpInst) (goal : List Atom) (marks : List Mark) (rows : List (List Proof))
+    (sorts : List ℕ) (steps_are : steps ≡ map step_view t.steps.items) (goal_is : goal ≡ t.goal.items)
+    (marks_are : marks ≡ marks_from 1 (rows_of t.rows.items)) (rows_is : rows ≡ t.rows.items)
+    (sorts_are : sorts ≡ sorts_by_places problem steps t.parameters) where
+  pub made-is : ◌≡◌ {A = Table} (record {
+    params = t.parameters;
+    steps = steps;
+    goal = goal;
+    goal_vars = t.goal_vars;
+    marks = marks;
+    proofs = rows;
+    param_sorts = sorts;
+  }) (table_made problem (table_view t))
+  made-is =
+      let back : t.rows.items ≡ map (map proof_of) (rows_of t.rows.items) = sym (rows-are t.rows.items) in
+      let rows_back = rows_is ∙ back in
+      let marks_back = marks_are ∙ ap (λ rs. marks_from 1 (rows_of rs)) back in
+      let sorts_back = sorts_are ∙ ap (λ os. sorts_by_places problem os t.parameters) steps_are in λ i. record {
+        params = t.parameters;
+        steps = steps_are i;
+        goal = goal_is i;
+        goal_vars = t.goal_vars;
+        marks = marks_back i;
+        proofs = rows_back i;
+        param_sorts = sorts_back i;
+      }

@@ -1,5 +1,5 @@
 -- What the lines of a table's block take for granted, and what they change.
-use Rattle.px_reader.proofs.Common.{◌≡◌, ℕ, ◌≤◌, Bool, true, false, List, [], ◌∷◌, ◌++◌, map, length, refl, sym, ap, ◌∙◌, subst, arith, All, Option, None, Some, option_map, flat_map, append-nil, length-map, IfSome, Declared, OpenBlock, Statement, line_of, line_atoms, IsRight, IsFaultless, AreInRange, argument_view, signed_view, is_bad_table, SignedAtom}
+use Rattle.px_reader.proofs.Common.{◌≡◌, ℕ, ◌≤◌, Bool, true, false, List, [], ◌∷◌, ◌++◌, map, length, refl, sym, ap, ◌∙◌, subst, arith, All, Option, None, Some, option_map, flat_map, append-nil, length-map, IfSome, Declared, OpenBlock, Statement, line_of, line_atoms, IsRight, IsFaultless, AreInRange, argument_view, signed_view, is_bad_table, SignedAtom, Result, Ok, Err, IfOk}
 use Rattle.px_terms.specs.Limits.{most_arguments, most_parameters}
 use Rattle.px_script.proofs.Common.{All-nil, All-cons, All-head, All-tail}
 use Rattle.px_script.proofs.States.{IsBlockInRange}
@@ -14,6 +14,11 @@ use Rattle.px_lines.specs.declared.parts.Part.TheVariants as part
 use Rattle.px_reader.specs.Heights.{AreReadableParts, IsNarrow, IsReadablePart}
 use Rattle.px_reader.specs.Readers.{kind_here, table_kind}
 use Rattle.px_reader.proofs.Right.{few-in, sizes}
+
+-- what is told of a result is told otherwise
+pub carried : {A E : Type 0} (r : Result A E) (P Q : A → Type 0) → ((a : A) → P a → Q a) → IfOk r P → IfOk r Q
+carried (Ok a) P Q other is = other a is
+carried (Err e) P Q other is = tt
 
 -- ---- what they take for granted
 

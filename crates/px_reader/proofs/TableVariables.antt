@@ -1,8 +1,8 @@
 -- Variables of a table's block by their names, and what its lines change.
-use Rattle.px_reader.proofs.Common.{◌≡◌, ◌≢◌, ℕ, suc, ◌<◌, ◌≤◌, ◌+◌, ◌-◌, ◌||◌, not, Bool, true, false, List, [], ◌∷◌, ◌++◌, map, length, get_or, drop, refl, sym, ap, ◌∙◌, subst, arith, inl, inr, cases_lt, Option, None, Some, IfSome, Result, Ok, codes, has_name, number_in, bytes_eq, bytes_eq-Decides, both_answers, by_test, list_any, list_any-map, length-map, length-append, text_of, Bor, position-map}
+use Rattle.px_reader.proofs.Common.{◌≡◌, ◌≢◌, ℕ, suc, ◌<◌, ◌≤◌, ◌+◌, ◌-◌, ◌||◌, not, Bool, true, false, List, [], ◌∷◌, ◌++◌, map, length, get_or, drop, refl, sym, ap, ◌∙◌, subst, arith, inl, inr, cases_lt, Option, None, Some, Result, Ok, codes, get_or_append_left, has_name, number_in, bytes_eq, bytes_eq-Decides, both_answers, by_test, list_any, list_any-map, length-map, length-append}
 use Rattle.px_script.proofs.Common.{or_parts}
-use Rattle.std.specs.Prelude.{position, nat_lt, ◌^◌}
-use Rattle.std.proofs.Common.{zero}
+use Rattle.std.specs.Prelude.{position, nat_lt, ◌^◌, ◌/◌, ◌%◌}
+use Rattle.std.proofs.Common.{zero, OkIff}
 use Rattle.std.proofs.lemmas.Fmt.{decimal_by_steps, decimal-digits_value, decimal_digit, decimal_is_IsNumeral, parse-decimal}
 use Rattle.std.proofs.lemmas.List.FromFn.{length-range_with_len}
 use Rattle.std.proofs.lemmas.Str.Parse.{parse_plain}
@@ -11,7 +11,6 @@ use Rattle.std.specs.List.{position_or_len, range_with_len}
 use Rattle.px_script.proofs.Common.{all_ascii_digits, digits_value}
 use Rattle.std.specs.Str.Parse.{ParsesUnsigned}
 use Rattle.px_lines.proofs.Numbers.{own}
-use Rattle.px_lines.proofs.Parameters.{decimal-begins}
 use Rattle.px_terms.specs.Limits.{most_formula_variables}
 use Rattle.px_script.proofs.Lists.{within, number-kept, number-unknown, number-after, number-below}
 use Rattle.px_script.specs.Causes.{is_numbered_by}
@@ -61,6 +60,17 @@ module _ (letter : ℕ) where
 
 numbers-count : (letter most : ℕ) → length (letter_numbers letter most) ≡ most
 numbers-count letter most = length-map (range_with_len 1 most) (λ k. letter ∷ decimal k) ∙ length-range_with_len 1 most
+
+-- the text of a number above 0 doesn't begin with a zero or a sign
+abbrev BeginsAbove : ℕ → List ℕ → Type 0
+BeginsAbove n ds = (0 < length ds) × (0 < n → 48 < get_or ds 0 0)
+
+decimal-begins : (n : ℕ) → n < 2 ^ 64 → BeginsAbove n (decimal n)
+decimal-begins = decimal_by_steps BeginsAbove (λ n small. (omega arith, λ some. omega (arith, some))) (λ n ds large is. (
+  omega (arith, length-append ds ((48 + n % 10) ∷ []), is.0),
+  λ some. let tenth : 0 < n / 10
+      = omega (arith, large) in rw (get_or_append_left ds ((48 + n % 10) ∷ []) 0 0 is.0) (is.1 tenth),
+))
 
 -- ---- the names of parameters
 
@@ -119,15 +129,11 @@ pub goal-names-are : (codes "g1" ∷ codes "g2" ∷ codes "g3" ∷ codes "g4" �
 unfolding digits
 goal-names-are = refl
 
-pub goal-place : (v : List ℕ) (names : List (Bor (List ℕ))) (r : Option ℕ) → map text_of names ≡ goal_names
-    → r ≡ position (λ other. bytes_eq v other.now) names → IsPlaceOf goal_names v r
-goal-place v names r are is = told r (is ∙ sym (position-map (bytes_eq v) text_of names) ∙ ap (position (bytes_eq v)) are)
-  where
-    told : (r : Option ℕ) → r ≡ position (bytes_eq v) goal_names → IsPlaceOf goal_names v r
-    told None is = by_test (has_name v goal_names) (λ e. absurd (cc (rw (within (bytes_eq v) goal_names, e) at is))) (λ e. e)
-    told (Some place) is = by_test (has_name v goal_names)
-        (λ e. (e, let one = rw (within (bytes_eq v) goal_names, e) at is in rw (within (bytes_eq v) goal_names, e) cc))
-        (λ e. absurd (cc (rw (within (bytes_eq v) goal_names, e) at is)))
+pub goal-place : (v : List ℕ) (r : Option ℕ) → r ≡ position (bytes_eq v) goal_names → IsPlaceOf goal_names v r
+goal-place v None is = by_test (has_name v goal_names) (λ e. absurd (cc (rw (within (bytes_eq v) goal_names, e) at is))) (λ e. e)
+goal-place v (Some place) is = by_test (has_name v goal_names)
+    (λ e. (e, let one = rw (within (bytes_eq v) goal_names, e) at is in rw (within (bytes_eq v) goal_names, e) cc))
+    (λ e. absurd (cc (rw (within (bytes_eq v) goal_names, e) at is)))
 
 -- ---- numbers of both
 

@@ -31,8 +31,9 @@ impl Variables<'_, '_> {
 }
 
 /// Returns where a name stands among these.
+#[tactic(auto, using(crate::proofs::AtomTests::positions))]
 fn place_among(names: &[&str], name: &str) -> Option<usize>
-    ensures number { result ≡ position (λ other. bytes_eq name.now other.now) names.now }
+    ensures number { result ≡ position (bytes_eq name.now) (map text_of names.now) }
     ensures within { IfSome result (λ number. number < length names.now) }
 {
     names.iter().position(|other| name == *other)

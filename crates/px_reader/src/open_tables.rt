@@ -11,7 +11,7 @@ ghost use Rattle.px_reader.specs.Readers.{step_view, table_kind, table_view};
 ghost use Rattle.px_script.specs.Declarations.{table_parameters_here};
 
 use crate::blocks::{BlockKind, OpenBlock};
-use crate::line_variables::{Variables, goal_variables};
+use crate::line_variables::goal_variables;
 use crate::reader::Reader;
 use px_base::{NoMemory, push};
 use px_lines::{Argument, Part, SignedAtom};
@@ -85,7 +85,7 @@ impl Reader {
             ≡ leaves 0 (declared_of self.old) (spec.step operator.now (map argument_view terms.now))) }
     {
         let op = self.number(Kind::Operator, operator);
-        let terms = self.terms(&Variables::OfTable(self.table_parameters()), terms)?;
+        let terms = self.table_terms(terms)?;
         if let Some(block) = &mut self.block {
             if let BlockKind::Table(table) = &mut block.kind {
                 push(&mut table.steps, WrittenStep { op, terms })?;
@@ -100,7 +100,7 @@ impl Reader {
         requires few_parameters { table_parameters_here (declared_of self.old).block ≤ last_number }
         ensures { OnOk result (declared_of self.new ≡ leaves 0 (declared_of self.old) (spec.goal (map signed_view atoms.now))) }
     {
-        let goal = self.atoms(&Variables::OfTable(self.table_parameters()), atoms)?;
+        let goal = self.table_atoms(atoms)?;
         let goal_vars = goal_variables(atoms);
         if let Some(block) = &mut self.block {
             if let BlockKind::Table(table) = &mut block.kind {

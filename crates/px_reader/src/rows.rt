@@ -60,7 +60,7 @@ impl Reader {
         ensures { OnOk result (map derivation_of (reverse proofs.new.items) ≡ with_proof (declared_of self.now)
             (an_axiom clause place count (map argument_view terms.now)) (map derivation_of (reverse proofs.old.items))) }
     {
-        let theta = self.terms(&Variables::OfTable(self.table_parameters()), terms)?;
+        let theta = self.table_terms(terms)?;
         let subs = take_last(proofs, count as usize)?;
         let step = Proof::Step {
             clause,

@@ -1,6 +1,8 @@
 //! Terms, atoms and edits by numbers.
 ghost use Rattle.std.specs.Prelude.{◌≡◌, ◌≤◌, length, map, nat_lt, fold, IfOk, OnOk};
 ghost use Rattle.px_terms.specs.Limits.{most_arguments, most_formula_variables, most_parameters};
+ghost use Rattle.px_script.specs.Declarations.{table_parameters_here, table_term, table_variables};
+ghost use Rattle.px_script.specs.declared.limits.TheConstants.{LAST_NUMBER as last_number};
 ghost use Rattle.px_reader.specs.LineVariables.{AreFew, variables_view};
 ghost use Rattle.px_reader.specs.Common.{parameters_here, number_in, term_of, atom_of, literal_of, atom_edit_of, room_edit_of, binding_of, variable_names_of, AreReadable, with_variable, declared_of, argument_view, signed_view, room_edit_view, binding_view, text_of};
 
@@ -116,6 +118,25 @@ impl Reader {
             terms.push(self.term(variables, argument))?;
         }
         Ok(terms)
+    }
+
+    /// Returns the arguments by numbers, where they stand in a table's block.
+    pub fn table_terms(&self, arguments: &[Argument<'_>]) -> Result<Vec<Term>, NoMemory>
+        requires few { length (parameters_here (declared_of self.now)) ≤ most_parameters }
+        requires few_parameters { table_parameters_here (declared_of self.now).block ≤ last_number }
+        ensures { IfOk result (λ terms. terms.items ≡ map (table_term (declared_of self.now)) (map argument_view arguments.now)) }
+    {
+        self.terms(&Variables::OfTable(self.table_parameters()), arguments)
+    }
+
+    /// Returns the atoms by numbers, where they stand in a table's block.
+    pub fn table_atoms(&self, atoms: &[SignedAtom<'_>]) -> Result<Vec<Atom>, NoMemory>
+        requires readable { AreReadable (declared_of self.now) atoms.now }
+        requires few_parameters { table_parameters_here (declared_of self.now).block ≤ last_number }
+        ensures { IfOk result (λ numbered. numbered.items
+            ≡ map (atom_of (declared_of self.now) (table_variables (declared_of self.now))) (map signed_view atoms.now)) }
+    {
+        self.atoms(&Variables::OfTable(self.table_parameters()), atoms)
     }
 
     // Alike: `literals`, which gives each atom its sign.

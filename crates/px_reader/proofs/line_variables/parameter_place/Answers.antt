@@ -19,19 +19,45 @@ returns-then-starts_with c =
     elim c.then-starts_with.branch [
       | then-starts_with-via-then-starts_with w ↦
           let zero = (starts_char 48 digits c.starts_with.result c.starts_with.ensures.cases (lit< tt) (lit< tt)).0 w.if-starts_with.true in
-          no-digit c.args.name.now c.args.parameters digits c.in_range.parameters letter (omega (arith, zero))
+          no-digit c.args.name.now c.args.parameters digits c.ranges.parameters.fits letter (omega (arith, zero))
       | then-starts_with-via-else-starts_with+then-starts_with-2 w ↦
           let sign = (starts_char 43 digits w.starts_with-else-starts_with.result w.starts_with-else-starts_with.ensures.cases (lit< tt)
           (lit< tt)).0 w.if-starts_with-2.true in
-          no-digit c.args.name.now c.args.parameters digits c.in_range.parameters letter (omega (arith, sign))
+          no-digit c.args.name.now c.args.parameters digits c.ranges.parameters.fits letter (omega (arith, sign))
     ]
 
 pub returns-in-Ok : goal.returns-in-Ok
-returns-in-Ok c = ?
+returns-in-Ok c =
+    let digits = c.in_ok-digits.digits.now in
+    let letter = rw c.in_ok-digits.was at
+    (strip_prefix_char 112 c.args.name.now c.strip_prefix.result c.strip_prefix.ensures.cases (lit< tt)) in
+    let zero = starts_char 48 digits c.starts_with.result c.starts_with.ensures.cases (lit< tt) (lit< tt) in
+    let sign = starts_char 43 digits c.starts_with-else-starts_with.result c.starts_with-else-starts_with.ensures.cases (lit< tt)
+    (lit< tt) in
+    (a-number c.args.name.now c.args.parameters digits c.parse.result c.in-Ok.number c.ranges.parameters.fits letter
+    c.parse.ensures.value.0 c.in-Ok.is c.if-number-parameters.true
+    (λ e. both_answers c.starts_with.result c.if-starts_with.false (zero.1 e))
+    (λ e. both_answers c.starts_with-else-starts_with.result c.if-starts_with-2.false (sign.1 e))).1
+
+pub overflow_sub-result : goal.overflow_sub-result
+overflow_sub-result c =
+    let digits = c.in_ok-digits.digits.now in
+    let letter = rw c.in_ok-digits.was at
+    (strip_prefix_char 112 c.args.name.now c.strip_prefix.result c.strip_prefix.ensures.cases (lit< tt)) in
+    let zero = starts_char 48 digits c.starts_with.result c.starts_with.ensures.cases (lit< tt) (lit< tt) in
+    let sign = starts_char 43 digits c.starts_with-else-starts_with.result c.starts_with-else-starts_with.ensures.cases (lit< tt)
+    (lit< tt) in
+    let above = (a-number c.args.name.now c.args.parameters digits c.parse.result c.in-Ok.number c.ranges.parameters.fits letter
+    c.parse.ensures.value.0 c.in-Ok.is c.if-number-parameters.true
+    (λ e. both_answers c.starts_with.result c.if-starts_with.false (zero.1 e))
+    (λ e. both_answers c.starts_with-else-starts_with.result c.if-starts_with-2.false (sign.1 e))).0 in omega (arith, above)
+
+pub returns-in_default : goal.returns-in_default
+returns-in_default c = ?
 
 pub returns-in_default-2 : goal.returns-in_default-2
 returns-in_default-2 c =
     let letter = rw c.in_ok-digits.was at
     (strip_prefix_char 112 c.args.name.now c.strip_prefix.result c.strip_prefix.ensures.cases (lit< tt)) in
-    no-number c.args.name.now c.args.parameters c.in_ok-digits.digits.now c.parse.result c.in_range.parameters letter c.parse.ensures.value.0
+    no-number c.args.name.now c.args.parameters c.in_ok-digits.digits.now c.parse.result c.ranges.parameters.fits letter c.parse.ensures.value.0
     (λ n ok small. let is = c.in_default.is in cc)
