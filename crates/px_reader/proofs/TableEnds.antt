@@ -1,6 +1,7 @@
 -- The end of a table's block: its steps as instances, its proofs, and when its parts make a table.
 use Rattle.px_base.specs.Bounds.{u32_max}
-use Rattle.px_reader.proofs.Common.{◌≡◌, ℕ, ◌≤◌, ◌<◌, ◌+◌, ◌&&◌, ◌==◌, not, Bool, true, false, List, [], ◌∷◌, map, length, refl, sym, ap, ◌∙◌, subst, arith, nat_lt, nat_tests, list_any, list_all, and_parts, by_test, both_answers, Problem, length-map, eqb-true, not-false}
+use Rattle.px_reader.proofs.Common.{◌≡◌, ℕ, ◌≤◌, ◌<◌, ◌+◌, ◌&&◌, ◌==◌, not, Bool, true, false, List, [], ◌∷◌, map, length, refl, sym, ap, ◌∙◌, subst, arith, nat_lt, nat_tests, list_any, and_parts, by_test, both_answers, Problem, length-map, eqb-true, not-false}
+use Rattle.std.specs.List.{list_all}
 use Rattle.px_script.proofs.Common.{ltb-true}
 use Rattle.px_proof.specs.Derivation.{Derivation}
 use Rattle.px_proof.specs.LayerLaws.{comes_back, proof_of}

@@ -3,16 +3,20 @@ use Rattle.px_reader.proofs.Common.{◌≡◌, ℕ, ◌≤◌, Bool, true, false
 use Rattle.px_terms.specs.Limits.{most_arguments, most_parameters}
 use Rattle.px_script.proofs.Common.{All-nil, All-cons, All-head, All-tail}
 use Rattle.px_script.proofs.States.{IsBlockInRange}
-use Rattle.px_script.specs.Declarations.{BlockKind, WrittenTable, after_goal, change_table, of_operator, of_building, of_table_steps, of_table_rows, problem_here, table_here, table_parameters, table_parameters_here, parameters_here, operator_here}
+use Rattle.px_reader.proofs.Common.{Reader, Atom, atom_of, declared_of, leaves}
+use Rattle.px_script.specs.Declarations.{goal_variables, table_variables, BlockKind, WrittenTable, after_goal, change_table, of_operator, of_building, of_table_steps, of_table_rows, problem_here, table_here, table_parameters, table_parameters_here, parameters_here, operator_here}
 use Rattle.px_script.specs.Faults.{is_bad_block, steps_here}
 use Rattle.px_script.specs.Items.{atoms_of_part}
 use Rattle.px_script.specs.declared.limits.TheConstants.{LAST_NUMBER as last_number}
-use Rattle.px_script.specs.Statements.{proof, end}
+use Rattle.px_script.specs.Statements.{proof, goal, end}
 use Rattle.px_lines.specs.ItemViews.{part_view}
 use Rattle.px_lines.specs.declared.parts.Part.{Part}
 use Rattle.px_lines.specs.declared.parts.Part.TheVariants as part
 use Rattle.px_reader.specs.Heights.{AreReadableParts, IsNarrow, IsReadablePart}
-use Rattle.px_reader.specs.Readers.{kind_here, table_kind}
+use Rattle.px_reader.specs.Readers.{kind_here, kind_view, open_block_view, table_kind, table_view}
+use Rattle.px_reader.specs.declared.blocks as block
+use Rattle.px_reader.specs.declared.blocks.OpenBlock as code
+use Rattle.px_reader.specs.declared.open_tables.OpenTable as table
 use Rattle.px_reader.proofs.Right.{few-in, sizes}
 
 -- what is told of a result is told otherwise
@@ -92,7 +96,15 @@ no-table (Some block) none = go block.kind none
     go (of_table_rows t) none = cc
 
 pub no-steps : (block : Option OpenBlock) → table_here block ≡ None → steps_here block ≡ 0
-no-steps block none = rw none refl
+no-steps None none = refl
+no-steps (Some block) none = go block.kind none
+  where
+    go : (kind : BlockKind) → table_here (Some (record { line = block.line; kind = kind })) ≡ None
+        → steps_here (Some (record { line = block.line; kind = kind })) ≡ 0
+    go (of_operator o) none = refl
+    go of_building none = refl
+    go (of_table_steps t) none = cc
+    go (of_table_rows t) none = cc
 
 pub parameters-are : (has_goal : Bool) (t : WrittenTable) (block : Option OpenBlock) → option_map (λ block. block.kind) block
     ≡ Some (table_kind has_goal t) → table_parameters_here block ≡ t.parameters
@@ -113,6 +125,34 @@ steps-are has_goal t (Some block) is = let same : block.kind ≡ table_kind has_
     told : (has_goal : Bool) → steps_here (Some (record { line = block.line; kind = table_kind has_goal t })) ≡ length t.steps
     told true = refl
     told false = refl
+
+-- the kind of an open block of a table
+pub kind-is : (number : ℕ) (opened : Option code.OpenBlock) (b : code.OpenBlock) (t : table.OpenTable) → opened ≡ Some b
+    → b.kind ≡ block.BlockKind.TheVariants.Table t
+    → option_map (λ block. block.kind) (option_map (open_block_view number) opened) ≡ Some (table_kind t.has_goal (table_view t))
+kind-is number opened b t is kind = ap (λ o. option_map (λ block. block.kind) (option_map (open_block_view number) o)) is
+    ∙ ap (λ k. Some (kind_view number k)) kind
+
+-- the goal of the table is set
+pub goal-set : (reader : Reader) (b : code.OpenBlock) (t : table.OpenTable) (aim : List Atom) (vars : ℕ) (xs : List SignedAtom)
+    → reader.block ≡ Some b → b.kind ≡ block.BlockKind.TheVariants.Table t
+    → aim ≡ map (atom_of (declared_of reader) (table_variables (declared_of reader))) xs → vars ≡ goal_variables (declared_of reader) xs
+    → ◌≡◌ {A = Declared} (record (declared_of reader) {
+      block = Some (record { line = b.line; kind = of_table_rows (record (table_view t) { goal = aim; goal_vars = vars }) });
+    }) (leaves 0 (declared_of reader) (goal xs))
+goal-set reader b t aim vars xs is kind aim_is vars_are =
+    let d = declared_of reader in
+    let n = length reader.schemas.items in
+    let f : WrittenTable → WrittenTable = λ w. record w { goal = map (atom_of d (table_variables d)) xs; goal_vars = goal_variables d xs } in
+    let here : d.block ≡ Some (record { line = b.line; kind = table_kind t.has_goal (table_view t) })
+    = ap (option_map (open_block_view n)) is ∙ ap (λ k. Some (record { line = b.line; kind = kind_view n k })) kind in
+    let new : record (table_view t) { goal = aim; goal_vars = vars } ≡ f (table_view t)
+    = λ i. record (table_view t) { goal = aim_is i; goal_vars = vars_are i } in
+    ap (λ (w : WrittenTable). record d { block = Some (record { line = b.line; kind = of_table_rows w }) }) new
+    ∙ ap (λ (k : BlockKind). record d { block = Some (record { line = b.line; kind = k }) }) (sym (aimed f t.has_goal (table_view t)))
+    ∙ ap (λ (o : Option OpenBlock). record d {
+      block = option_map {T = OpenBlock} (λ block. record block { kind = after_goal (change_table f block.kind) }) o;
+    }) (sym here)
 
 -- ---- its end
 

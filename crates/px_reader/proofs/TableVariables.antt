@@ -1,7 +1,7 @@
 -- Variables of a table's block by their names, and what its lines change.
 use Rattle.px_reader.proofs.Common.{◌≡◌, ◌≢◌, ℕ, suc, ◌<◌, ◌≤◌, ◌+◌, ◌-◌, ◌||◌, not, Bool, true, false, List, [], ◌∷◌, ◌++◌, map, length, get_or, drop, refl, sym, ap, ◌∙◌, subst, arith, inl, inr, cases_lt, Option, None, Some, Result, Ok, codes, get_or_append_left, has_name, number_in, bytes_eq, bytes_eq-Decides, both_answers, by_test, list_any, list_any-map, length-map, length-append}
 use Rattle.px_script.proofs.Common.{or_parts}
-use Rattle.std.specs.Prelude.{position, nat_lt, ◌^◌, ◌/◌, ◌%◌}
+use Rattle.std.specs.Prelude.{is_some, position, nat_lt, ◌^◌, ◌/◌, ◌%◌}
 use Rattle.std.proofs.Common.{zero, OkIff}
 use Rattle.std.proofs.lemmas.Fmt.{decimal_by_steps, decimal-digits_value, decimal_digit, decimal_is_IsNumeral, parse-decimal}
 use Rattle.std.proofs.lemmas.List.FromFn.{length-range_with_len}
@@ -112,15 +112,20 @@ module _ (v : List ℕ) (parameters : ℕ) where
       ] in
       let named : v ≡ 112 ∷ decimal n = is ∙ ap (λ t. 112 ∷ t) (sym text) ∙ ap (λ m. 112 ∷ decimal m) (sym value) in
       let found = one-from 112 v 1 parameters n named (omega (arith, small, few)) (omega (arith, above)) (omega (arith, small)) in
-      (above, (found.0, sym (number-known-at found.0 found.1)))
+      (above, (found.0, sym (number-known-at n found.0 found.1)))
     where
-      number-known-at : {n : ℕ} → list_any (bytes_eq v) (letter_numbers 112 parameters) ≡ true
+      number-known-at : (n : ℕ) → list_any (bytes_eq v) (letter_numbers 112 parameters) ≡ true
           → position_or_len (bytes_eq v) (letter_numbers 112 parameters) ≡ n - 1 → number_in v (letter_numbers 112 parameters) ≡ n - 1
-      number-known-at there place = rw (within (bytes_eq v) (letter_numbers 112 parameters), there) place
+      number-known-at n there place = rw (within (bytes_eq v) (letter_numbers 112 parameters), there) place
 
 -- a test of a letter's numbers asks for one of its names
 pub numbered-is : (letter most : ℕ) (v : List ℕ) → has_name v (letter_numbers letter most) ≡ is_numbered_by letter most v
 numbered-is letter most v = list_any-map (bytes_eq v) (λ k. letter ∷ decimal k) (range_with_len 1 most)
+
+pub place-numbered : (letter most : ℕ) (v : List ℕ) (r : Option ℕ) → IsPlaceOf (letter_numbers letter most) v r
+    → is_some r ≡ is_numbered_by letter most v
+place-numbered letter most v None none = sym none ∙ numbered-is letter most v
+place-numbered letter most v (Some place) is = sym is.0 ∙ numbered-is letter most v
 
 -- ---- the variables of a goal, one by one
 

@@ -30,13 +30,20 @@ impl Variables<'_, '_> {
     }
 }
 
+fn position_among(names: &[&str], name: &str) -> Option<usize>
+    ensures number { result ≡ position (λ other. bytes_eq name.now other.now) names.now }
+    ensures within { IfSome result (λ number. number < length names.now) }
+{
+    names.iter().position(|other| name == *other)
+}
+
 /// Returns where a name stands among these.
 #[tactic(auto, using(crate::proofs::AtomTests::positions))]
 fn place_among(names: &[&str], name: &str) -> Option<usize>
     ensures number { result ≡ position (bytes_eq name.now) (map text_of names.now) }
     ensures within { IfSome result (λ number. number < length names.now) }
 {
-    names.iter().position(|other| name == *other)
+    position_among(names, name)
 }
 
 /// Returns whether the name is one of these.

@@ -46,14 +46,12 @@ fn takes_variable(parameters: u32, manner: Manner, name: &str) -> bool
     }
 }
 
-#[tactic(auto, using(crate::proofs::TableVariables::of_tables))]
 fn is_parameter(parameters: u32, name: &str) -> bool
     ensures { result ≡ is_numbered_by 112 parameters name.now }
 {
     parameter_place(parameters, name).is_some()
 }
 
-#[tactic(auto, using(crate::proofs::TableVariables::of_tables))]
 fn is_goal_variable(name: &str) -> bool
     ensures { result ≡ is_numbered_by 103 most_formula_variables name.now }
 {

@@ -1,5 +1,5 @@
 -- Proofs of the goals that `parameter_place` of src/line_variables.rt leaves open.
-use Rattle.px_reader.proofs.Common.{◌∙◌, arith, lit<, both_answers}
+use Rattle.px_reader.proofs.Common.{◌≡◌, ◌∙◌, sym, arith, lit<, both_answers}
 use Rattle.std.proofs.lemmas.Str.Pattern.{starts_char, strip_prefix_char}
 use Rattle.px_reader.proofs.TableVariables.{no-letter, no-digit, no-number, a-number}
 use Rattle.px_reader.proofs.line_variables.parameter_place.Goals as goal
@@ -53,7 +53,12 @@ overflow_sub-result c =
     (λ e. both_answers c.starts_with-else-starts_with.result c.if-starts_with-2.false (sign.1 e))).0 in omega (arith, above)
 
 pub returns-in_default : goal.returns-in_default
-returns-in_default c = ?
+returns-in_default c =
+    let letter = rw c.in_ok-digits.was at
+    (strip_prefix_char 112 c.args.name.now c.strip_prefix.result c.strip_prefix.ensures.cases (lit< tt)) in
+    no-number c.args.name.now c.args.parameters c.in_ok-digits.digits.now c.parse.result c.ranges.parameters.fits letter
+    c.parse.ensures.value.0 (λ n ok small. let both = sym ok ∙ c.in-Ok.is in let same : n ≡ c.in-Ok.number = cc in
+    omega (arith, same, small, c.if-number-parameters.false))
 
 pub returns-in_default-2 : goal.returns-in_default-2
 returns-in_default-2 c =

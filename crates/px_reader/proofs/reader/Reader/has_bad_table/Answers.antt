@@ -10,6 +10,6 @@ problem_here-requires c = table-problem (declared_of c.args.self.now) c.in-Some.
     (rw c.in-Some.is at c.open_table.ensures) c.requires
 
 pub is_bad-requires : goal.is_bad-requires
-is_bad-requires c = subst IsValid (sym c.in_ok-problem.ensures)
+is_bad-requires c = subst IsValid (sym c.in_ok-problem-in-Some.ensures)
     (table-problem (declared_of c.args.self.now) c.in-Some.table.now.has_goal (table_view c.in-Some.table.now)
     (rw c.in-Some.is at c.open_table.ensures) c.requires).valid
