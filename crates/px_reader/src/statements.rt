@@ -406,6 +406,21 @@ fn edits<'line, 'text>(
 }
 
 #[tactic(auto, using(crate::proofs::Times::untimed))]
+fn timed<'line, 'text>(
+    with_building: bool,
+    turn: u32,
+    time: &str,
+    last: &'line Rest<'text>,
+) -> Option<Statement<'line, 'text>>
+    ensures { option_map statement_view result ≡ make_disturb with_building
+        (items.amount turn ∷ items.the time.now ∷ rest_view last.now) }
+{
+    match between_of(time) {
+        Some(between) => edits(with_building, turn, between, last),
+        None => None,
+    }
+}
+
 fn disturb<'line, 'text>(
     with_building: bool,
     ones: &[Said<'text>],
@@ -415,10 +430,7 @@ fn disturb<'line, 'text>(
     ensures { option_map statement_view result ≡ make_disturb with_building (said_items ones.now last.now) }
 {
     match ones {
-        [Said::Number(turn), Said::The(time)] => match between_of(time) {
-            Some(between) => edits(with_building, *turn, between, last),
-            None => None,
-        },
+        [Said::Number(turn), Said::The(time)] => timed(with_building, *turn, time, last),
         _ => None,
     }
 }

@@ -9,15 +9,15 @@ read_lines-requires-clause-few c =
     let same = ap length c.deref.ensures.value in
     omega (arith, few, same, c.requires)
 
-pub returns-in-Ok-2-clause-script : goal.returns-in-Ok-2-clause-script
-returns-in-Ok-2-clause-script c =
+pub returns-clause-script : goal.returns-clause-script
+returns-clause-script c =
     let lines : characters_of c.deref.result.now ≡ lines_of c.args.text.now = ap characters_of c.deref.ensures.value
     ∙ parts-lines c.in-Ok.lines.items c.args.text.now (rw c.without_mark.ensures at c.in-Ok.ensures) in
     (text-ends (stage_view c.args.stage.now) c.args.text.now _ c.read_lines.result lines c.utf8.text c.read_lines.ensures.script
     c.read_lines.ensures.fails).0
 
-pub returns-in-Ok-2-clause-refused : goal.returns-in-Ok-2-clause-refused
-returns-in-Ok-2-clause-refused c =
+pub returns-clause-refused : goal.returns-clause-refused
+returns-clause-refused c =
     let lines : characters_of c.deref.result.now ≡ lines_of c.args.text.now = ap characters_of c.deref.ensures.value
     ∙ parts-lines c.in-Ok.lines.items c.args.text.now (rw c.without_mark.ensures at c.in-Ok.ensures) in
     (text-ends (stage_view c.args.stage.now) c.args.text.now _ c.read_lines.result lines c.utf8.text c.read_lines.ensures.script
