@@ -117,7 +117,12 @@ notedited F prefix
     ),
     // What is saved is read and run, and saved as it was read.
     (
-        &[("script 2\n", 1), DANGER, BLOCK, ("save M\nrun M p1=a\n", 1)],
+        &[
+            ("script 2\n", 1),
+            DANGER,
+            BLOCK,
+            ("save M\nrun M p1=a\n", 1),
+        ],
         &[
             BLOCK,
             (
