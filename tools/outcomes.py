@@ -44,6 +44,38 @@ def rows(lines):
         yield row(*found.groups()) if found else line
 
 
+CLASSICS = TOP / 'examples' / 'classics'
+
+
+def classics(_):
+    """The table of the classics in docs/SOLVES.md, by what answers with each weight and by what was measured."""
+    measured = [line.split() for line in (CLASSICS / 'measured.txt').read_text().splitlines()]
+    numbers = {(name, weight): (first, second) for name, weight, first, second in measured}
+    told = dict(re.findall(r'^(\S+ weight \d+): (.*)$', (CLASSICS / 'weights.txt').read_text(), re.M))
+    yield '| Script | Known from | `weight 0` | `weight 16` | `weight 1000` | Blind |'
+    yield '|---|---|---|---|---|---|'
+    for script in sorted(CLASSICS.glob('*.planex')):
+        name = script.stem
+        cells = [with_weight(told[f'{name} weight {weight}'], *numbers[name, str(weight)]) for weight in (0, 16, 1000)]
+        steps, states = numbers[name, 'blind']
+        yield (f'| [{name}](../examples/classics/{name}.planex) | {known_from(script)} | {" | ".join(cells[:2])} '
+               f'| {"the same" if told[f"{name} weight 16"] == told[f"{name} weight 1000"] and numbers[name, "16"][0] == numbers[name, "1000"][0] else cells[2]} '
+               f'| {steps} steps, {int(states):,} states |')
+
+
+def with_weight(told, nodes, took):
+    """A cell of the table of the classics."""
+    words = told.split()
+    return f'{words[2]} steps, {int(nodes):,} nodes, {took} ms' if words[0] == 'plan' else f'{words[0]}, {took} ms'
+
+
+def known_from(script):
+    """The source that the comment at the head of a script names in parentheses."""
+    comment = ' '.join(line[2:] for line in script.read_text().splitlines() if line.startswith('# '))
+    found = re.search(r'\(([^()]*(?:\d{4}|competition))\)', comment)
+    return found.group(1) if found else ''
+
+
 def pddl_rows(lines):
     """The table of docs/PDDL.md, with what comes out of each problem and what with --distinct told anew where it is recorded."""
     for line in filter(None, lines):
