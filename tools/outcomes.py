@@ -76,21 +76,26 @@ def known_from(script):
     return found.group(1) if found else ''
 
 
+PDDL = TOP / 'examples' / 'pddl'
+
+
 def pddl_rows(lines):
-    """The table of docs/PDDL.md, with what comes out of each problem and what with --distinct told anew where it is recorded."""
+    """The table of docs/PDDL.md, with what comes out of each problem, what was measured of it, and what comes out with --distinct told anew."""
+    measured = {name: (nodes, took) for name, nodes, took in (line.split() for line in (PDDL / 'measured.txt').read_text().splitlines())}
     for line in filter(None, lines):
         cells = line.strip('|').split('|')
         if found := re.fullmatch(r' `(\w+/[\w-]+)` ', cells[1]):
-            stem = TOP / 'examples' / 'pddl' / found.group(1)
+            stem = PDDL / found.group(1)
             plain, distinct = (came_of(stem.with_suffix(suffix)) for suffix in ('.out', '.distinct.out'))
             remark = cells[3].strip().partition(';')[2]
-            if plain:
-                cells[3] = f' {plain}{";" if remark else ""}{remark} '
+            nodes, took = measured[found.group(1)]
+            cells[3] = f' {plain}{";" if remark else ""}{remark} '
+            cells[4], cells[5] = f' {int(nodes):,} ' if nodes.isdigit() else ' ', f' {took} '
             if distinct:
-                cells[5] = f' {"the same" if distinct == plain else distinct} '
+                cells[6] = f' {"the same" if distinct == plain else distinct} '
         yield f'|{"|".join(cells)}|'
 
 
 def came_of(out):
     """The same of a problem in PDDL; nothing where that isn't recorded."""
-    return (outcome(out, 'solution') if out.exists() else '').replace(', 50,000 nodes', '')
+    return re.sub(', [0-9]* moves|, 1,000,000 nodes', '', (outcome(out, 'solution') or '') if out.exists() else '')
