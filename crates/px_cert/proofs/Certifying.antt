@@ -150,12 +150,18 @@ module _ (p : Problem) (t : Table) (is : IsCertifiable p t) where
           λ k s below. let sort = is.table_is.sorted.sorts k s below in let most = is.sorts in omega (arith, sort, most),
         );
         goal_vars = is.goal.0;
-        goal = (is.goal.1, λ k a below.
-            let atom = is.table_is.in_range.goal k a below in
-            (atom.0, λ j u inside. own_term (t.params + t.goal_vars) (omega (arith, few, vars)) _ (atom.1 j u inside)));
-        steps = (is.steps, λ k inst below.
-            let inst_is = is.table_is.in_range.steps k inst below in
-            (inst_is.op, inst_is.count, λ j u inside. own_term t.params (omega (arith, few)) _ (inst_is.terms j u inside)));
+        goal = (
+          is.goal.1,
+          λ k a below.
+              let atom = is.table_is.in_range.goal k a below in
+              (atom.0, λ j u inside. own_term (t.params + t.goal_vars) (omega (arith, few, vars)) _ (atom.1 j u inside)),
+        );
+        steps = (
+          is.steps,
+          λ k inst below.
+              let inst_is = is.table_is.in_range.steps k inst below in
+              (inst_is.op, inst_is.count, λ j u inside. own_term t.params (omega (arith, few)) _ (inst_is.terms j u inside)),
+        );
         row_count =
             let whole = rows_count (IsObjectOrParameter p.objects t.params) p t.params t.steps t.goal t.goal_vars (rows_of t.proofs)
             is.table_is.prove in

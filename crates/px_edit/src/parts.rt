@@ -26,7 +26,9 @@ const MOST_KEPT_HEIGHT: u32 = 56;
 fn has_high_proof(proofs: &[Proof]) -> bool
     ensures { IsTrue result ↔ Any (λ proof. most_kept_height < height (derivation_of proof)) proofs.now }
 {
-    proofs.iter().any(|proof| higher_than(proof, MOST_KEPT_HEIGHT))
+    proofs
+        .iter()
+        .any(|proof| higher_than(proof, MOST_KEPT_HEIGHT))
 }
 
 /// Returns whether a proof of the row of the kept step at the place is higher than those of a learned table may be.
