@@ -47,11 +47,26 @@ def rows(lines):
 CLASSICS = TOP / 'examples' / 'classics'
 
 
-def classics(_):
-    """The table of the classics in docs/SOLVES.md, by what answers with each weight and by what was measured."""
+def measured_classics():
+    """What answers each script with each weight, and two numbers that were measured of it."""
     measured = [line.split() for line in (CLASSICS / 'measured.txt').read_text().splitlines()]
     numbers = {(name, weight): (first, second) for name, weight, first, second in measured}
-    told = dict(re.findall(r'^(\S+ weight \d+): (.*)$', (CLASSICS / 'weights.txt').read_text(), re.M))
+    return dict(re.findall(r'^(\S+ weight \d+): (.*)$', (CLASSICS / 'weights.txt').read_text(), re.M)), numbers
+
+
+def weights(_):
+    """The table of docs/TUTORIAL.md: how long some plans are by the weight."""
+    told, numbers = measured_classics()
+    yield '| | `weight 0` | `weight 3` | `weight 16` | `weight 1000` | fewest steps |'
+    yield '|---|---|---|---|---|---|'
+    for name, title in ('sussman', 'three blocks'), ('blocks', 'four blocks'), ('rooms4', 'four rooms'), ('packages', 'two packages'):
+        cells = [with_weight(told[f'{name} weight {weight}'], *numbers[name, str(weight)]).rpartition(',')[0] for weight in (0, 3, 16, 1000)]
+        yield f'| [{title}](../examples/classics/{name}.planex) | {" | ".join(cells)} | {numbers[name, "blind"][0]} |'
+
+
+def classics(_):
+    """The table of the classics in docs/SOLVES.md, by what answers with each weight and by what was measured."""
+    told, numbers = measured_classics()
     yield '| Script | Known from | `weight 0` | `weight 16` | `weight 1000` | Blind |'
     yield '|---|---|---|---|---|---|'
     for script in sorted(CLASSICS.glob('*.planex')):
