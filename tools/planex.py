@@ -288,6 +288,14 @@ class Reply:
         """Takes the numbers of the first line, and the lines that follow it."""
 
 
+class Reasoned:
+    """A reply whose last word says why a table isn't given."""
+
+    @property
+    def why(self):
+        return self.text.split()[2]
+
+
 @dataclass
 class Plan(Reply):
     """A plan: the steps, which are instances of operators, and how many moves of the search led to it."""
@@ -340,13 +348,9 @@ class Learned(Reply):
 
 
 @dataclass
-class NotLearned(Reply):
+class NotLearned(Reasoned, Reply):
     """A plan wasn't learned, and why."""
     word, form = 'notlearned', f'notlearned {NAME} (?:toolong|toodeep|toowide|full)'
-
-    @property
-    def why(self):
-        return self.text.split()[2]
 
 
 @dataclass
@@ -366,13 +370,9 @@ class Edited(Reply):
 
 
 @dataclass
-class NotEdited(Reply):
+class NotEdited(Reasoned, Reply):
     """A table wasn't edited, and why."""
     word, form = 'notedited', f'notedited {NAME} (?:prefix|want|toolong|toodeep|full)'
-
-    @property
-    def why(self):
-        return self.text.split()[2]
 
 
 @dataclass
@@ -467,13 +467,9 @@ class Saved(Reply):
 
 
 @dataclass
-class NotSaved(Reply):
+class NotSaved(Reasoned, Reply):
     """A table can't be a block, and why."""
     word, form = 'notsaved', f'notsaved {NAME} (?:toolong|toodeep|toomany)'
-
-    @property
-    def why(self):
-        return self.text.split()[2]
 
 
 @dataclass
@@ -505,13 +501,9 @@ class Certified(Reply):
 
 
 @dataclass
-class NotCertified(Reply):
+class NotCertified(Reasoned, Reply):
     """A table has no certificate, and why."""
     word, form = 'notcertified', f'notcertified {NAME} (?:toolong|toodeep|toomany)'
-
-    @property
-    def why(self):
-        return self.text.split()[2]
 
 
 @dataclass
