@@ -50,7 +50,9 @@ fn a_formula_is_open(rt: HostRuntime) -> Result<(), Fail> {
         Tried::Unanswered => {
             let known = known_formula(alloc, &problem, &goal, 1, &model)?;
             let missing = [is_in(o(6), o(1))];
-            assert!(&rt; matches!(&known, Known::Open(gaps) if gaps.as_slice() == missing.as_slice()));
+            assert!(&rt;
+                matches!(&known, Known::Open(gaps) if gaps.as_slice() == missing.as_slice())
+            );
         }
         Tried::Answered | Tried::Limited { .. } => assert!(&rt; false),
     }

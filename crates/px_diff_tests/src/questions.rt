@@ -38,8 +38,22 @@ fn objects_that_do_not_fit_are_not_asked_about(rt: HostRuntime) {
     let none = measured_of(alloc, &rt, sorted_rooms(alloc, 0), &[], opening(alloc), &[]);
     assert!(&rt; none.questions == 0 && none.entries.is_empty());
     let wanted = [is_in(o(0), o(3))];
-    let few = measured_of(alloc, &rt, sorted_rooms(alloc, 0), &[], opening(alloc), &wanted);
-    let many = measured_of(alloc, &rt, sorted_rooms(alloc, 193), &[], opening(alloc), &wanted);
+    let few = measured_of(
+        alloc,
+        &rt,
+        sorted_rooms(alloc, 0),
+        &[],
+        opening(alloc),
+        &wanted,
+    );
+    let many = measured_of(
+        alloc,
+        &rt,
+        sorted_rooms(alloc, 193),
+        &[],
+        opening(alloc),
+        &wanted,
+    );
     assert!(&rt; few.entries.len() == 2 && many.entries.as_slice() == few.entries.as_slice());
     assert!(&rt; few.questions > 0 && many.questions == few.questions);
 }
@@ -102,8 +116,22 @@ fn rows_ask_nothing_about_what_does_not_fit(rt: HostRuntime) {
     let tables = [begin_and_finish(alloc).expect(&rt, "memory")];
     let wanted = [atom(2, &[])];
     let given = [atom(0, &[o(0)])];
-    let few = measured_of(alloc, &rt, finishing(alloc, 1), &tables, model_of(alloc, &given), &wanted);
-    let many = measured_of(alloc, &rt, finishing(alloc, 6), &tables, model_of(alloc, &given), &wanted);
+    let few = measured_of(
+        alloc,
+        &rt,
+        finishing(alloc, 1),
+        &tables,
+        model_of(alloc, &given),
+        &wanted,
+    );
+    let many = measured_of(
+        alloc,
+        &rt,
+        finishing(alloc, 6),
+        &tables,
+        model_of(alloc, &given),
+        &wanted,
+    );
     assert!(&rt; few.entries.len() == 2 && many.entries.len() == 2);
     assert!(&rt; few.questions > 0 && many.questions == few.questions);
 }

@@ -5,7 +5,8 @@ ghost use Rattle.px_terms.specs.Validity.{IsValid, IsAtomOf};
 use px_ops::Model;
 use px_prover::{ProveErr, gap_lists, gap_patterns, patterns_are_lists, prove};
 use px_samples::{
-    add_axiom, atom, box_in_first_room, is_box, is_in, no, o, opening, problem_of, rooms, schema, v, yes,
+    add_axiom, atom, box_in_first_room, is_box, is_in, no, o, opening, problem_of, rooms, schema,
+    v, yes,
 };
 use px_terms::{Atom, ClauseArena, Problem, are_atoms_of, is_valid};
 use std::alloc::Global;

@@ -6,8 +6,8 @@ use px_duo::{
 use px_general::{general_is_one, worked_general};
 use px_match::{danger_kernels, danger_sensed, sensed_is_one};
 use px_planex::{
-    acts_and_goes_on, danger_runs, events_take_places, goal_is_reached,
-    guard_never, runs_are_one, runs_are_traces, traces_are_one, traces_exist, turns_are_few,
+    acts_and_goes_on, danger_runs, events_take_places, goal_is_reached, guard_never, runs_are_one,
+    runs_are_traces, traces_are_one, traces_exist, turns_are_few,
 };
 use px_table::{
     entries_are_ordered, kernels_are_marks, marks_are_compared, moves_are_compared,
