@@ -188,9 +188,11 @@ def pursuit_part(item, script, layout):
 
 
 def tree_part(item):
-    """A search as a tree."""
-    return (f'<section class="drawn"><h3>{text(item.reply.text)}</h3>{goal(item, 3)}<p>{text(tree.summary(item.reply))}</p>'
-            f'{tree.picture(item.reply)}</section>')
+    """A search as a tree, with what is said of the node that is chosen."""
+    reply = item.reply
+    return (f'<section class="drawn"><h3>{text(reply.text)}</h3>{goal(item, 3)}<p>{text(tree.summary(reply))}</p>'
+            f'<div class="search slide" tabindex="-1" data-title="{text(reply.text)}">{tree.levels(reply)}{FULL}<p role="status"></p>'
+            f'{figure(tree.picture(reply), f"search {reply.name}")}</div></section>')
 
 
 def lines_part(reply, caption):

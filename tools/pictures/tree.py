@@ -61,17 +61,21 @@ def wide(tree):
     return min(36, max(12, *(columns(moved(each)) + 6 for each in tree.nodes)))
 
 
+def levels(tree):
+    """The choice of how many levels are seen, where there are several."""
+    depths = tree.depths()
+    return (f'<p class="levels" hidden><label>levels shown of {text(tree.name)} <input type="range" min="0" max="{max(depths)}" '
+            f'value="{levels_open(depths)}"></label></p>') if max(depths) else ''
+
+
 def picture(tree):
-    """The tree, with what is said of the node that is chosen."""
+    """The tree, which is gone through by the keyboard."""
     depths, path = tree.depths(), tree.path()
     children = [[] for _ in tree.nodes]
     for number, each in enumerate(tree.nodes[1:], 1):
         children[each.before].append(number)
-    last, level = max(depths), levels_open(depths)
-    slider = (f'<p class="levels" hidden><label>levels shown of {text(tree.name)} <input type="range" min="0" max="{last}" value="{level}">'
-              '</label></p>') if last else ''
-    return (f'<div class="search">{slider}<p role="status"></p><div class="around"><ul role="tree" aria-label="search {text(tree.name)}" '
-            f'style="--wide: {wide(tree)}ch">{"".join(node(tree, 0, depths, children, path, level))}</ul></div></div>')
+    return (f'<ul role="tree" aria-label="search {text(tree.name)}" style="--wide: {wide(tree)}ch">'
+            f'{"".join(node(tree, 0, depths, children, path, levels_open(depths)))}</ul>')
 
 
 def summary(tree):

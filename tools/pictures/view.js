@@ -78,13 +78,14 @@ document.querySelectorAll('.search').forEach(function (search) {
   function above(item) { return item.parentElement.closest('li'); }
   function isSeen(item) { return !item.closest('[hidden]'); }
   function choose(item) {
-    if (!item) return;
+    if (!item) return false;
     chosen.tabIndex = -1; chosen = item; chosen.tabIndex = 0;
     said.textContent = item.dataset.said; chosen.focus();
+    return true;
   }
-  function along(by) {
+  function go(to) {
     var seen = nodes.filter(isSeen);
-    choose(seen[seen.indexOf(chosen) + by]);
+    return choose(seen[to === 'first' ? 0 : to === 'last' ? seen.length - 1 : seen.indexOf(chosen) + to]);
   }
   if (slider) {
     slider.closest('p').hidden = false;
@@ -103,18 +104,19 @@ document.querySelectorAll('.search').forEach(function (search) {
   tree.addEventListener('keydown', function (event) {
     var opened = chosen.getAttribute('aria-expanded');
     if (event.ctrlKey || event.altKey || event.metaKey) return;
-    if (event.key === 'ArrowDown') along(1);
-    else if (event.key === 'ArrowUp') along(-1);
+    if (event.key === 'ArrowDown') go(1);
+    else if (event.key === 'ArrowUp') go(-1);
     else if (event.key === 'ArrowRight' && opened === 'false') fold(chosen, false);
     else if (event.key === 'ArrowRight' && opened) choose(chosen.lastElementChild.firstElementChild);
     else if (event.key === 'ArrowLeft' && opened === 'true') fold(chosen, true);
     else if (event.key === 'ArrowLeft') choose(above(chosen));
-    else if (event.key === 'Home') choose(nodes[0]);
-    else if (event.key === 'End') choose(nodes.filter(isSeen).pop());
+    else if (event.key === 'Home') go('first');
+    else if (event.key === 'End') go('last');
     else if (event.key === 'Enter' || event.key === ' ') fold(chosen, opened === 'true');
     else return;
     event.preventDefault(); event.stopPropagation();
   });
+  slides.push({part: search, go: go});
 });
 
 // One slide at a time, over the whole window, and over the whole screen where the browser allows that.
