@@ -454,7 +454,8 @@ class Saved(Reply):
         begun, steps, proofs = lines.at - 1, [], []
         while found := lines.take(r'step (\S+)'):
             steps.append(lines.atom(''.join(own_names(words_of(found[1])))))
-        goal = [lines.atom(''.join(own_names(words_of(text)))) for text in lines.wanted(r'goal((?: \S+)+)', 'the goal of a table')[1].split()]
+        atoms = lines.wanted(r'goal((?: \S+)+)', 'the goal of a table')[1].split()
+        goal = [lines.atom(''.join(own_names(words_of(text)))) for text in atoms]
         for row in range(1, len(steps) + 2):
             found = lines.wanted(r'proof((?: \S+)*)', f'row {row} of a table of {len(steps)} steps')
             proofs.append(own_names(words_of(found[1])))
@@ -518,7 +519,8 @@ class Noted(Reply):
 
 def read_turn(lines, number):
     """The turn of that number, which stands next."""
-    found = lines.wanted(rf'  turn {number} (?:(nokernel)|kernel ([1-9]\d{{0,9}}) (?:(goal)|(\S+) (acted|slipped)))', f'turn {number} of a run')
+    found = lines.wanted(rf'  turn {number} (?:(nokernel)|kernel ([1-9]\d{{0,9}}) (?:(goal)|(\S+) (acted|slipped)))',
+                         f'turn {number} of a run')
     text = lines.lines[lines.at - 1].strip()
     return Turn(text, int(found[2] or 0), lines.atom(found[4]) if found[4] else None, found[1] or found[3] or found[5])
 

@@ -26,7 +26,8 @@ OF_FACTS = (
 )
 OF_SEARCHES = (
     ('<text x="4" y="14">+3</text>', 'nodes behind this one that are folded: a click, or the arrow to the right, shows them'),
-    ('<rect x="2" y="2" width="24" height="14" fill="none" stroke="currentColor" stroke-width="3"/>', 'a node that leads to the solved one'),
+    ('<rect x="2" y="2" width="24" height="14" fill="none" stroke="currentColor" stroke-width="3"/>',
+     'a node that leads to the solved one'),
 )
 OF_FLOORS = (
     ('<circle class="thing" cx="14" cy="9" r="6"/>', 'the robot'),
