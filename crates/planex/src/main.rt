@@ -4,7 +4,8 @@
 //!
 //! - With the single word `run` the program reads a script from standard input, and writes the replies to its commands to standard
 //!   output. With the words `demo ROOMS SEED` it makes the script of `px_demo`, answers its commands, and writes one line that sums up
-//!   the replies. Every other list of words is answered by how the program is called. The exit status is that of `Status::exit`.
+//!   the replies. With the single word `check` it reads a certificate from standard input, and writes whether it is right. Every other
+//!   list of words is answered by how the program is called. The exit status is that of `Status::exit`.
 //! - All that it does but for opening its streams is [`px_run::planex_main`], whose contract says what is written and how it ends. It is
 //!   called with a [`StdSource`] over standard input and a [`StdSink`] over standard output. That these two
 //!   streams give and take the process's bytes is trusted.

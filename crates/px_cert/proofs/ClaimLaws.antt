@@ -10,8 +10,10 @@ use Rattle.px_cert.specs.Drafts.{Follow, after_line, no_lines}
 use Rattle.px_cert.specs.Lines.{Line}
 use Rattle.px_cert.specs.Reading.{Front, line_at}
 use Rattle.px_cert.specs.Sound.{IsSound, lines_left}
-use Rattle.px_cert.proofs.Certifying.{written}
+use Rattle.px_cert.proofs.Certifying.{claim_in_range, written}
+use Rattle.px_cert.proofs.Claiming.{claimed}
 use Rattle.px_cert.proofs.DueLines.{due_reads}
+use Rattle.px_cert.proofs.InRange.{certificate_in_range}
 use Rattle.px_cert.proofs.Limited.{only_right, right, worth}
 use Rattle.px_cert.proofs.OneWay.{ReadsLines, not_both, one_claim, one_line}
 use Rattle.px_cert.proofs.Reaching.{Reached, begun, is_bad, is_certificate, is_long, read_more}
@@ -75,7 +77,7 @@ one_way (suc most) bytes d rest number at few = elim (whole_or d.due) [
 
 pub reads_one_way : (bytes : List ℕ) → ReadsOneWay bytes
 reads_one_way bytes = record {
-  one = one_way 330 bytes no_lines bytes 1 (begun reads_lines bytes) (omega arith);
+  one = one_way (suc (lines_left due.Heading)) bytes no_lines bytes 1 (begun reads_lines bytes) (omega arith);
   not_both = not_both reads_lines bytes;
   one_claim = one_claim reads_lines bytes;
   one_line = one_line reads_lines bytes;
@@ -87,6 +89,10 @@ follow_sound d (line ∷ lines) last sound follow = follow_sound (after_line d l
 
 pub claims_are_texts : ClaimsAreTexts
 claims_are_texts = record {
+  exact = λ bytes claim. (
+    λ is. (certificate_in_range bytes claim is, one_text bytes claim is),
+    λ h. subst (λ (text : List ℕ). IsCertificate text claim) (sym h.1) (claimed claim.problem claim.table h.0),
+  );
   one_text = one_text;
   valid = λ bytes claim is.
       subst (λ (c : Claim). IsValid c.problem) (sym is.says)
@@ -94,4 +100,4 @@ claims_are_texts = record {
 }
 
 pub tables_are_certified : TablesAreCertified
-tables_are_certified = record { written = written; right = right; only_right = only_right; worth = worth }
+tables_are_certified = record { in_range = claim_in_range; written = written; right = right; only_right = only_right; worth = worth }

@@ -3,7 +3,7 @@ use Rattle.std.proofs.Common.{◌≡◌, ◌+◌, ◌*◌, ℕ, zero, suc, List,
 use Rattle.px_cert.specs.declared.draft.Draft.{Draft}
 use Rattle.px_cert.specs.Drafts.{Follow, IsNext, after_line, axioms_then, operators_then, rows_then, steps_then}
 use Rattle.px_cert.specs.Lines.{Line}
-use Rattle.px_cert.specs.Sound.{axioms_left, lines_left, operators_left}
+use Rattle.px_cert.specs.Sound.{axioms_left, lines_left, most_operator_lines, most_table_lines, operators_left}
 
 -- ---- lines that follow each other, and one more
 
@@ -35,10 +35,10 @@ pub steps_then-lines : (count rows : ℕ) → lines_left (steps_then count rows)
 steps_then-lines zero rows = let r = rows_then-lines rows in omega (arith, r)
 steps_then-lines (suc more) rows = omega arith
 
-pub axioms_then-lines : (count : ℕ) → lines_left (axioms_then count) ≡ count + 261
+pub axioms_then-lines : (count : ℕ) → lines_left (axioms_then count) ≡ count + most_operator_lines
 axioms_then-lines zero = refl
 axioms_then-lines (suc more) = omega arith
 
-pub operators_then-lines : (count : ℕ) → lines_left (operators_then count) ≡ 4 * count + 132
+pub operators_then-lines : (count : ℕ) → lines_left (operators_then count) ≡ 4 * count + most_table_lines
 operators_then-lines zero = refl
 operators_then-lines (suc more) = omega arith

@@ -10,11 +10,13 @@ use Rattle.px_terms.specs.Clauses.{HasClauseLength}
 use Rattle.px_terms.specs.Limits.{most_arguments, most_clauses, most_formula_variables, most_literals, most_parameters}
 use Rattle.px_terms.specs.Operators.{no_schema}
 use Rattle.px_terms.specs.Validity.{IsAtomOf, IsAxiomOf, IsPatternOf}
+use Rattle.px_table.specs.Limits.{most_steps}
 use Rattle.px_cert.specs.declared.draft.Draft.{Draft}
 use Rattle.px_cert.specs.declared.draft.Due.{Due}
 use Rattle.px_cert.specs.declared.draft.Due.TheVariants as due
-use Rattle.px_cert.specs.Drafts.{AreAtMost, AreSorts, HasObjectFor, IsDue, IsRowProof, IsTableAtom, IsTableStep, language}
-use Rattle.px_cert.specs.Limits.{greatest_sort, most_atoms, most_objects, most_operators, most_places, most_predicates, most_written_steps, table_variables}
+use Rattle.px_cert.specs.ClaimRanges.{AreAtMost, AreSorts, IsRowProof, IsTableAtom, IsTableStep}
+use Rattle.px_cert.specs.Drafts.{HasObjectFor, IsDue, language}
+use Rattle.px_cert.specs.Limits.{greatest_sort, most_atoms, most_objects, most_operators, most_predicates, most_table_parameters, table_variables}
 use Rattle.px_cert.specs.Lines.{Line, heading, objects, predicates, axioms, clause, operators, operator, pre, delete, add, table, goal, steps, action, row, atom_item, line_bytes, line_of_items, list_item, literal_item, number_item, proof_item, term_item}
 use Rattle.px_cert.specs.Reading.{Reader, as_line, atom_at, atoms_at, clause_items, clause_of_parts, due_line_at, goal_items, has_object, heading_items, inst_of_parts, line_of, list_at, literal_at, number_at, operator_items, row_items, sorts_at, step_items, terms_at}
 use Rattle.px_cert.specs.Sound.{IsOpenSchema, IsSound}
@@ -134,15 +136,15 @@ module _ (d : Draft) (sound : IsSound d) where
       (λ sorts is. (is.0, object_there d (length sorts) is.1)) (λ sorts is. (is.0, object_back d (length sorts) is.1))
 
   pub goal_exact : IsExact (goal_items d) (λ p. number_item p.0 ++ list_item atom_item p.1)
-      (λ p. (p.0 ≤ most_formula_variables) × AreAtMost most_atoms (IsTableAtom d) p.1)
+      (λ p. (p.0 ≤ most_formula_variables) × AreAtMost most_atoms (IsTableAtom (language d)) p.1)
   unfolding goal_items
   goal_exact =
       pair_exact (number_at (most_formula_variables + 1)) number_item (λ n. n ≤ most_formula_variables)
       (count_exact most_formula_variables (omega arith)) (λ vars. atoms_at d table_variables true) (λ vars. list_item atom_item)
-      (λ vars. AreAtMost most_atoms (IsTableAtom d)) (λ vars below. pattern_atoms table_variables (omega arith))
+      (λ vars. AreAtMost most_atoms (IsTableAtom (language d))) (λ vars below. pattern_atoms table_variables (omega arith))
       (λ vars. record { starts = λ xs rest stop. refl })
 
-  pub step_exact : IsExact (step_items d) (λ inst. number_item inst.op ++ flat_map term_item inst.args) (IsTableStep d)
+  pub step_exact : IsExact (step_items d) (λ inst. number_item inst.op ++ flat_map term_item inst.args) (IsTableStep (language d) d.schemas)
   unfolding step_items
   step_exact =
       let small = small_draft d sound in
@@ -152,7 +154,7 @@ module _ (d : Draft) (sound : IsSound d) where
       (λ op. terms_at d (slice_index_or d.schemas op no_schema).params) (λ op. flat_map term_item)
       (λ op. AreTermsRead d small (slice_index_or d.schemas op no_schema).params)
       (λ op below. terms_exact d small (slice_index_or d.schemas op no_schema).params) (λ op. terms_start d small)) inst_of_parts
-      (λ inst. (inst.op, inst.args)) (λ parts is. refl) (λ inst. refl)) (IsTableStep d)
+      (λ inst. (inst.op, inst.args)) (λ parts is. refl) (λ inst. refl)) (IsTableStep (language d) d.schemas)
       (λ inst is. (is.0, is.1.0, terms_there d small inst.args is.1.1)) (λ inst is. (is.0, (is.1, terms_back d small inst.args is.2)))
 
 -- ---- the first line
@@ -241,21 +243,21 @@ module _ (d : Draft) (sound : IsSound d) where
       (plain_atoms d sound d.schema.params (omega (arith, few))) (codes "add") add (λ x. refl) d (due.Add more) (λ bytes. refl)
       (λ line is. is) (λ line is. is)
   due_reads due.Table so_far =
-      due_read (sorts_at most_places) (list_item number_item) (AreSorts most_places)
-      (numbers_exact most_places greatest_sort (omega arith) (omega arith)) (codes "table") table (λ x. refl) d due.Table (λ bytes. refl)
+      due_read (sorts_at most_table_parameters) (list_item number_item) (AreSorts most_table_parameters)
+      (numbers_exact most_table_parameters greatest_sort (omega arith) (omega arith)) (codes "table") table (λ x. refl) d due.Table (λ bytes. refl)
       (λ line is. is) (λ line is. is)
   due_reads due.Goal so_far =
       due_read (goal_items d) (λ p. number_item p.0 ++ list_item atom_item p.1)
-      (λ p. (p.0 ≤ most_formula_variables) × AreAtMost most_atoms (IsTableAtom d) p.1) (goal_exact d sound) (codes "goal")
+      (λ p. (p.0 ≤ most_formula_variables) × AreAtMost most_atoms (IsTableAtom (language d)) p.1) (goal_exact d sound) (codes "goal")
       (λ p. goal p.0 p.1) (λ x. refl) d due.Goal (λ bytes. refl) (λ line is. ((is.0, is.1), is.2, is.3))
       (λ line is. (is.0.0, is.0.1, is.1, is.2))
   due_reads due.Steps so_far =
-      due_read (number_at (most_written_steps + 1)) number_item (λ n. n ≤ most_written_steps) (count_exact most_written_steps (omega arith))
+      due_read (number_at (most_steps + 1)) number_item (λ n. n ≤ most_steps) (count_exact most_steps (omega arith))
       (codes "steps") steps (λ x. refl) d due.Steps (λ bytes. refl) (λ line is. is) (λ line is. is)
   due_reads (due.Step more rows) so_far =
-      due_read (step_items d) (λ inst. number_item inst.op ++ flat_map term_item inst.args) (IsTableStep d) (step_exact d sound)
+      due_read (step_items d) (λ inst. number_item inst.op ++ flat_map term_item inst.args) (IsTableStep (language d) d.schemas) (step_exact d sound)
       (codes "step") action (λ x. refl) d (due.Step more rows) (λ bytes. refl) (λ line is. is) (λ line is. is)
   due_reads (due.Row more) so_far =
-      due_read (row_items d) (list_item proof_item) (AreAtMost most_atoms (IsRowProof d)) (row_exact d (small_draft d sound)) (codes "row") row
+      due_read (row_items d) (list_item proof_item) (AreAtMost most_atoms (IsRowProof (language d) d.axioms)) (row_exact d (small_draft d sound)) (codes "row") row
       (λ x. refl) d (due.Row more) (λ bytes. refl) (λ line is. is) (λ line is. is)
   due_reads due.Nothing so_far = record { takes = λ bytes line rest e. let no : None ≡ Some (line, rest) = e in absurd (cc); again = λ line rest is. absurd is }

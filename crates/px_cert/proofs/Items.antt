@@ -12,7 +12,9 @@ use Rattle.px_terms.specs.declared.term.Term.{Term}
 use Rattle.px_terms.specs.declared.term.Term.TheVariants.{Obj, Var, Any}
 use Rattle.px_terms.specs.Validity.{IsAtomOf, IsPatternOf, IsPatternTermOf, IsTermOf}
 use Rattle.px_cert.specs.declared.draft.Draft.{Draft}
-use Rattle.px_cert.specs.Drafts.{AreAtMost, axiom_at, language}
+use Rattle.px_table.specs.Deciding.{clause_at}
+use Rattle.px_cert.specs.ClaimRanges.{AreAtMost}
+use Rattle.px_cert.specs.Drafts.{language}
 use Rattle.px_cert.specs.Lines.{atom_item, list_item, literal_item, number_item, sign_item, term_item}
 use Rattle.px_cert.specs.Reading.{◌>>=◌, Front, Reader, after_text, atom_at, atom_of_parts, chosen, list_at, literal_at, literal_of_parts, many_at, number_at, object_at, sign_at, term_at, variable_at, wild_card_at}
 use Rattle.px_cert.specs.Reading.{digits_at}
@@ -154,7 +156,7 @@ pub record IsSmall (d : Draft) : Type 0 where
   pub arities : length d.arities ≤ 2 ^ 64
   pub axioms : length d.axioms ≤ 2 ^ 64
   pub schemas : length d.schemas ≤ 2 ^ 64
-  pub literals : (number : ℕ) → number < length d.axioms → 1 ≤ length (axiom_at d number).lits
+  pub literals : (number : ℕ) → number < length d.axioms → 1 ≤ length (clause_at d.axioms number).lits
 
 module _ (d : Draft) (small : IsSmall d) (vars : ℕ) (few : vars ≤ 2 ^ 64) where
   module _ (wild : Bool) where

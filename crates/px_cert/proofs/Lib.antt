@@ -1,11 +1,13 @@
 -- The files of lemmas.
 pub mod Certifying
 pub mod ClaimLaws
+pub mod Claiming
 pub mod DigitLoops
 pub mod Digits
 pub mod Drafting
 pub mod DueLines
 pub mod Exact
+pub mod InRange
 pub mod Items
 pub mod Limited
 pub mod LineReading
@@ -23,4 +25,5 @@ pub mod SoundLines
 pub mod StepReading
 pub mod TextLines
 pub mod ValidDrafts
+pub mod WorkedLaws
 pub mod Written

@@ -15,7 +15,7 @@ use Rattle.px_table.specs.declared.table.Table.{Table}
 use Rattle.px_table.specs.Kernels.{KernelsCarry}
 use Rattle.px_table.specs.Supports.{RowsProve}
 use Rattle.px_table.specs.Tables.{IsTable}
-use Rattle.px_cert.specs.Certificates.{certified}
+use Rattle.px_cert.specs.ClaimRanges.{certified}
 use Rattle.px_cert.specs.Limits.{greatest_sort}
 
 -- the problem with these numbers

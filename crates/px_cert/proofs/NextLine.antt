@@ -3,11 +3,12 @@ use Rattle.std.proofs.Common.{◌≡◌, ◌<◌, ◌+◌, ℕ, true, false, Lis
 use Rattle.std.specs.Prelude.{codes}
 use Rattle.std.proofs.lemmas.Option.{same_Some}
 use Rattle.px_terms.specs.Limits.{most_arguments, most_clauses}
+use Rattle.px_table.specs.Limits.{most_steps}
 use Rattle.px_cert.specs.declared.draft.Draft.{Draft}
 use Rattle.px_cert.specs.declared.draft.Due.{Due}
 use Rattle.px_cert.specs.declared.draft.Due.TheVariants as due
 use Rattle.px_cert.specs.Drafts.{after_line}
-use Rattle.px_cert.specs.Limits.{most_objects, most_operators, most_places, most_predicates, most_written_steps}
+use Rattle.px_cert.specs.Limits.{most_objects, most_operators, most_predicates, most_table_parameters}
 use Rattle.px_cert.specs.Lines.{Line, heading, objects, predicates, axioms, clause, operators, operator, pre, delete, add, table, goal, steps, action, row}
 use Rattle.px_cert.specs.Reading.{Front, as_line, atoms_at, clause_items, due_line_at, goal_items, heading_items, line_at, line_of, list_at, next_at, number_at, operator_items, row_items, sorts_at, step_items, then_at}
 use Rattle.px_cert.specs.Sound.{lines_left}
@@ -82,9 +83,9 @@ module _ (d : Draft) (bytes : List ℕ) where
   next-add more e = next_is add d (due.Add more) bytes (line_of (codes "add") (atoms_at d d.schema.params false) bytes) e refl
 
   pub next-table : d.due ≡ due.Table
-      → next_at d bytes ≡ then_at (line_of (codes "table") (sorts_at most_places) bytes) (λ read. after_line d (table read))
+      → next_at d bytes ≡ then_at (line_of (codes "table") (sorts_at most_table_parameters) bytes) (λ read. after_line d (table read))
   unfolding due_line_at
-  next-table e = next_is table d due.Table bytes (line_of (codes "table") (sorts_at most_places) bytes) e refl
+  next-table e = next_is table d due.Table bytes (line_of (codes "table") (sorts_at most_table_parameters) bytes) e refl
 
   pub next-goal : d.due ≡ due.Goal
       → next_at d bytes ≡ then_at (line_of (codes "goal") (goal_items d) bytes) (λ read. after_line d (goal read.0 read.1))
@@ -92,9 +93,9 @@ module _ (d : Draft) (bytes : List ℕ) where
   next-goal e = next_is (λ read. goal read.0 read.1) d due.Goal bytes (line_of (codes "goal") (goal_items d) bytes) e refl
 
   pub next-steps : d.due ≡ due.Steps
-      → next_at d bytes ≡ then_at (line_of (codes "steps") (number_at (most_written_steps + 1)) bytes) (λ read. after_line d (steps read))
+      → next_at d bytes ≡ then_at (line_of (codes "steps") (number_at (most_steps + 1)) bytes) (λ read. after_line d (steps read))
   unfolding due_line_at
-  next-steps e = next_is steps d due.Steps bytes (line_of (codes "steps") (number_at (most_written_steps + 1)) bytes) e refl
+  next-steps e = next_is steps d due.Steps bytes (line_of (codes "steps") (number_at (most_steps + 1)) bytes) e refl
 
   pub next-step : (more rows : ℕ) → d.due ≡ due.Step more rows
       → next_at d bytes ≡ then_at (line_of (codes "step") (step_items d) bytes) (λ read. after_line d (action read))

@@ -14,7 +14,9 @@ use Rattle.px_proof.specs.Derivation.{Derivation, Derivations, derivations, fact
 use Rattle.px_proof.specs.LayerLaws.{HasNoOpenPlace, HaveNoOpenPlace, comes_back, derivation_of-ancestor, derivation_of-fact, derivation_of-step, derivations-proofs_of, proof_of, proofs_of}
 use Rattle.px_proof.specs.ProofTerm.{derivation_of}
 use Rattle.px_cert.specs.declared.draft.Draft.{Draft}
-use Rattle.px_cert.specs.Drafts.{AreAtMost, AreInRange, AreTableTerms, IsInRange, IsRowProof, axiom_at, language, part_count}
+use Rattle.px_table.specs.Deciding.{clause_at}
+use Rattle.px_cert.specs.ClaimRanges.{AreAtMost, AreProofsInRange, AreTableTerms, IsProofInRange, IsRowProof, part_count}
+use Rattle.px_cert.specs.Drafts.{language}
 use Rattle.px_cert.specs.Limits.{greatest_written_height, most_atoms, most_places, table_variables}
 use Rattle.px_cert.specs.Lines.{atom_item, derivation_item, derivation_items, list_item, number_item, proof_item, term_item}
 use Rattle.px_cert.specs.Reading.{◌>>=◌, Front, Reader, after_text, ancestor_at, atom_at, fact_at, leaf_of_parts, many_at, number_at, pair_at, place_at, proof_at, row_items, step_at, step_of_parts, term_at, terms_at}
@@ -30,10 +32,10 @@ parts_item (p ∷ ps) = ap (λ (r : List ℕ). proof_item p ++ r) (parts_item ps
 
 -- a proof of at most so many levels, in range
 abbrev pub IsLow : Draft → ℕ → Proof → Type 0
-IsLow d levels p = (height (derivation_of p) ≤ levels) × IsInRange d (derivation_of p)
+IsLow d levels p = (height (derivation_of p) ≤ levels) × IsProofInRange (language d) d.axioms (derivation_of p)
 
 pub parts_low : (d : Draft) (levels : ℕ) (ps : List Proof) → AllByRecursion (IsLow d levels) ps
-    → (greatest_height (derivations (map derivation_of ps)) ≤ levels) × AreInRange d (derivations (map derivation_of ps))
+    → (greatest_height (derivations (map derivation_of ps)) ≤ levels) × AreProofsInRange (language d) d.axioms (derivations (map derivation_of ps))
 parts_low d levels [] all = (omega arith, tt)
 parts_low d levels (p ∷ ps) all =
     let rest = parts_low d levels ps all.1 in
@@ -63,14 +65,14 @@ fact_items q = number_item q.0 ++ (number_item q.1.0 ++ atom_item q.1.1)
 
 -- each proof is a finished one
 mutual
-  in_range_whole : (d : Draft) (e : Derivation) → IsInRange d e → HasNoOpenPlace e
+  in_range_whole : (d : Draft) (e : Derivation) → IsProofInRange (language d) d.axioms e → HasNoOpenPlace e
   in_range_whole d (fact leaf) is = tt
   in_range_whole d (ancestor i) is = tt
   in_range_whole d (step number theta place parts) is = parts_whole d parts is.5
   in_range_whole d (gap atom) is = absurd is
   in_range_whole d open_place is = absurd is
 
-  parts_whole : (d : Draft) (es : Derivations) → AreInRange d es → HaveNoOpenPlace es
+  parts_whole : (d : Draft) (es : Derivations) → AreProofsInRange (language d) d.axioms es → HaveNoOpenPlace es
   parts_whole d none is = tt
   parts_whole d (also e es) is = (in_range_whole d e is.0, parts_whole d es is.1)
 
@@ -117,12 +119,12 @@ module _ (d : Draft) (small : IsSmall d) where
   pub terms_start : StartsWell (flat_map term_item)
   terms_start = many_start _ term_item _ table_term term_starts
 
-  pub terms_there : (terms : List Term) → AllByRecursion IsTableTerm terms → AreTableTerms d terms
+  pub terms_there : (terms : List Term) → AllByRecursion IsTableTerm terms → AreTableTerms (language d) terms
   terms_there terms all =
       All-from_recursion _ terms
       (each_there d table_variables IsTableTerm (IsPatternTermOf (language d) table_variables) (pattern_there d table_variables) terms all)
 
-  pub terms_back : (terms : List Term) → AreTableTerms d terms → AllByRecursion IsTableTerm terms
+  pub terms_back : (terms : List Term) → AreTableTerms (language d) terms → AllByRecursion IsTableTerm terms
   terms_back terms all =
       each_there d table_variables (IsPatternTermOf (language d) table_variables) IsTableTerm (pattern_back d table_variables) terms (recursion_from_All _ terms all)
 
@@ -132,10 +134,10 @@ module _ (d : Draft) (small : IsSmall d) where
     ArePartsRead count proofs = (length proofs ≡ count) × AllByRecursion (IsLow d levels) proofs
 
     abbrev parts_count : ℕ → ℕ
-    parts_count number = length (axiom_at d number).lits - 1
+    parts_count number = length (clause_at d.axioms number).lits - 1
 
     abbrev vars_count : ℕ → ℕ
-    vars_count number = (axiom_at d number).vars
+    vars_count number = (clause_at d.axioms number).vars
 
     parts_start : StartsWell (flat_map proof_item)
     parts_start = many_start _ proof_item _ part proof_starts
@@ -192,7 +194,7 @@ module _ (d : Draft) (small : IsSmall d) where
     -- ---- what is read is written so
 
     abbrev IsForm : List ℕ → Derivation → List ℕ → Type 0
-    IsForm bytes e rest = (bytes ≡ derivation_item e ++ rest) × ((height e ≤ suc levels) × IsInRange d e)
+    IsForm bytes e rest = (bytes ≡ derivation_item e ++ rest) × ((height e ≤ suc levels) × IsProofInRange (language d) d.axioms e)
 
     fact_taken : (bytes left : List ℕ) (p : Proof) (rest : List ℕ) → after_text (codes " f") bytes ≡ Some left
         → fact_at d left ≡ Some (p, rest) → IsForm bytes (derivation_of p) rest
@@ -266,11 +268,11 @@ module _ (d : Draft) (small : IsSmall d) where
     -- ---- what is written is read
 
     parts_split : (ps : List Proof) → greatest_height (derivations (map derivation_of ps)) ≤ levels
-        → AreInRange d (derivations (map derivation_of ps)) → AllByRecursion (IsLow d levels) ps
+        → AreProofsInRange (language d) d.axioms (derivations (map derivation_of ps)) → AllByRecursion (IsLow d levels) ps
     parts_split [] low is = tt
     parts_split (p ∷ ps) low is = ((omega (arith, low), is.0), parts_split ps (omega (arith, low)) is.1)
 
-    form_again : (f : Derivation) (rest : List ℕ) → height f ≤ suc levels → IsInRange d f → stops rest ≡ true
+    form_again : (f : Derivation) (rest : List ℕ) → height f ≤ suc levels → IsProofInRange (language d) d.axioms f → stops rest ≡ true
         → proof_at d (suc levels) (derivation_item f ++ rest) ≡ Some (proof_of f, rest)
     unfolding proof_at fact_at ancestor_at step_at
     form_again (fact leaf) rest low is stop =
@@ -284,7 +286,7 @@ module _ (d : Draft) (small : IsSmall d) where
         let text : derivation_items parts ≡ flat_map proof_item (proofs_of parts) =
         sym (ap derivation_items same) ∙ parts_item (proofs_of parts) in
         let high : greatest_height parts ≤ levels = omega (arith, low) in
-        let ranged = subst (λ (es : Derivations). (greatest_height es ≤ levels) × AreInRange d es) (sym same) (high, is.5) in
+        let ranged = subst (λ (es : Derivations). (greatest_height es ≤ levels) × AreProofsInRange (language d) d.axioms es) (sym same) (high, is.5) in
         let counted : part_count parts ≡ length (proofs_of parts) = sym (ap part_count same) ∙ parts_counted (proofs_of parts) in
         let whole = is.4 in
         let count : length (proofs_of parts) ≡ parts_count number = omega (arith, counted, whole) in
@@ -312,7 +314,7 @@ module _ (d : Draft) (small : IsSmall d) where
   proof_exact (suc levels) = level_exact levels (proof_exact levels)
 
   -- the proofs of a row
-  pub row_exact : IsExact (row_items d) (list_item proof_item) (AreAtMost most_atoms (IsRowProof d))
+  pub row_exact : IsExact (row_items d) (list_item proof_item) (AreAtMost most_atoms (IsRowProof (language d) d.axioms))
   row_exact =
       list_exact (proof_at d greatest_written_height) proof_item (IsLow d greatest_written_height) (proof_exact greatest_written_height)
       proof_starts most_atoms (omega arith)

@@ -26,10 +26,12 @@ use Rattle.px_table.specs.MarkLaws.{mark_eq-decides}
 use Rattle.px_table.specs.Marks.{IsNamed, mark_eq, mark_of, marks_from, row_leaves, row_marks, step_at}
 use Rattle.px_table.specs.OnceLaws.{Contains-each_once}
 use Rattle.px_table.specs.Supports.{ProvesEachOf, RowsProve, variables}
+use Rattle.px_table.specs.Limits.{most_steps}
 use Rattle.px_cert.specs.declared.draft.Draft.{Draft}
-use Rattle.px_cert.specs.Certificates.{IsShortSchema}
-use Rattle.px_cert.specs.Drafts.{AreInRange, IsInRange, IsTableAtom, axiom_at, language, part_count}
-use Rattle.px_cert.specs.Limits.{greatest_written_height, most_places, most_written_steps, table_variables}
+use Rattle.px_table.specs.Deciding.{clause_at}
+use Rattle.px_cert.specs.ClaimRanges.{AreProofsInRange, IsProofInRange, IsShortSchema, IsTableAtom, part_count}
+use Rattle.px_cert.specs.Drafts.{language}
+use Rattle.px_cert.specs.Limits.{greatest_written_height, most_places, table_variables}
 use Rattle.px_cert.specs.Sound.{IsSound}
 
 -- ---- lists
@@ -91,7 +93,7 @@ module _ (d : Draft) (sound : IsSound d) (params : ℕ) (few : params ≤ most_p
   table_term Any is = absurd is
 
   abbrev pub IsGoodLeaf : Leaf → Type 0
-  IsGoodLeaf leaf = (leaf.column ≤ most_places) × (leaf.index ≤ most_places) × IsTableAtom d leaf.atom
+  IsGoodLeaf leaf = (leaf.column ≤ most_places) × (leaf.index ≤ most_places) × IsTableAtom (language d) leaf.atom
 
   -- ---- proofs
 
@@ -103,15 +105,15 @@ module _ (d : Draft) (sound : IsSound d) (params : ℕ) (few : params ≤ most_p
   parts_are atoms path (lit ∷ lits) none is = absurd is
 
   module _ (atoms : List Atom) where
-    place_is : (number place : ℕ) (theta : List Term) (c : Clause) → length (axiom_at d number).lits ≤ 6 → axiom_at d number ≡ c
+    place_is : (number place : ℕ) (theta : List Term) (c : Clause) → length (clause_at d.axioms number).lits ≤ 6 → clause_at d.axioms number ≡ c
         → place < length (instance_of c.lits theta) → place ≤ most_places
     place_is number place theta c size there at =
         let same = ap (λ (c : Clause). length c.lits) there in omega (arith, same, size, at, length-map {A = Lit} {B = Lit})
 
     count_is : (path : List Lit) (lit : Lit) (number place : ℕ) (theta : List Term) (parts : Derivations) (c : Clause)
-        → axiom_at d number ≡ c → place < length (instance_of c.lits theta)
+        → clause_at d.axioms number ≡ c → place < length (instance_of c.lits theta)
         → ProvesEach (from_atoms IsTerm atoms) d.axioms (lit ∷ path) (parts_of c.lits theta place) parts
-        → part_count parts + 1 ≡ length (axiom_at d number).lits
+        → part_count parts + 1 ≡ length (clause_at d.axioms number).lits
     count_is path lit number place theta parts c there at is =
         let same = ap (λ (c : Clause). length c.lits) there in
         let parts_count = parts_are atoms (lit ∷ path) (parts_of c.lits theta place) parts is in
@@ -120,13 +122,13 @@ module _ (d : Draft) (sound : IsSound d) (params : ℕ) (few : params ≤ most_p
 
     mutual
       ranged : (path : List Lit) (lit : Lit) (e : Derivation) → Proves (from_atoms IsTerm atoms) d.axioms path lit e
-          → AllByRecursion IsGoodLeaf (leaves_of e) → length path + height e ≤ 10000 → IsInRange d e
+          → AllByRecursion IsGoodLeaf (leaves_of e) → length path + height e ≤ 10000 → IsProofInRange (language d) d.axioms e
       ranged path lit (fact leaf) is good short = good.0
       ranged path lit (ancestor i) is good short = let below = got_below path i (complement_of lit) is in omega (arith, below, short)
       ranged path lit (step number theta place parts) is good short =
           let empty : Clause = record { vars = 0; lits = [] } in
           let below = got_below d.axioms number is.0 is.1.axiom_at in
-          let there : axiom_at d number ≡ is.0 = got_is d.axioms number is.0 empty is.1.axiom_at in
+          let there : clause_at d.axioms number ≡ is.0 = got_is d.axioms number is.0 empty is.1.axiom_at in
           let size = (sound.clauses number empty below).1.1 in
           let at = got_below (instance_of is.0.lits theta) place lit is.1.literal_at in (
             below,
@@ -140,7 +142,7 @@ module _ (d : Draft) (sound : IsSound d) (params : ℕ) (few : params ≤ most_p
       ranged path lit open_place is good short = absurd is
 
       parts_ranged : (path lits : List Lit) (es : Derivations) → ProvesEach (from_atoms IsTerm atoms) d.axioms path lits es
-          → AllByRecursion IsGoodLeaf (all_leaves_of es) → length path + greatest_height es ≤ 10000 → AreInRange d es
+          → AllByRecursion IsGoodLeaf (all_leaves_of es) → length path + greatest_height es ≤ 10000 → AreProofsInRange (language d) d.axioms es
       parts_ranged path [] none is good short = tt
       parts_ranged path (lit ∷ lits) (also e es) is good short =
           let both = split IsGoodLeaf (leaves_of e) (all_leaves_of es) good in
@@ -154,7 +156,7 @@ module _ (d : Draft) (sound : IsSound d) (params : ℕ) (few : params ≤ most_p
   IsLowHere e = height e ≤ greatest_written_height
 
   abbrev pub IsRanged : Derivation → Type 0
-  IsRanged e = (height e ≤ greatest_written_height) × IsInRange d e
+  IsRanged e = (height e ≤ greatest_written_height) × IsProofInRange (language d) d.axioms e
 
   row_ranged : (atoms : List Atom) (row : List Derivation) → ProvesEachOf IsTerm d.axioms atoms row
       → AllByRecursion IsGoodLeaf (row_leaves row) → AllByRecursion IsLowHere row → AllByRecursion IsRanged row
@@ -198,7 +200,7 @@ module _ (d : Draft) (sound : IsSound d) (params : ℕ) (few : params ≤ most_p
   -- ---- marks
 
   abbrev pub IsGoodMark : Mark → Type 0
-  IsGoodMark mark = (mark.column ≤ most_places) × (mark.index ≤ most_places) × IsTableAtom d mark.atom
+  IsGoodMark mark = (mark.column ≤ most_places) × (mark.index ≤ most_places) × IsTableAtom (language d) mark.atom
 
   pub leaves_good : (first : ℕ) (rows : List (List Derivation)) → ((m : Mark) → Contains (marks_from first rows) m → IsGoodMark m)
       → AllByRecursion (λ row. AllByRecursion IsGoodLeaf (row_leaves row)) rows
@@ -212,7 +214,7 @@ module _ (d : Draft) (sound : IsSound d) (params : ℕ) (few : params ≤ most_p
         (λ m has. good m (Contains-append_right (row_marks first row) (marks_from (suc first) rows) m has)),
   )
 
-  module _ (p : Problem) (shorts : AllByRecursion IsShortSchema p.schemas) (steps : List OpInst) (few_steps : length steps ≤ most_written_steps) where
+  module _ (p : Problem) (shorts : AllByRecursion IsShortSchema p.schemas) (steps : List OpInst) (few_steps : length steps ≤ most_steps) where
     adds_few : (inst : OpInst) → length (adds p inst) ≤ 16
     adds_few inst =
         let short = (each_or IsShortSchema p.schemas inst.op no_schema shorts

@@ -20,7 +20,7 @@ pub record Reached (bytes : List ℕ) (d : Draft) (rest : List ℕ) (number : �
   pub bytes_are : bytes ≡ flat_map line_bytes lines ++ rest
   pub number_is : number ≡ length lines + 1
   pub sound : IsSound d
-  pub few : number + lines_left d.due ≤ 330
+  pub few : number + lines_left d.due ≤ 1 + lines_left due.Heading
 
 module _ (reads : ReadsLines) where
   pub begun : (bytes : List ℕ) → Reached bytes no_lines bytes 1

@@ -15,7 +15,8 @@ use Rattle.px_proof.specs.declared.proof.Proof.{Proof}
 use Rattle.px_cert.specs.declared.draft.Draft.{Draft}
 use Rattle.px_cert.specs.declared.draft.Due.{Due}
 use Rattle.px_cert.specs.declared.draft.Due.TheVariants as due
-use Rattle.px_cert.specs.Drafts.{AreAtMost, AreSorts, HasObjectFor, IsDue, IsNext, after_line, axioms_then, language, more_of, no_lines, operators_then, rows_of_due, rows_then, steps_then}
+use Rattle.px_cert.specs.ClaimRanges.{AreAtMost, AreSorts}
+use Rattle.px_cert.specs.Drafts.{HasObjectFor, IsDue, IsNext, after_line, axioms_then, language, more_of, no_lines, operators_then, rows_of_due, rows_then, steps_then}
 use Rattle.px_cert.specs.Limits.{most_atoms, most_objects, most_operators, most_predicates}
 use Rattle.px_cert.specs.Lines.{Line}
 use Rattle.px_cert.specs.Sound.{IsGoodClause, IsGoodSchema, IsOpenSchema, IsSound, axioms_left, lines_left, operators_left}

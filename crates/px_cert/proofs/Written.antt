@@ -15,7 +15,8 @@ use Rattle.px_cert.specs.declared.draft.Draft.{Draft}
 use Rattle.px_cert.specs.declared.draft.Due.{Due}
 use Rattle.px_cert.specs.declared.draft.Due.TheVariants as due
 use Rattle.px_cert.specs.Certificates.{schema_lines}
-use Rattle.px_cert.specs.Drafts.{AreAtMost, AreInRange, AreSorts, Follow, IsDue, IsInRange, IsNext, IsRowProof, IsTableStep, after_line, axioms_then, language, more_of, operators_then, rows_of_due, rows_then, steps_then}
+use Rattle.px_cert.specs.ClaimRanges.{AreAtMost, AreProofsInRange, AreSorts, IsProofInRange, IsRowProof, IsTableStep}
+use Rattle.px_cert.specs.Drafts.{Follow, IsDue, IsNext, after_line, axioms_then, language, more_of, operators_then, rows_of_due, rows_then, steps_then}
 use Rattle.px_cert.specs.Limits.{most_atoms}
 use Rattle.px_cert.specs.Lines.{Line, clause, operator, pre, delete, add, action, row}
 use Rattle.px_cert.specs.Sound.{IsGoodClause}
@@ -108,7 +109,7 @@ follow_operators d (s ∷ ss) e nothing good =
 
 -- ---- steps and rows
 
-pub follow_steps : (d : Draft) (ts : List OpInst) (rows : ℕ) → d.due ≡ steps_then (length ts) rows → AllByRecursion (IsTableStep d) ts
+pub follow_steps : (d : Draft) (ts : List OpInst) (rows : ℕ) → d.due ≡ steps_then (length ts) rows → AllByRecursion (IsTableStep (language d) d.schemas) ts
     → Follow d (map action ts) (record d { due = rows_then rows; steps = d.steps ++ ts })
 follow_steps d [] rows e good = λ i. record d { due = sym e i; steps = append-nil d.steps i }
 follow_steps d (t ∷ ts) rows e good = (
@@ -118,38 +119,13 @@ follow_steps d (t ∷ ts) rows e good = (
       (follow_steps (after_line d (action t)) ts rows (ap (λ (what : Due). steps_then (more_of what) (rows_of_due what)) e) good.1),
 )
 
--- what is in range doesn't depend on the rows
-mutual
-  pub range_kept : (d : Draft) (what : Due) (rows : List (List Proof)) (e : Derivation) → IsInRange d e
-      → IsInRange (record d { due = what; rows = rows }) e
-  range_kept d what rows (fact leaf) is = is
-  range_kept d what rows (ancestor i) is = is
-  range_kept d what rows (step number theta place parts) is =
-      (is.0, is.1, is.2, is.3, is.4, parts_kept d what rows parts is.5)
-  range_kept d what rows (gap atom) is = is
-  range_kept d what rows open_place is = is
-
-  parts_kept : (d : Draft) (what : Due) (rows : List (List Proof)) (es : Derivations) → AreInRange d es
-      → AreInRange (record d { due = what; rows = rows }) es
-  parts_kept d what rows none is = tt
-  parts_kept d what rows (also e es) is = (range_kept d what rows e is.0, parts_kept d what rows es is.1)
-
-pub rows_kept : (d : Draft) (what : Due) (rows rs : List (List Proof)) → AllByRecursion (AreAtMost most_atoms (IsRowProof d)) rs
-    → AllByRecursion (AreAtMost most_atoms (IsRowProof (record d { due = what; rows = rows }))) rs
-rows_kept d what rows [] all = tt
-rows_kept d what rows (r ∷ rs) all = (
-  (all.0.0, λ k proof below. let is = all.0.1 k proof below in (is.0, range_kept d what rows _ is.1)),
-  rows_kept d what rows rs all.1,
-)
-
 pub follow_rows : (d : Draft) (rs : List (List Proof)) → d.due ≡ rows_then (length rs)
-    → AllByRecursion (AreAtMost most_atoms (IsRowProof d)) rs
+    → AllByRecursion (AreAtMost most_atoms (IsRowProof (language d) d.axioms)) rs
     → Follow d (map row rs) (record d { due = due.Nothing; rows = d.rows ++ rs })
 follow_rows d [] e good = λ i. record d { due = sym e i; rows = append-nil d.rows i }
 follow_rows d (r ∷ rs) e good = (
   next_by d (due.Row (length rs)) (row r) e (r, refl, good.0),
   subst (λ (all : List (List Proof)). Follow (after_line d (row r)) (map row rs) (record d { due = due.Nothing; rows = all }))
       (append_assoc d.rows (r ∷ []) rs)
-      (follow_rows (after_line d (row r)) rs (ap (λ (what : Due). rows_then (more_of what)) e)
-      (rows_kept d (rows_then (more_of d.due)) (d.rows ++ r ∷ []) rs good.1)),
+      (follow_rows (after_line d (row r)) rs (ap (λ (what : Due). rows_then (more_of what)) e) good.1),
 )

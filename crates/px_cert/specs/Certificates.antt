@@ -8,10 +8,12 @@ use Rattle.px_terms.specs.Validity.{IsValid}
 use Rattle.px_proof.specs.Derivation.{height}
 use Rattle.px_table.specs.declared.table.Table.{Table}
 use Rattle.px_table.specs.Tables.{IsTable, rows_of, table_of_rows}
+use Rattle.px_table.specs.Limits.{most_steps}
 use Rattle.px_cert.specs.declared.draft.Draft.{Draft}
 use Rattle.px_cert.specs.declared.draft.Due.TheVariants as due
-use Rattle.px_cert.specs.Drafts.{AreAtMost, Follow, IsNext, no_lines, problem_of}
-use Rattle.px_cert.specs.Limits.{greatest_sort, greatest_written_height, most_atoms, most_objects, most_operators, most_places, most_predicates, most_written_steps}
+use Rattle.px_cert.specs.ClaimRanges.{AreAtMost, IsShortSchema, certified}
+use Rattle.px_cert.specs.Drafts.{Follow, IsNext, no_lines, problem_of}
+use Rattle.px_cert.specs.Limits.{most_table_parameters, greatest_sort, greatest_written_height, most_atoms, most_objects, most_operators, most_predicates}
 use Rattle.px_cert.specs.Lines.{Line, heading, objects, predicates, axioms, clause, operators, operator, pre, delete, add, table, goal, steps, action, row, line_bytes}
 
 -- a table with the problem that it is for
@@ -73,19 +75,9 @@ claim_lines p t = problem_lines p ++ table_lines t
 abbrev pub certificate_text : Problem → Table → List ℕ
 certificate_text p t = flat_map line_bytes (claim_lines p t)
 
--- The problem with the limits of certificates, which state none: the least ones of searches, the weight 0, and as many sorts as may be.
-abbrev pub certified : Problem → Problem
-certified problem = record problem { height = 1; nodes = 1; shapes = 2; sorts = greatest_sort; weight = 0 }
-
 -- the claim of its certificate
 abbrev pub certified_claim : Problem → Table → Claim
 certified_claim p t = record { problem = certified p; table = t }
-
--- the operator is short enough to be written
-pub record IsShortSchema (schema : Schema) : Type 0 where
-  pub pre : length schema.pre ≤ most_atoms
-  pub del : length schema.del ≤ most_atoms
-  pub add : length schema.add ≤ most_atoms
 
 -- The table is one for the problem, and both are within the limits of certificates.
 pub record IsCertifiable (problem : Problem) (table : Table) : Type 0 where
@@ -95,7 +87,7 @@ pub record IsCertifiable (problem : Problem) (table : Table) : Type 0 where
   pub sorts : problem.sorts ≤ greatest_sort
   pub predicates : AreAtMost most_predicates (λ arity. arity ≤ most_arguments) problem.arities
   pub operators : AreAtMost most_operators IsShortSchema problem.schemas
-  pub params : table.params ≤ most_places
-  pub steps : length table.steps ≤ most_written_steps
+  pub params : table.params ≤ most_table_parameters
+  pub steps : length table.steps ≤ most_steps
   pub goal : (table.goal_vars ≤ most_formula_variables) × (length table.goal ≤ most_atoms)
   pub low : All (All (λ d. height d ≤ greatest_written_height)) (rows_of table.proofs)

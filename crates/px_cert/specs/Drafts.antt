@@ -1,22 +1,21 @@
 -- Which line may come next in a certificate, by the lines before it.
-use Rattle.std.specs.Prelude.{◌≡◌, ◌<◌, ◌≤◌, ◌+◌, ℕ, List, [], ◌∷◌, ◌++◌, length, All, slice_index_or}
+use Rattle.std.specs.Prelude.{◌≡◌, ◌<◌, ◌≤◌, ◌+◌, ℕ, List, [], ◌∷◌, ◌++◌, length}
 use Rattle.std.proofs.Common.{zero, suc}
 use Rattle.px_terms.specs.declared.atom.Atom.{Atom}
 use Rattle.px_terms.specs.declared.clause.Clause.{Clause}
 use Rattle.px_terms.specs.declared.instance.OpInst.{OpInst}
 use Rattle.px_terms.specs.declared.problem.Problem.{Problem}
-use Rattle.px_terms.specs.declared.term.Term.{Term}
 use Rattle.px_terms.specs.Clauses.{HasClauseLength}
 use Rattle.px_terms.specs.Limits.{most_arguments, most_clauses, most_formula_variables, most_parameters}
 use Rattle.px_terms.specs.Operators.{no_schema}
-use Rattle.px_terms.specs.Validity.{IsAtomOf, IsAxiomOf, IsPatternOf, IsPatternTermOf}
+use Rattle.px_terms.specs.Validity.{IsAtomOf, IsAxiomOf, IsPatternOf}
 use Rattle.px_proof.specs.declared.proof.Proof.{Proof}
-use Rattle.px_proof.specs.Derivation.{Derivation, Derivations, fact, ancestor, step, gap, open_place, none, also, height}
-use Rattle.px_proof.specs.ProofTerm.{derivation_of}
+use Rattle.px_table.specs.Limits.{most_steps}
 use Rattle.px_cert.specs.declared.draft.Draft.{Draft}
 use Rattle.px_cert.specs.declared.draft.Due.{Due}
 use Rattle.px_cert.specs.declared.draft.Due.TheVariants as due
-use Rattle.px_cert.specs.Limits.{greatest_sort, greatest_written_height, most_atoms, most_objects, most_operators, most_places, most_predicates, most_written_steps, table_variables}
+use Rattle.px_cert.specs.ClaimRanges.{AreAtMost, AreSorts, IsRowProof, IsTableAtom, IsTableStep}
+use Rattle.px_cert.specs.Limits.{least_height, least_nodes, least_shapes, most_table_parameters, greatest_sort, most_atoms, most_objects, most_operators, most_predicates}
 use Rattle.px_cert.specs.Lines.{Line, heading, objects, predicates, axioms, clause, operators, operator, pre, delete, add, table, goal, steps, action, row}
 
 abbrev pub no_lines : Draft
@@ -42,9 +41,9 @@ language d = record {
   arities = d.arities;
   axioms = [];
   schemas = [];
-  height = 1;
-  nodes = 1;
-  shapes = 2;
+  height = least_height;
+  nodes = least_nodes;
+  shapes = least_shapes;
   sorts = greatest_sort;
   object_sorts = d.objects;
   weight = 0;
@@ -56,56 +55,9 @@ problem_of d = record (language d) { axioms = d.axioms; schemas = d.schemas }
 
 -- ---- the ranges of what may stand in a line
 
--- at most so many, and each of them is
-abbrev pub AreAtMost : {A : Type 0} → ℕ → (A → Type 0) → List A → Type 0
-AreAtMost most Is items = (length items ≤ most) × All Is items
-
--- sorts, at most so many
-abbrev pub AreSorts : ℕ → List ℕ → Type 0
-AreSorts most sorts = AreAtMost most (λ sort. sort ≤ greatest_sort) sorts
-
 -- variables and parameters need an object to stand for
 abbrev pub HasObjectFor : Draft → ℕ → Type 0
 HasObjectFor d count = 0 < count → 0 < length d.objects
-
--- a term and an atom of the table's lines; whether its variables are right is for the check of the table to say
-abbrev pub AreTableTerms : Draft → List Term → Type 0
-AreTableTerms d terms = All (IsPatternTermOf (language d) table_variables) terms
-
-abbrev pub IsTableAtom : Draft → Atom → Type 0
-IsTableAtom d atom = IsPatternOf (language d) table_variables atom
-
--- the clause of that number; past the last one a clause without literals
-abbrev pub axiom_at : Draft → ℕ → Clause
-axiom_at d number = slice_index_or d.axioms number (record { vars = 0; lits = [] })
-
-abbrev pub part_count : Derivations → ℕ
-part_count none = 0
-part_count (also d ds) = 1 + part_count ds
-
--- The proof's numbers are in range, and its steps have a term for each variable of their axiom, and a part for each other literal.
-abbrev mutual
-  pub IsInRange : Draft → Derivation → Type 0
-  IsInRange d (fact leaf) = (leaf.column ≤ most_places) × (leaf.index ≤ most_places) × IsTableAtom d leaf.atom
-  IsInRange d (ancestor i) = i ≤ most_places
-  IsInRange d (step number theta place parts) =
-      (number < length d.axioms) × (place ≤ most_places) × (length theta ≡ (axiom_at d number).vars) × AreTableTerms d theta
-      × (part_count parts + 1 ≡ length (axiom_at d number).lits) × AreInRange d parts
-  IsInRange d (gap atom) = ⊥
-  IsInRange d open_place = ⊥
-
-  pub AreInRange : Draft → Derivations → Type 0
-  AreInRange d none = Unit {0}
-  AreInRange d (also e es) = IsInRange d e × AreInRange d es
-
--- a proof that may stand in a row
-abbrev pub IsRowProof : Draft → Proof → Type 0
-IsRowProof d proof = (height (derivation_of proof) ≤ greatest_written_height) × IsInRange d (derivation_of proof)
-
--- a step of one of the operators, with a term for each of its parameters
-abbrev pub IsTableStep : Draft → OpInst → Type 0
-IsTableStep d inst = (inst.op < length d.schemas) × (length inst.args ≡ (slice_index_or d.schemas inst.op no_schema).params)
-    × AreTableTerms d inst.args
 
 -- ---- the next line
 
@@ -127,12 +79,12 @@ IsDue d (due.Delete more) line =
     (atoms : List Atom) × (line ≡ delete atoms) × AreAtMost most_atoms (IsPatternOf (language d) d.schema.params) atoms
 IsDue d (due.Add more) line =
     (atoms : List Atom) × (line ≡ add atoms) × AreAtMost most_atoms (IsAtomOf (language d) d.schema.params) atoms
-IsDue d due.Table line = (sorts : List ℕ) × (line ≡ table sorts) × AreSorts most_places sorts
+IsDue d due.Table line = (sorts : List ℕ) × (line ≡ table sorts) × AreSorts most_table_parameters sorts
 IsDue d due.Goal line = (vars : ℕ) × (atoms : List Atom) × (line ≡ goal vars atoms)
-    × ((vars ≤ most_formula_variables) × AreAtMost most_atoms (IsTableAtom d) atoms)
-IsDue d due.Steps line = (count : ℕ) × (line ≡ steps count) × (count ≤ most_written_steps)
-IsDue d (due.Step more rows) line = (inst : OpInst) × (line ≡ action inst) × IsTableStep d inst
-IsDue d (due.Row more) line = (proofs : List Proof) × (line ≡ row proofs) × AreAtMost most_atoms (IsRowProof d) proofs
+    × ((vars ≤ most_formula_variables) × AreAtMost most_atoms (IsTableAtom (language d)) atoms)
+IsDue d due.Steps line = (count : ℕ) × (line ≡ steps count) × (count ≤ most_steps)
+IsDue d (due.Step more rows) line = (inst : OpInst) × (line ≡ action inst) × IsTableStep (language d) d.schemas inst
+IsDue d (due.Row more) line = (proofs : List Proof) × (line ≡ row proofs) × AreAtMost most_atoms (IsRowProof (language d) d.axioms) proofs
 IsDue d due.Nothing line = ⊥
 
 abbrev pub IsNext : Draft → Line → Type 0

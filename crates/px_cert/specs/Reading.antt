@@ -13,13 +13,15 @@ use Rattle.px_terms.specs.Operators.{no_schema}
 use Rattle.px_proof.specs.declared.proof.Proof.{Proof}
 use Rattle.px_proof.specs.declared.proof.Proof.TheVariants.{Fact, Anc}
 use Rattle.px_proof.specs.declared.proof.Proof.TheViews.{Step}
+use Rattle.px_table.specs.Limits.{most_steps}
 use Rattle.px_cert.specs.declared.draft.Draft.{Draft}
 use Rattle.px_cert.specs.declared.draft.Due.{Due}
 use Rattle.px_cert.specs.declared.draft.Due.TheVariants as due
 use Rattle.px_cert.specs.declared.refused.Refused.{Refused}
 use Rattle.px_cert.specs.declared.refused.Refused.TheVariants as refused
-use Rattle.px_cert.specs.Drafts.{after_line, axiom_at}
-use Rattle.px_cert.specs.Limits.{greatest_sort, greatest_written_height, most_atoms, most_objects, most_operators, most_places, most_predicates, most_written_steps, table_variables}
+use Rattle.px_table.specs.Deciding.{clause_at}
+use Rattle.px_cert.specs.Drafts.{after_line}
+use Rattle.px_cert.specs.Limits.{greatest_sort, greatest_written_height, most_atoms, most_objects, most_operators, most_places, most_predicates, most_table_parameters, table_variables}
 use Rattle.px_cert.specs.Lines.{Line, heading, objects, predicates, axioms, clause, operators, operator, pre, delete, add, table, goal, steps, action, row}
 
 -- ---- answers
@@ -170,8 +172,8 @@ step_of_parts parts = Step parts.0 parts.1.1.0 parts.1.0 parts.1.1.1
 -- a step whose parts are read so
 unfoldable pub step_at : Draft → Reader Proof → Reader Proof
 step_at d part = as_at step_of_parts
-    (pair_at (number_at (length d.axioms)) (λ number. pair_at place_at (λ place. pair_at (terms_at d (axiom_at d number).vars)
-    (λ theta. many_at part (length (axiom_at d number).lits - 1)))))
+    (pair_at (number_at (length d.axioms)) (λ number. pair_at place_at (λ place. pair_at (terms_at d (clause_at d.axioms number).vars)
+    (λ theta. many_at part (length (clause_at d.axioms number).lits - 1)))))
 
 -- a proof of at most so many levels
 unfoldable pub proof_at : Draft → ℕ → Reader Proof
@@ -245,9 +247,9 @@ due_line_at d (due.Operator more) bytes = as_line operator (line_of (codes "oper
 due_line_at d (due.Pre more) bytes = as_line pre (line_of (codes "pre") (atoms_at d d.schema.params false) bytes)
 due_line_at d (due.Delete more) bytes = as_line delete (line_of (codes "delete") (atoms_at d d.schema.params true) bytes)
 due_line_at d (due.Add more) bytes = as_line add (line_of (codes "add") (atoms_at d d.schema.params false) bytes)
-due_line_at d due.Table bytes = as_line table (line_of (codes "table") (sorts_at most_places) bytes)
+due_line_at d due.Table bytes = as_line table (line_of (codes "table") (sorts_at most_table_parameters) bytes)
 due_line_at d due.Goal bytes = as_line (λ read. goal read.0 read.1) (line_of (codes "goal") (goal_items d) bytes)
-due_line_at d due.Steps bytes = as_line steps (line_of (codes "steps") (number_at (most_written_steps + 1)) bytes)
+due_line_at d due.Steps bytes = as_line steps (line_of (codes "steps") (number_at (most_steps + 1)) bytes)
 due_line_at d (due.Step more rows) bytes = as_line action (line_of (codes "step") (step_items d) bytes)
 due_line_at d (due.Row more) bytes = as_line row (line_of (codes "row") (row_items d) bytes)
 due_line_at d due.Nothing bytes = None

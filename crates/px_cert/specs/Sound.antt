@@ -6,10 +6,12 @@ use Rattle.px_terms.specs.Clauses.{HasClauseLength}
 use Rattle.px_terms.specs.Limits.{most_arguments, most_clauses}
 use Rattle.px_terms.specs.Operators.{no_schema}
 use Rattle.px_terms.specs.Validity.{IsAxiomOf, IsSchemaOf}
+use Rattle.px_table.specs.Limits.{most_steps}
 use Rattle.px_cert.specs.declared.draft.Draft.{Draft}
 use Rattle.px_cert.specs.declared.draft.Due.{Due}
 use Rattle.px_cert.specs.declared.draft.Due.TheVariants as due
-use Rattle.px_cert.specs.Drafts.{AreAtMost, AreSorts, HasObjectFor, language}
+use Rattle.px_cert.specs.ClaimRanges.{AreAtMost, AreSorts}
+use Rattle.px_cert.specs.Drafts.{HasObjectFor, language}
 use Rattle.px_cert.specs.Limits.{most_objects, most_operators, most_predicates}
 
 abbrev pub IsGoodClause : Draft → Clause → Type 0
@@ -47,21 +49,32 @@ IsOpenSchema d (due.Delete more) = IsGoodSchema d (length d.schemas) d.schema
 IsOpenSchema d (due.Add more) = IsGoodSchema d (length d.schemas) d.schema
 IsOpenSchema d what = Unit {0}
 
+-- how many lines may come at most: from that of the table's parameters on, from that of the number of operators on, from that of the
+-- number of axioms on
+abbrev pub most_table_lines : ℕ
+most_table_lines = 3 + (most_steps + (most_steps + 1))
+
+abbrev pub most_operator_lines : ℕ
+most_operator_lines = 1 + 4 * most_operators + most_table_lines
+
+abbrev pub most_axiom_lines : ℕ
+most_axiom_lines = 1 + most_clauses + most_operator_lines
+
 -- how many lines may come, at most, the due one among them
 abbrev pub lines_left : Due → ℕ
-lines_left due.Heading = 329
-lines_left due.Objects = 328
-lines_left due.Predicates = 327
-lines_left due.Axioms = 326
-lines_left (due.Axiom more) = more + 262
-lines_left due.Operators = 261
-lines_left (due.Operator more) = 4 * more + 136
-lines_left (due.Pre more) = 4 * more + 135
-lines_left (due.Delete more) = 4 * more + 134
-lines_left (due.Add more) = 4 * more + 133
-lines_left due.Table = 132
-lines_left due.Goal = 131
-lines_left due.Steps = 130
+lines_left due.Heading = 3 + most_axiom_lines
+lines_left due.Objects = 2 + most_axiom_lines
+lines_left due.Predicates = 1 + most_axiom_lines
+lines_left due.Axioms = most_axiom_lines
+lines_left (due.Axiom more) = more + 1 + most_operator_lines
+lines_left due.Operators = most_operator_lines
+lines_left (due.Operator more) = 4 * more + 4 + most_table_lines
+lines_left (due.Pre more) = 4 * more + 3 + most_table_lines
+lines_left (due.Delete more) = 4 * more + 2 + most_table_lines
+lines_left (due.Add more) = 4 * more + 1 + most_table_lines
+lines_left due.Table = most_table_lines
+lines_left due.Goal = 2 + (most_steps + (most_steps + 1))
+lines_left due.Steps = 1 + (most_steps + (most_steps + 1))
 lines_left (due.Step more rows) = more + 1 + rows
 lines_left (due.Row more) = more + 1
 lines_left due.Nothing = 0

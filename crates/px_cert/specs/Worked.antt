@@ -1,26 +1,24 @@
--- A certificate worked out by hand: of the plan that makes G from nothing.
-use Rattle.std.specs.Fmt.{digits}
-use Rattle.std.specs.Prelude.{◌≡◌, [], ◌∷◌, codes}
-use Rattle.std.specs.List.{flat_map}
-use Rattle.std.proofs.Common.{refl}
+-- Certificates worked out by hand: of the plan that makes G from nothing.
+use Rattle.std.specs.Prelude.{◌≡◌, ◌++◌, ℕ, List, [], ◌∷◌, codes}
 use Rattle.px_terms.specs.declared.atom.Atom.{Atom}
 use Rattle.px_terms.specs.declared.problem.Problem.{Problem}
-use Rattle.px_terms.specs.declared.term.Term.TheVariants.{Obj, Var, Any}
+use Rattle.px_proof.specs.declared.proof.Proof.{Proof}
 use Rattle.px_proof.specs.declared.proof.Proof.TheVariants.{Fact}
-use Rattle.px_proof.specs.LayerLaws.{derivation_of-fact}
 use Rattle.px_table.specs.declared.table.Table.{Table}
-use Rattle.px_cert.specs.Certificates.{certificate_text}
-use Rattle.px_cert.specs.Lines.{delete, line_bytes, row}
+use Rattle.px_table.specs.Tables.{IsTable, table_of_rows}
+use Rattle.px_cert.specs.Certificates.{IsCertificate, IsFirstBadLine, certificate_text, certified_claim}
+use Rattle.px_cert.specs.ClaimRanges.{certified}
 
-abbrev the_atom : Atom
-the_atom = record { pred = 0; args = [] }
+abbrev pub goal_atom : Atom
+goal_atom = record { pred = 0; args = [] }
 
-abbrev the_problem : Problem
-the_problem = record {
+-- one predicate without arguments, and one operator that adds its atom
+abbrev pub making_problem : Problem
+making_problem = record {
   objects = 0;
   arities = 0 ∷ [];
   axioms = [];
-  schemas = record { op = 0; params = 0; pre = []; del = []; add = the_atom ∷ []; param_sorts = [] } ∷ [];
+  schemas = record { op = 0; params = 0; pre = []; del = []; add = goal_atom ∷ []; param_sorts = [] } ∷ [];
   height = 4;
   nodes = 10000;
   shapes = 10000;
@@ -29,29 +27,25 @@ the_problem = record {
   weight = 0;
 }
 
-abbrev the_table : Table
-the_table = record {
-  params = 0;
-  steps = record { op = 0; args = [] } ∷ [];
-  goal = the_atom ∷ [];
-  goal_vars = 0;
-  marks = record { atom = the_atom; row = 2; column = 1; index = 0 } ∷ [];
-  proofs = [];
-  param_sorts = [];
-}
+-- the goal's row rests on the first add of the step of that number
+abbrev pub making_rows : ℕ → List (List Proof)
+making_rows column = [] ∷ (Fact (record { column = column; index = 0; atom = goal_atom }) ∷ []) ∷ []
 
--- all lines but those of the rows
-pub worked : certificate_text the_problem the_table
-    ≡ codes "planex certificate 1\nobjects 0\npredicates 1 0\naxioms 0\noperators 1\noperator 0\npre 0\ndelete 0\nadd 1 0\ntable 0\ngoal 0 1 0\nsteps 1\nstep 0\n"
-unfolding digits
-worked = refl
+-- the operator's one step leads to its atom
+abbrev pub making_table : ℕ → Table
+making_table column = table_of_rows 0 [] (record { op = 0; args = [] } ∷ []) (goal_atom ∷ []) 0 (making_rows column)
 
--- the lines of the rows
-pub worked_rows : flat_map line_bytes (row [] ∷ row (Fact (record { column = 1; index = 0; atom = the_atom }) ∷ []) ∷ [])
-    ≡ codes "row 0\nrow 1 f 1 0 0\n"
-unfolding digits
-worked_rows = rw derivation_of-fact refl
+-- all lines but the last
+abbrev pub front_text : List ℕ
+front_text =
+    codes "planex certificate 1\nobjects 0\npredicates 1 0\naxioms 0\noperators 1\noperator 0\npre 0\ndelete 0\nadd 1 0\ntable 0\ngoal 0 1 0\nsteps 1\nstep 0\nrow 0\n"
 
-pub worked_patterns : line_bytes (delete (record { pred = 3; args = Obj 12 ∷ Var 0 ∷ Any ∷ [] } ∷ [])) ≡ codes "delete 1 3 o12 v0 $\n"
-unfolding digits
-worked_patterns = refl
+-- The text of the plan's table, which is one for its problem. Where the last line names a second step, the text is a certificate, too, and
+-- its table is none. Where that line is missing, it is the first bad one.
+pub record WorkedCertificates : Type 0 where
+  pub text : certificate_text making_problem (making_table 1) ≡ front_text ++ codes "row 1 f 1 0 0\n"
+  pub is_certificate : IsCertificate (front_text ++ codes "row 1 f 1 0 0\n") (certified_claim making_problem (making_table 1))
+  pub right : IsTable (certified making_problem) (making_table 1)
+  pub is_other : IsCertificate (front_text ++ codes "row 1 f 2 0 0\n") (certified_claim making_problem (making_table 2))
+  pub wrong : ¬ IsTable (certified making_problem) (making_table 2)
+  pub cut : IsFirstBadLine front_text 15

@@ -30,6 +30,8 @@ mod words;
 mod writing;
 
 pub use cert::{Cert, CertErr, verify};
-pub use laws::{certificates_read_one_way, claims_are_texts, tables_are_certified};
+pub use laws::{
+    certificates_read_one_way, claims_are_texts, tables_are_certified, worked_certificates,
+};
 pub use reading::read_cert;
 pub use writing::cert_text;

@@ -10,9 +10,11 @@ pub const MOST_OPERATORS: u32 = 32;
 pub const GREATEST_SORT: u32 = 32;
 /// The most atoms of a list of an operator and of a goal, and the most proofs of a row.
 pub const MOST_ATOMS: u32 = 16;
-/// The most parameters of a table, and the greatest column, index, ancestor and place of a proof.
+/// The most parameters of a table.
+pub const MOST_TABLE_PARAMETERS: u32 = 9999;
+/// The greatest column, index, ancestor and place of a proof.
 pub const MOST_PLACES: u32 = 9999;
-/// How many variables a step, a goal and a proof may name.
+/// How many variables a step, a goal and a proof may name: the parameters of a table, and those of a goal.
 pub const TABLE_VARIABLES: u32 = 10011;
 /// The most steps.
 pub const MOST_WRITTEN_STEPS: u32 = 64;

@@ -1,14 +1,15 @@
 //! The lines of a certificate's table.
 ghost use Rattle.std.specs.Prelude.{◌≡◌, ◌+◌, ◌++◌, ◌∷◌, [], OnOk, codes};
+ghost use Rattle.px_table.specs.Limits.{most_steps};
 ghost use Rattle.px_cert.specs.declared.draft.Due.TheVariants as due;
 ghost use Rattle.px_cert.specs.Drafts.{after_line, rows_then, steps_then};
-ghost use Rattle.px_cert.specs.Limits.{most_places, most_written_steps};
+ghost use Rattle.px_cert.specs.Limits.{most_table_parameters};
 ghost use Rattle.px_cert.specs.Lines.{action, goal, row, steps, table};
 ghost use Rattle.px_cert.specs.Reading.{Leaves, Reads, goal_items, line_of, number_at, row_items, sorts_at, step_items, then_at};
 ghost use Rattle.px_cert.specs.Sound.{IsSound};
 
 use crate::draft::{Draft, Due};
-use crate::limits::{MOST_PLACES, MOST_WRITTEN_STEPS, TABLE_VARIABLES};
+use crate::limits::{MOST_TABLE_PARAMETERS, MOST_WRITTEN_STEPS, TABLE_VARIABLES};
 use crate::problem_lines::{number_line, sorts_line};
 use crate::proof_terms::row_proofs;
 use crate::refused::Refused;
@@ -51,9 +52,9 @@ pub(crate) fn table_line<'a>(
     bytes: &'a [u8],
 ) -> Result<&'a [u8], Refused>
     ensures { Leaves draft.new result
-        (then_at (line_of (codes "table") (sorts_at most_places) bytes.now) (λ read. after_line draft.old (table read))) }
+        (then_at (line_of (codes "table") (sorts_at most_table_parameters) bytes.now) (λ read. after_line draft.old (table read))) }
 {
-    let (sorts, rest) = sorts_line(alloc, bytes, b"table", MOST_PLACES)?;
+    let (sorts, rest) = sorts_line(alloc, bytes, b"table", MOST_TABLE_PARAMETERS)?;
     draft.params = Sequence::from_vec(sorts);
     draft.due = Due::Goal;
     Ok(rest)
@@ -86,7 +87,7 @@ pub(crate) fn goal_line<'a>(
 /// Reads the line of the number of steps.
 pub(crate) fn steps_line<'a>(draft: &mut Draft, bytes: &'a [u8]) -> Result<&'a [u8], Refused>
     ensures { Leaves draft.new result
-        (then_at (line_of (codes "steps") (number_at (most_written_steps + 1)) bytes.now) (λ read. after_line draft.old (steps read))) }
+        (then_at (line_of (codes "steps") (number_at (most_steps + 1)) bytes.now) (λ read. after_line draft.old (steps read))) }
 {
     let (count, rest) = number_line(bytes, b"steps", MOST_WRITTEN_STEPS + 1)?;
     draft.due = steps_then(count, count + 1);

@@ -4,7 +4,8 @@ ghost use Rattle.std.specs.List.{flat_map};
 ghost use Rattle.px_proof.specs.Derivation.{derivations};
 ghost use Rattle.px_proof.specs.ProofTerm.{derivation_of};
 ghost use Rattle.px_table.specs.Tables.{IsTable};
-ghost use Rattle.px_cert.specs.Certificates.{IsCertifiable, IsCertificate, certificate_text, certified, certified_claim, problem_lines, schema_lines, table_lines};
+ghost use Rattle.px_cert.specs.ClaimRanges.{certified};
+ghost use Rattle.px_cert.specs.Certificates.{IsCertifiable, IsCertificate, certificate_text, certified_claim, problem_lines, schema_lines, table_lines};
 ghost use Rattle.px_cert.specs.Lines.{action, add, atom_item, axioms, clause, delete, derivation_items, goal, heading, line_bytes, line_of_items, list_item, literal_item, number_item, objects, operator, operators, pre, predicates, proof_item, row, sign_item, steps, table, term_item};
 
 use px_base::NoMemory;

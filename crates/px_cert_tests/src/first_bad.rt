@@ -18,8 +18,8 @@ pub(crate) fn first_bad(alloc: Global, text: &[u8]) -> u32 {
 }
 
 /// Returns whether what the certificate claims is so; nothing for another text.
-fn is_right(rt: HostRuntime, text: &str) -> Option<bool> {
-    match read_cert(rt.alloc(), text.as_bytes()) {
+fn is_right(alloc: Global, text: &str) -> Option<bool> {
+    match read_cert(alloc, text.as_bytes()) {
         Ok(cert) => Some(verify(&cert)),
         Err(_) => None,
     }
@@ -34,17 +34,19 @@ fn with_rows(alloc: Global, rt: &impl Abort, rows: &str) -> String {
 #[test]
 fn plan_is_right(rt: HostRuntime) {
     let right = with_rows(rt.alloc(), &rt, "row 0\nrow 1 f 1 0 0\n");
-    assert!(&rt; matches!(is_right(rt, &right), Some(true)));
+    assert!(&rt; matches!(is_right(rt.alloc(), &right), Some(true)));
 }
 
 #[test]
-fn leaf_has_another_index(rt: HostRuntime) {
-    let wrong = with_rows(rt.alloc(), &rt, "row 0\nrow 1 f 1 1 0\n");
-    assert!(&rt; matches!(is_right(rt, &wrong), Some(false)));
+fn leaf_names_no_add(rt: HostRuntime) {
+    for rows in ["row 0\nrow 1 f 1 1 0\n", "row 0\nrow 1 f 2 0 0\n"] {
+        let wrong = with_rows(rt.alloc(), &rt, rows);
+        assert!(&rt; matches!(is_right(rt.alloc(), &wrong), Some(false)));
+    }
 }
 
 /// The texts of the rows, each with the number of the first wrong line.
-const ROWS: [(&str, u32); 8] = [
+const ROWS: [(&str, u32); 11] = [
     ("row 0\nrow 1 f 1 0 0\n", 0),
     ("row 0\nrow 1 f 1 0 0", 15),
     ("row 0\nrow 1 f 1 0 0\n\n", 16),
@@ -53,6 +55,9 @@ const ROWS: [(&str, u32); 8] = [
     ("row 0\nrow 1 f 01 0 0\n", 15),
     ("row 0\nrow 1 f 1 0 0 \n", 15),
     ("row 00\nrow 1 f 1 0 0\n", 14),
+    ("row 0\nrow 1 f 9999 9999 0\n", 0),
+    ("row 0\nrow 1 f 10000 0 0\n", 15),
+    ("row 0\nrow 1 a 10000\n", 15),
 ];
 
 #[test]

@@ -5,7 +5,7 @@ use std::process::Abort;
 use std::rt::HostRuntime;
 
 /// Beginnings of certificates, each with the number of the first wrong line. Where the last line is right it is the line that is missing.
-const BEGINNINGS: [(&str, u32); 21] = [
+const BEGINNINGS: [(&str, u32); 24] = [
     ("objects 1 32\n", 3),
     ("objects 1 33\n", 2),
     ("objects 0\npredicates 1 6\n", 4),
@@ -38,6 +38,18 @@ const BEGINNINGS: [(&str, u32); 21] = [
     (
         "objects 1 0\npredicates 0\naxioms 0\noperators 1\noperator 9 0 0 0 0 0 0 0 0 0\n",
         6,
+    ),
+    (
+        "objects 0\npredicates 0\naxioms 0\noperators 0\ntable 1 33\n",
+        6,
+    ),
+    (
+        "objects 1 0\npredicates 1 1\naxioms 0\noperators 0\ntable 0\ngoal 0 1 0 o1\n",
+        7,
+    ),
+    (
+        "objects 0\npredicates 1 1\naxioms 0\noperators 0\ntable 0\ngoal 0 1 0 $\n",
+        8,
     ),
     (
         "objects 0\npredicates 0\naxioms 0\noperators 0\ntable 0\ngoal 12 0\n",

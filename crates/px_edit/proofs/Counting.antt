@@ -35,6 +35,17 @@ number-below [] k all = refl
 number-below (x ∷ xs) k all =
     number-no x xs k (all 0 x (omega arith)) ∙ number-below xs k (λ i d below. all (suc i) d (omega (arith, below)))
 
+-- a later number isn't less
+pub number-rises : (xs : List ℕ) (a b : ℕ) → a ≤ b → new_number xs a ≤ new_number xs b
+number-rises [] a b low = omega arith
+number-rises (x ∷ xs) a b low = elim (within-or-not x a) [
+  | inl inside ↦ omega (arith, number-rises xs a b low, number-yes x xs a inside, number-yes x xs b (omega (arith, inside, low)))
+  | inr past ↦ omega (arith, number-rises xs a b low, number-no x xs a past, number-more x xs b)
+]
+  where
+    within-or-not : (x a : ℕ) → (x ≤ a) ⊎ (a < x)
+    within-or-not x a = grind arith
+
 pairs-rest : (x : ℕ) (xs : List ℕ) → AllPairs (λ a b. a < b) (x ∷ xs) → AllPairs (λ a b. a < b) xs
 pairs-rest x xs all = λ i j d lt within. all (suc i) (suc j) d (omega (arith, lt)) (omega (arith, within))
 

@@ -10,7 +10,7 @@ use Rattle.px_table.specs.Limits.{most_steps}
 use Rattle.px_table.specs.Tables.{IsTable, rows_of}
 use Rattle.px_edit.specs.declared.edit_err.EditErr.{EditErr}
 use Rattle.px_edit.specs.Editing.{AreKeptSteps, IsEdited, kept_of}
-use Rattle.px_edit.specs.EditCauses.{IsAddOf, IsBadPrefix, IsEditable, KeepsTooDeep, KeepsTooMany, most_height}
+use Rattle.px_edit.specs.EditCauses.{IsAddOf, IsBadPrefix, IsEditable, KeepsTooDeep, KeepsTooMany, most_kept_height}
 use Rattle.px_edit.proofs.Needed.{kept_is_one}
 use Rattle.px_edit.proofs.Sound.{edited-low, edited-steps}
 
@@ -18,9 +18,9 @@ module _ (table : Table) (wanted : List (ℕ × ℕ)) (kept : List ℕ) (are : A
   pub many-by : KeepsTooMany table wanted → most_steps < length kept
   many-by many = subst (λ l. most_steps < length l) (kept_is_one table wanted many.0 kept many.1 are) many.2
 
-  pub deep-by : KeepsTooDeep table wanted → Any (Any (λ d. most_height < height d)) (kept_of [] kept (rows_of table.proofs))
+  pub deep-by : KeepsTooDeep table wanted → Any (Any (λ d. most_kept_height < height d)) (kept_of [] kept (rows_of table.proofs))
   deep-by deep =
-      subst (λ l. Any (Any (λ d. most_height < height d)) (kept_of [] l (rows_of table.proofs)))
+      subst (λ l. Any (Any (λ d. most_kept_height < height d)) (kept_of [] l (rows_of table.proofs)))
       (kept_is_one table wanted deep.0 kept deep.1 are) deep.2
 
   pub few-by : (problem : Problem) (prefix : ℕ) (edited : Table) → IsTable problem table → IsEditable problem table prefix wanted
@@ -30,11 +30,11 @@ module _ (table : Table) (wanted : List (ℕ × ℕ)) (kept : List ℕ) (are : A
       omega (arith, few, ap length same, edited-steps problem table prefix wanted edited is may done)
 
   pub low-by : (problem : Problem) (edited : Table)
-      → ¬ Any (Any (λ d. most_height < height d)) (kept_of [] kept (rows_of table.proofs)) → IsEdited problem table wanted edited
-      → ¬ Any (Any (λ d. most_height < height d)) (rows_of edited.proofs)
+      → ¬ Any (Any (λ d. most_kept_height < height d)) (kept_of [] kept (rows_of table.proofs)) → IsEdited problem table wanted edited
+      → ¬ Any (Any (λ d. most_kept_height < height d)) (rows_of edited.proofs)
   low-by problem edited low done =
       edited-low problem table wanted edited done
-      (subst (λ l. ¬ Any (Any (λ d. most_height < height d)) (kept_of [] l (rows_of table.proofs)))
+      (subst (λ l. ¬ Any (Any (λ d. most_kept_height < height d)) (kept_of [] l (rows_of table.proofs)))
       (sym (kept_is_one table wanted done.kept kept done.are_kept are)) low)
 
 -- the prefix is there where it isn't bad

@@ -8,16 +8,16 @@ use Rattle.px_proof.specs.PlaceLaws.{Contains-mapped, slice_get-within}
 use Rattle.px_proof.specs.ProofTerm.{derivation_of}
 use Rattle.px_table.specs.KernelLaws.{Contains-from_map}
 use Rattle.px_table.specs.Tables.{rows_of}
-use Rattle.px_edit.specs.EditCauses.{most_height}
+use Rattle.px_edit.specs.EditCauses.{most_kept_height}
 use Rattle.px_edit.specs.Editing.{kept_of}
 use Rattle.px_edit.proofs.Lists.{place_of, read-at, read-map}
 use Rattle.px_edit.proofs.PartSteps.{row-at}
 
 abbrev IsHigh : Derivation → Type 0
-IsHigh d = most_height < height d
+IsHigh d = most_kept_height < height d
 
 abbrev IsHighProof : Proof → Type 0
-IsHighProof proof = most_height < height (derivation_of proof)
+IsHighProof proof = most_kept_height < height (derivation_of proof)
 
 to_any : {X : Type 0} (P : X → Type 0) (xs : List X) (x : X) → Contains xs x → P x → Any P xs
 to_any P xs x has holds = (has.0, x, has.1, has.2, holds)

@@ -99,12 +99,12 @@ module _ (problem : Problem) (valid : IsValid problem) (table : Table) (is : IsT
 
   -- ---- the goal
 
-  wanted-step : (pair : ℕ × ℕ) → Contains wanted pair → (1 ≤ pair.0) × (pair.0 ≤ length table.steps)
+  pub wanted-step : (pair : ℕ × ℕ) → Contains wanted pair → (1 ≤ pair.0) × (pair.0 ≤ length table.steps)
   wanted-step pair has =
       let add = All-at (IsAddOf problem table prefix) wanted pair may.adds_are has in
       (add.counted, omega (arith, add.within, may.most))
 
-  wanted-there : (pair : ℕ × ℕ) → Contains wanted pair
+  pub wanted-there : (pair : ℕ × ℕ) → Contains wanted pair
       → slice_get (adds problem (old_step pair.0)) pair.1 ≡ Some (wanted_atom problem table pair)
   wanted-there pair has =
       slice_get-read (adds problem (old_step pair.0)) pair.1 no_atom (All-at (IsAddOf problem table prefix) wanted pair may.adds_are has).has

@@ -1,4 +1,5 @@
 -- The files of lemmas.
+pub mod Alike
 pub mod Counting
 pub mod EditLimits
 pub mod EditSteps
@@ -10,10 +11,14 @@ pub mod Lists
 pub mod Names
 pub mod NameSteps
 pub mod Needed
+pub mod Numbered
 pub mod OfParts
 pub mod PartSteps
+pub mod PartsThere
 pub mod Replies
 pub mod Restricting
 pub mod Sound
 pub mod StepAtoms
 pub mod TableParts
+pub mod There
+pub mod WorkedEditLaws

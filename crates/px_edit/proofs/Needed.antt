@@ -31,7 +31,7 @@ module _ (table : Table) (wanted : List (ℕ × ℕ)) (kept : List ℕ) (are : A
 -- what is needed is of the prefix
 module _ (problem : Problem) (table : Table) (prefix : ℕ) (wanted : List (ℕ × ℕ)) (is : IsTable problem table)
     (may : IsEditable problem table prefix wanted) where
-  needed_within : {k : ℕ} → IsNeededStep table wanted k → (1 ≤ k) × (k ≤ prefix)
+  pub needed_within : {k : ℕ} → IsNeededStep table wanted k → (1 ≤ k) × (k ≤ prefix)
   needed_within (asked {k} index has) =
       let add = All-at (IsAddOf problem table prefix) wanted (k, index) may.adds_are has in (add.counted, add.within)
   needed_within (rested_on {k} {row} needed mark has row_is column_is least) =

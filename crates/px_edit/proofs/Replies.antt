@@ -1,9 +1,10 @@
 -- The clauses of an edit by what is refused and what is allowed.
-use Rattle.std.specs.Prelude.{◌≡◌, ◌⊎◌, ◌<◌, ◌≤◌, ℕ, List, [], length, Any, Result, Ok, Err, IfOk, IfErr}
+use Rattle.std.specs.Prelude.{◌≡◌, ◌⊎◌, ◌<◌, ◌≤◌, ℕ, List, [], length, All, Any, Result, Ok, Err, IfOk, IfErr}
 use Rattle.std.proofs.Common.{refl, sym, ap, subst, inl, inr, arith}
 use Rattle.px_terms.specs.declared.problem.Problem.{Problem}
 use Rattle.px_terms.specs.Validity.{IsValid}
-use Rattle.px_proof.specs.Derivation.{height}
+use Rattle.px_base.specs.ListLaws.{All-each}
+use Rattle.px_proof.specs.Derivation.{Derivation, height}
 use Rattle.px_table.specs.declared.table.Table.{Table}
 use Rattle.px_table.specs.KernelLaws.{kernels_carry}
 use Rattle.px_table.specs.Kernels.{KernelsCarry}
@@ -11,7 +12,7 @@ use Rattle.px_table.specs.Limits.{most_steps}
 use Rattle.px_table.specs.Tables.{IsTable, rows_of}
 use Rattle.px_edit.specs.declared.edit_err.EditErr.{EditErr}
 use Rattle.px_edit.specs.declared.edit_err.EditErr.TheVariants.{BadPrefix, BadWant, TooLong, TooDeep, NoMemory}
-use Rattle.px_edit.specs.EditCauses.{IsEditable, KeepsTooDeep, KeepsTooMany, most_height}
+use Rattle.px_edit.specs.EditCauses.{IsEditable, KeepsTooDeep, KeepsTooMany, most_kept_height}
 use Rattle.px_edit.specs.EditClaims.{EachStepServes}
 use Rattle.px_edit.specs.Editing.{IsEdited, kept_of}
 use Rattle.px_edit.specs.Refusals.{IsWithinLimits, Refuses}
@@ -20,6 +21,15 @@ use Rattle.px_edit.proofs.Sound.{edited-serves, edited-table}
 
 few_or_many : (n limit : ℕ) → (n ≤ limit) ⊎ (limit < n)
 few_or_many n limit = grind arith
+
+-- where none is high, each is low
+lows : (rows : List (List Derivation)) → ¬ Any (Any (λ d. most_kept_height < height d)) rows
+    → All (All (λ d. height d ≤ most_kept_height)) rows
+lows rows low = All-each (All (λ d. height d ≤ most_kept_height)) rows (λ row has.
+    All-each (λ d. height d ≤ most_kept_height) row (λ d there. elim (few_or_many (height d) most_kept_height) [
+      | inl here ↦ here
+      | inr high ↦ absurd (low (has.0, row, has.1, has.2, (there.0, d, there.1, there.2, high)))
+    ]))
 
 module _ (problem : Problem) (valid : IsValid problem) (table : Table) (is : IsTable problem table) (prefix : ℕ) (wanted : List (ℕ × ℕ))
     (may : IsEditable problem table prefix wanted) where
@@ -40,9 +50,12 @@ module _ (problem : Problem) (valid : IsValid problem) (table : Table) (is : IsT
       | inr many ↦ absurd (limits.few (done.kept, done.are_kept, many))
     ]
 
-    pub made-low : IsWithinLimits table wanted → ¬ Any (Any (λ d. most_height < height d)) (rows_of edited.proofs)
+    pub made-low : IsWithinLimits table wanted → ¬ Any (Any (λ d. most_kept_height < height d)) (rows_of edited.proofs)
     made-low limits =
         low-by table wanted done.kept done.are_kept problem edited (λ high. limits.low (done.kept, done.are_kept, high)) done
+
+    pub made-lows : IsWithinLimits table wanted → All (All (λ d. height d ≤ most_kept_height)) (rows_of edited.proofs)
+    made-lows limits = lows (rows_of edited.proofs) (made-low limits)
 
 module _ (table : Table) (wanted : List (ℕ × ℕ)) where
   module _ (r : Result Table EditErr) (refused : IfErr r (Refuses table wanted)) where

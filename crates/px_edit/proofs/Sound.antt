@@ -1,5 +1,5 @@
 -- The laws of editing.
-use Rattle.std.specs.Prelude.{◌≡◌, ◌⊎◌, ◌+◌, ◌-◌, ◌<◌, ◌≤◌, ℕ, max, Some, List, [], ◌∷◌, ◌++◌, map, length, slice_get, slice_index_or, All, Any, Contains}
+use Rattle.std.specs.Prelude.{◌≡◌, ◌⊎◌, ◌+◌, ◌-◌, ◌<◌, ◌≤◌, ℕ, max, Some, List, [], ◌∷◌, ◌++◌, map, filter, flat_map, length, slice_get, slice_index_or, All, Any, Contains}
 use Rattle.std.proofs.Common.{zero, suc, refl, sym, ap, ◌∙◌, subst, inl, inr, arith}
 use Rattle.std.proofs.lemmas.List.{length-map}
 use Rattle.std.proofs.lemmas.List.Elements.{Contains-append_cases}
@@ -7,6 +7,8 @@ use Rattle.px_base.specs.Answers.{cons_same}
 use Rattle.px_base.specs.ListLaws.{Contains-one}
 use Rattle.px_terms.specs.declared.problem.Problem.{Problem}
 use Rattle.px_terms.specs.declared.term.Term.{Term}
+use Rattle.px_terms.specs.Language.{substitute}
+use Rattle.px_terms.specs.Order.{term_eq}
 use Rattle.px_terms.specs.Substitution.{substitute_atom, substitute_instance}
 use Rattle.px_terms.specs.Validity.{IsValid}
 use Rattle.px_proof.specs.declared.proof.Proof.{Proof}
@@ -19,16 +21,24 @@ use Rattle.px_table.specs.declared.mark.Mark.{Mark}
 use Rattle.px_table.specs.declared.table.Table.{Table}
 use Rattle.px_table.specs.KernelLaws.{Contains-from_map}
 use Rattle.px_table.specs.Marks.{marks_from}
+use Rattle.px_table.specs.Once.{each_once}
+use Rattle.px_table.specs.Parameters.{IsNumbered, goal_terms, is_parameter, row_terms, step_terms, terms_in}
+use Rattle.px_table.specs.Supports.{variables}
 use Rattle.px_table.specs.Tables.{IsTable, rows_of}
-use Rattle.px_table.specs.WellSorted.{sorts_by_places}
-use Rattle.px_edit.specs.EditCauses.{IsEditable, most_height}
+use Rattle.px_table.specs.WellSorted.{HasSortsOfPlaces, sorts_by_places}
+use Rattle.px_table.specs.WellSortedLaws.{sorts_by_places-said}
+use Rattle.px_edit.specs.EditCauses.{IsEditable, most_kept_height}
 use Rattle.px_edit.specs.EditClaims.{EachStepServes, EditingIsSound}
-use Rattle.px_edit.specs.Editing.{AreKeptSteps, IsEdited, IsNeededStep, IsRenamedTable, asked, in_columns, kept_of, kept_rows, kept_steps, left_parameters, names_by, new_number, no_step, rested_on, wanted_atom, wanted_atoms, wanted_fact}
+use Rattle.px_edit.specs.Editing.{AreKeptSteps, IsEdited, IsNeededStep, IsRenamedTable, asked, in_columns, kept_of, kept_rows, kept_steps, left_parameters, names_by, new_number, no_step, rested_on, terms_of_parts, wanted_atom, wanted_atoms, wanted_fact}
+use Rattle.px_edit.proofs.Alike.{marks-kept, used-alike}
 use Rattle.px_edit.proofs.Counting.{number-at}
 use Rattle.px_edit.proofs.InColumns.{height-columns}
 use Rattle.px_edit.proofs.KeptParts.{kept-mark, kept-parts, wanted-mark}
 use Rattle.px_edit.proofs.Lists.{place_of}
 use Rattle.px_edit.proofs.Needed.{keeps_wanted, kept_is_one, nothing_missed}
+use Rattle.px_edit.proofs.Numbered.{named-terms, parts-numbered}
+use Rattle.px_edit.proofs.PartsThere.{parts-there}
+use Rattle.px_edit.proofs.There.{edited-there}
 use Rattle.px_edit.proofs.TableParts.{mark_named, parts-named, table-of_parts, to_marks-named}
 
 -- ---- it is a table
@@ -104,7 +114,7 @@ mutual
       ap (λ n. max n (greatest_height (derivations_under terms ds))) (height-under terms d) ∙ ap (max (height d)) (heights-under terms ds)
 
 abbrev IsHigh : Derivation → Type 0
-IsHigh d = most_height < height d
+IsHigh d = most_kept_height < height d
 
 -- where no proof of the kept rows is high, none of the edited table is
 pub edited-low : (problem : Problem) (table : Table) (wanted : List (ℕ × ℕ)) (edited : Table) (done : IsEdited problem table wanted edited)
@@ -210,6 +220,44 @@ edited-one problem table wanted a b one other =
     (one.params, one.renamed))
     (other.params, other.renamed)
 
+-- ---- its parameters
+
+module _ (problem : Problem) (table : Table) (prefix : ℕ) (wanted : List (ℕ × ℕ)) (edited : Table) (is : IsTable problem table)
+    (may : IsEditable problem table prefix wanted) (done : IsEdited problem table wanted edited) (valid : IsValid problem) where
+  abbrev left : List Term
+  left = left_parameters problem table wanted done.kept
+
+  abbrev own_names : List Term
+  own_names = names_by table.params left
+
+  abbrev old_rows : List (List Derivation)
+  old_rows = kept_rows problem table wanted done.kept
+
+  abbrev arguments : List Mark → List Term
+  arguments marks = flat_map (λ (mark : Mark). mark.atom.args) marks
+
+  own-terms : terms_in edited
+      ≡ map (substitute own_names) (terms_of_parts (kept_steps table done.kept) (wanted_atoms problem table wanted) old_rows)
+  own-terms =
+      let parts = kept-parts problem valid table is prefix wanted may done.kept done.are_kept in
+      let marks : edited.marks ≡ marks_from 1 (map (map (derivation_under own_names)) old_rows) =
+      done.renamed.marks_are ∙ ap (marks_from 1) done.renamed.rows_are in
+      (λ i. arguments (marks i) ++ (step_terms (done.renamed.steps_are i)
+      ++ (goal_terms (done.renamed.goal_is i) ++ row_terms (done.renamed.rows_are i))))
+      ∙ named-terms problem valid table.params table.param_sorts (kept_steps table done.kept) (wanted_atoms problem table wanted) old_rows parts
+
+  pub edited-numbered : IsNumbered edited
+  edited-numbered =
+      let parts = kept-parts problem valid table is prefix wanted may done.kept done.are_kept in
+      ap (λ n. each_once term_eq (filter (is_parameter n) (terms_in edited))) done.params
+      ∙ ap (λ l. each_once term_eq (filter (is_parameter (length left)) l)) own-terms
+      ∙ parts-numbered problem valid table.params table.param_sorts (kept_steps table done.kept) (wanted_atoms problem table wanted) old_rows parts
+      ∙ ap variables (sym done.params)
+
+  pub edited-sorts : HasSortsOfPlaces problem edited
+  edited-sorts =
+      sorts_by_places-said problem edited (edited-table problem table prefix wanted edited is may done valid).sorted done.renamed.sorts_are
+
 -- ---- all together
 
 pub editing_sound : EditingIsSound
@@ -218,5 +266,12 @@ editing_sound = record {
   serves = λ problem table prefix wanted edited valid is may done. edited-serves problem table prefix wanted edited is may done valid;
   whole = λ problem table prefix wanted kept is may are.
       (nothing_missed table wanted kept are, keeps_wanted problem table prefix wanted is may kept are);
+  there = parts-there;
+  marks = λ problem table prefix wanted edited valid is may done. marks-kept problem valid table is prefix wanted may edited done;
+  numbered = λ problem table prefix wanted edited valid is may done. edited-numbered problem table prefix wanted edited is may done valid;
+  sorts = λ problem table prefix wanted edited valid is may done. edited-sorts problem table prefix wanted edited is may done valid;
+  alike = λ problem table prefix wanted edited sigma left valid is may done given objects.
+      used-alike problem valid table is prefix wanted may edited done sigma left given objects;
+  some = λ problem table prefix wanted valid is may. edited-there problem valid table is prefix wanted may;
   one = edited-one;
 }

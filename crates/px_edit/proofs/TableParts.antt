@@ -55,7 +55,7 @@ pub record AreTableParts (problem : Problem) (params : ℕ) (param_sorts : List 
 abbrev pub mark_named : List Term → Mark → Mark
 mark_named names mark = record { atom = substitute_atom names mark.atom; row = mark.row; column = mark.column; index = mark.index }
 
-row_leaves-named : (names : List Term) (row : List Derivation)
+pub row_leaves-named : (names : List Term) (row : List Derivation)
     → row_leaves (map (derivation_under names) row) ≡ map (leaf_under names) (row_leaves row)
 row_leaves-named names [] = refl
 row_leaves-named names (d ∷ row) =
@@ -150,7 +150,7 @@ module _ (problem : Problem) (valid : IsValid problem) (params : ℕ) (param_sor
   same_number e = cc
 
   -- a term that is named like a parameter is that parameter
-  apart : (v : ℕ) (t : Term) → v < params → Left (Var v) → Left t → IsTermOf problem params t
+  pub apart : (v : ℕ) (t : Term) → v < params → Left (Var v) → Left t → IsTermOf problem params t
       → substitute the_names t ≡ substitute the_names (Var v) → t ≡ Var v
   apart v (Obj n) below has there is same = absurd (no_object n _ (same ∙ (parameter-named params the_terms v below has).name_is))
     where
@@ -164,7 +164,7 @@ module _ (problem : Problem) (valid : IsValid problem) (params : ℕ) (param_sor
       some_same (sym other.at ∙ ap (slice_get the_left) place ∙ one.at)
   apart v WildCard below has there is same = absurd is
 
-  of-step : (s : OpInst) (t : Term) → Contains steps s → Contains s.args t → Left t
+  pub of-step : (s : OpInst) (t : Term) → Contains steps s → Contains s.args t → Left t
   of-step s t has here =
       Contains-append_right mark_terms _ t
       (Contains-append_left (step_terms steps) _ t (Contains-flat_map (λ (x : OpInst). x.args) steps s t has here))
@@ -175,7 +175,7 @@ module _ (problem : Problem) (valid : IsValid problem) (params : ℕ) (param_sor
       (Contains-append_right (step_terms steps) _ t
       (Contains-append_left (goal_terms goal) (row_terms rows) t (Contains-flat_map (λ (x : Atom). x.args) goal a t has here)))
 
-  of-mark : (m : Mark) (t : Term) → Contains (marks_from 1 rows) m → Contains m.atom.args t → Left t
+  pub of-mark : (m : Mark) (t : Term) → Contains (marks_from 1 rows) m → Contains m.atom.args t → Left t
   of-mark m t has here =
       Contains-append_left mark_terms _ t (Contains-flat_map (λ (x : Mark). x.atom.args) (marks_from 1 rows) m t has here)
 

@@ -36,8 +36,8 @@ pub record IsEditable (problem : Problem) (table : Table) (prefix : ℕ) (wanted
   pub once : AllPairs (λ one other. one ≢ other) wanted
 
 -- the greatest height of the proofs of a learned table
-abbrev pub most_height : ℕ
-most_height = 56
+abbrev pub most_kept_height : ℕ
+most_kept_height = 56
 
 -- more steps are kept than a learned table may have
 abbrev pub KeepsTooMany : Table → List (ℕ × ℕ) → Type 0
@@ -46,4 +46,4 @@ KeepsTooMany table wanted = (kept : List ℕ) × AreKeptSteps table wanted kept 
 -- a proof of a kept step's row is higher than those of learned tables may be
 abbrev pub KeepsTooDeep : Table → List (ℕ × ℕ) → Type 0
 KeepsTooDeep table wanted =
-    (kept : List ℕ) × AreKeptSteps table wanted kept × Any (Any (λ d. most_height < height d)) (kept_of [] kept (rows_of table.proofs))
+    (kept : List ℕ) × AreKeptSteps table wanted kept × Any (Any (λ d. most_kept_height < height d)) (kept_of [] kept (rows_of table.proofs))

@@ -5,3 +5,4 @@ pub mod Editing
 pub mod Keeping
 pub mod Parts
 pub mod Refusals
+pub mod WorkedEdits

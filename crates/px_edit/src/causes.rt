@@ -1,5 +1,6 @@
 //! Whether the prefix is there, and which wanted pair is the first bad one.
 ghost use Rattle.std.specs.Prelude.{◌≡◌, ◌↔◌, ◌<◌, ◌≤◌, ℕ, None, Some, Contains, IsTrue, length, slice_index_or, take};
+ghost use Rattle.px_base.specs.Bounds.{u32_max};
 ghost use Rattle.px_terms.specs.Validity.{IsValid};
 ghost use Rattle.px_table.specs.Tables.{IsTable};
 ghost use Rattle.px_edit.specs.EditCauses.{IsAddOf, IsBadPrefix, IsBadWantAt, IsFirstBadWant};
@@ -81,7 +82,7 @@ pub fn first_bad_want(
     requires problem { IsValid problem.now }
     requires table { IsTable problem.now table.now }
     requires most { prefix ≤ length table.now.steps }
-    requires short { length wanted.now < 4294967295 }
+    requires short { length wanted.now < u32_max }
     ensures first { (place : ℕ) → (result ≡ Some place) → IsFirstBadWant problem.now table.now prefix wanted.now place }
     ensures none { result ≡ None → (place : ℕ) → ¬ IsBadWantAt problem.now table.now prefix wanted.now place }
 {

@@ -1,5 +1,6 @@
 //! Proofs with their leaves in the columns of the kept steps.
-ghost use Rattle.std.specs.Prelude.{◌≡◌, IfOk, length, map, ◌<◌};
+ghost use Rattle.std.specs.Prelude.{◌≡◌, IfOk, length, map, ◌≤◌};
+ghost use Rattle.px_base.specs.Bounds.{u32_max};
 ghost use Rattle.px_proof.specs.Derivation.{derivations};
 ghost use Rattle.px_proof.specs.ProofTerm.{derivation_of};
 ghost use Rattle.px_edit.specs.Editing.{all_in_columns, in_columns, new_number as new_column};
@@ -10,7 +11,7 @@ use std::alloc::Global;
 
 /// Returns the number that the step has among the kept ones; 0 for the initial model.
 pub fn new_number(kept: &[u32], step: u32) -> u32
-    requires { length kept.now < 4294967296 }
+    requires { length kept.now ≤ u32_max }
     ensures { result ≡ new_column kept.now step }
 {
     let mut count = 0;
@@ -26,7 +27,7 @@ pub fn new_number(kept: &[u32], step: u32) -> u32
 // Alike: `Proof::try_copy`, which says why.
 #[cycle(columns)]
 pub fn in_new_columns(alloc: Global, proof: &Proof, kept: &[u32]) -> Result<Proof, NoMemory>
-    requires { length kept.now < 4294967296 }
+    requires { length kept.now ≤ u32_max }
     ensures { IfOk result (λ made. derivation_of made ≡ in_columns (new_column kept.now) (derivation_of proof.now)) }
 {
     match proof {
@@ -62,7 +63,7 @@ fn each_in_new_columns(
     proofs: &[Proof],
     kept: &[u32],
 ) -> Result<Vec<Proof>, NoMemory>
-    requires { length kept.now < 4294967296 }
+    requires { length kept.now ≤ u32_max }
     ensures { IfOk result (λ made. derivations (map derivation_of made.items) ≡ all_in_columns (new_column kept.now)
         (derivations (map derivation_of proofs.now))) }
 {

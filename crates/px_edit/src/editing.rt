@@ -1,11 +1,12 @@
 //! Editing a table.
-ghost use Rattle.std.specs.Prelude.{◌≡◌, ◌↔◌, ◌⊎◌, ◌<◌, ◌≤◌, ℕ, Any, Err, IfErr, IfOk, length};
+ghost use Rattle.std.specs.Prelude.{◌≡◌, ◌↔◌, ◌⊎◌, ◌<◌, ◌≤◌, ℕ, All, Err, IfErr, IfOk, length};
+ghost use Rattle.px_base.specs.Bounds.{u32_max};
 ghost use Rattle.px_terms.specs.Validity.{IsValid};
 ghost use Rattle.px_proof.specs.Derivation.{height};
 ghost use Rattle.px_table.specs.Kernels.{KernelsCarry};
 ghost use Rattle.px_table.specs.Limits.{most_steps};
 ghost use Rattle.px_table.specs.Tables.{IsTable, rows_of};
-ghost use Rattle.px_edit.specs.EditCauses.{IsBadPrefix, IsEditable, IsFirstBadWant, KeepsTooDeep, KeepsTooMany, most_height};
+ghost use Rattle.px_edit.specs.EditCauses.{IsBadPrefix, IsEditable, IsFirstBadWant, KeepsTooDeep, KeepsTooMany, most_kept_height};
 ghost use Rattle.px_edit.specs.EditClaims.{EachStepServes};
 ghost use Rattle.px_edit.specs.Editing.{AreKeptSteps, IsEdited};
 ghost use Rattle.px_edit.specs.Refusals.{IsWithinLimits, Refuses};
@@ -35,7 +36,7 @@ pub fn edit(
     requires problem { IsValid problem.now }
     requires table { IsTable problem.now table.now }
     requires some { 0 < length wanted.now }
-    requires short { length wanted.now < 4294967295 }
+    requires short { length wanted.now < u32_max }
     // The table of the steps that are kept, and no other.
     ensures edited { IfOk result (λ edited. IsEdited problem.now table.now wanted.now edited) }
     ensures editable { IfOk result (λ edited. IsEditable problem.now table.now prefix wanted.now) }
@@ -47,7 +48,7 @@ pub fn edit(
 
     // It is as short, and its proofs are as low, as those of a learned table.
     ensures few_steps { IfOk result (λ edited. length edited.steps ≤ most_steps) }
-    ensures low { IfOk result (λ edited. ¬ Any (Any (λ d. most_height < height d)) (rows_of edited.proofs)) }
+    ensures low { IfOk result (λ edited. All (All (λ d. height d ≤ most_kept_height)) (rows_of edited.proofs)) }
 
     // Each refusal comes exactly where its cause is there and none before it in this order is, unless memory runs out.
     ensures bad_prefix { (result ≡ Err EditErr.BadPrefix) ↔ IsBadPrefix table.now prefix }

@@ -1,6 +1,7 @@
 //! Which steps are kept: those of the pairs, and those that the rows of kept steps rest on.
 ghost use Rattle.std.specs.Prelude.{◌≡◌, ◌↔◌, ◌⊎◌, ◌<◌, ◌≤◌, ◌+◌, ℕ, List, [], false, All, Contains, IfOk, Some, length, replicate, slice_get};
 ghost use Rattle.std.specs.List.Sorted.{IsStrictlyIncreasing};
+ghost use Rattle.px_base.specs.Bounds.{u32_max};
 ghost use Rattle.px_table.specs.declared.mark.Mark.{Mark};
 ghost use Rattle.px_table.specs.Tables.{IsTable};
 ghost use Rattle.px_terms.specs.declared.problem.Problem.{Problem};
@@ -72,7 +73,7 @@ fn flag_columns(flags: &mut [bool], marks: &[Mark])
 fn push_flagged(numbers: &mut Vec<u32>, flags: &[bool], k: usize) -> Result<(), NoMemory>
     requires least { 1 ≤ k }
     requires within { k < length flags.now }
-    requires short { length flags.now ≤ 4294967296 }
+    requires short { length flags.now ≤ u32_max + 1 }
     ensures { IfOk result (λ _. AreFlagged flags.now k numbers.old.items → AreFlagged flags.now (k + 1) numbers.new.items) }
 {
     if !flags[k] {
@@ -84,7 +85,7 @@ fn push_flagged(numbers: &mut Vec<u32>, flags: &[bool], k: usize) -> Result<(), 
 
 /// Returns the numbers from 1 on whose flags are set, ascending.
 fn flagged(alloc: Global, flags: &[bool]) -> Result<Vec<u32>, NoMemory>
-    requires { length flags.now ≤ 4294967296 }
+    requires { length flags.now ≤ u32_max + 1 }
     ensures in_order { IfOk result (λ numbers. IsStrictlyIncreasing numbers.items) }
     ensures exact { IfOk result (λ numbers. (k : ℕ) → Contains numbers.items k ↔ ((1 ≤ k) × HasFlag flags.now k)) }
 {

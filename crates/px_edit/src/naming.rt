@@ -1,5 +1,6 @@
 //! Names for the parameters that are left: parameters, in the order in which they first occur.
 ghost use Rattle.std.specs.Prelude.{◌≡◌, ◌<◌, ◌≤◌, ◌+◌, ◌++◌, ◌∷◌, [], List, IfOk, length, replicate};
+ghost use Rattle.px_base.specs.Bounds.{u32_max};
 ghost use Rattle.px_terms.specs.declared.term.Term.{Term};
 ghost use Rattle.px_terms.specs.declared.term.Term.TheVariants.{Any as WildCard};
 ghost use Rattle.px_edit.specs.Parts.{AreNamesAlong, unnamed};
@@ -10,7 +11,7 @@ use std::alloc::Global;
 
 /// Gives the term the next name, if it is a parameter without one. Returns the number that is then next.
 fn name_term(names: &mut [Term], next: u32, term: Term) -> u32
-    requires room { next + unnamed names.old < 4294967296 }
+    requires room { next + unnamed names.old ≤ u32_max }
     ensures long { length names.new ≡ length names.old }
     ensures left { result + unnamed names.new ≡ next + unnamed names.old }
     ensures names { (walked : List Term) → AreNamesAlong (length names.old) walked names.old next
@@ -33,7 +34,7 @@ fn name_term(names: &mut [Term], next: u32, term: Term) -> u32
 
 /// Gives the parameters among the terms their names, in order. Returns the number that is then next.
 fn name_each(names: &mut [Term], terms: &[Term]) -> u32
-    requires room { unnamed names.old < 4294967296 }
+    requires room { unnamed names.old ≤ u32_max }
     requires start { AreNamesAlong (length names.old) [] names.old 0 }
     ensures long { length names.new ≡ length names.old }
     ensures names { AreNamesAlong (length names.old) terms.now names.new result }

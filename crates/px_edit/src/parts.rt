@@ -1,12 +1,13 @@
 //! The kept steps, the wanted adds and their rows, over the old parameters.
 ghost use Rattle.std.specs.Prelude.{◌≡◌, ◌↔◌, ◌<◌, ◌≤◌, ◌-◌, [], All, Any, IfOk, IsTrue, length, map, slice_index, slice_index_or};
+ghost use Rattle.px_base.specs.Bounds.{u32_max};
 ghost use Rattle.px_terms.specs.declared.problem.Problem.{Problem};
 ghost use Rattle.px_table.specs.declared.table.Table.{Table};
 ghost use Rattle.px_terms.specs.Validity.{IsValid};
 ghost use Rattle.px_proof.specs.Derivation.{fact, height, no_atom};
 ghost use Rattle.px_proof.specs.ProofTerm.{derivation_of};
 ghost use Rattle.px_table.specs.Tables.{IsTable, rows_of};
-ghost use Rattle.px_edit.specs.EditCauses.{IsAddOf, most_height};
+ghost use Rattle.px_edit.specs.EditCauses.{IsAddOf, most_kept_height};
 ghost use Rattle.px_edit.specs.Editing.{in_columns, kept_of, no_step, kept_rows as rows_kept, kept_steps as steps_kept, new_number as new_column, wanted_atom as atom_wanted, wanted_atoms as atoms_wanted, wanted_fact};
 ghost use Rattle.px_edit.specs.Parts.{AreNumbersOf};
 
@@ -19,13 +20,15 @@ use px_terms::{Atom, OpInst, Problem};
 use std::alloc::Global;
 
 /// The greatest height of the proofs of a learned table.
-const MOST_HEIGHT: u32 = 56;
+const MOST_KEPT_HEIGHT: u32 = 56;
 
 /// Returns whether one of the proofs is higher than those of a learned table may be.
 fn has_high_proof(proofs: &[Proof]) -> bool
-    ensures { IsTrue result ↔ Any (λ proof. most_height < height (derivation_of proof)) proofs.now }
+    ensures { IsTrue result ↔ Any (λ proof. most_kept_height < height (derivation_of proof)) proofs.now }
 {
-    proofs.iter().any(|proof| higher_than(proof, MOST_HEIGHT))
+    proofs
+        .iter()
+        .any(|proof| higher_than(proof, MOST_KEPT_HEIGHT))
 }
 
 /// Returns whether a proof of the row of the kept step at the place is higher than those of a learned table may be.
@@ -33,7 +36,7 @@ fn is_high_row(table: &Table, kept: &[u32], place: usize) -> bool
     requires rows { length table.now.steps < length table.now.proofs }
     requires numbers { AreNumbersOf table.now kept.now }
     requires place { place < length kept.now }
-    ensures { IsTrue result ↔ Any (λ proof. most_height < height (derivation_of proof))
+    ensures { IsTrue result ↔ Any (λ proof. most_kept_height < height (derivation_of proof))
         (slice_index_or table.now.proofs (slice_index kept.now place - 1) []) }
 {
     let row = &table.proofs.as_slice()[kept[place] as usize - 1];
@@ -44,7 +47,7 @@ fn is_high_row(table: &Table, kept: &[u32], place: usize) -> bool
 pub fn has_high_row(table: &Table, kept: &[u32]) -> bool
     requires rows { length table.now.steps < length table.now.proofs }
     requires numbers { AreNumbersOf table.now kept.now }
-    ensures { IsTrue result ↔ Any (Any (λ d. most_height < height d)) (kept_of [] kept.now (rows_of table.now.proofs)) }
+    ensures { IsTrue result ↔ Any (Any (λ d. most_kept_height < height d)) (kept_of [] kept.now (rows_of table.now.proofs)) }
 {
     for place in 0..kept.len() {
         if is_high_row(table, kept, place) {
@@ -130,7 +133,7 @@ pub fn wanted_atoms(
 /// Returns the fact of the pair at the place, whose atom is the goal's at this place.
 fn fact_at(goal: &[Atom], wanted: &[(u32, u32)], kept: &[u32], place: usize) -> Proof
     requires count { length goal.now ≡ length wanted.now }
-    requires few { length kept.now < 4294967296 }
+    requires few { length kept.now ≤ u32_max }
     requires place { place < length wanted.now }
     ensures { derivation_of result ≡ fact (record {
       column = new_column kept.now (slice_index_or wanted.now place (0, 0)).0;
@@ -154,7 +157,7 @@ fn goal_row(
     kept: &[u32],
 ) -> Result<Vec<Proof>, NoMemory>
     requires count { length goal.now ≡ length wanted.now }
-    requires few { length kept.now < 4294967296 }
+    requires few { length kept.now ≤ u32_max }
     ensures { IfOk result (λ made. (problem : Problem) (table : Table) → goal.now ≡ atoms_wanted problem table wanted.now
         → map derivation_of made.items ≡ map (wanted_fact problem table kept.now) wanted.now) }
 {
@@ -167,7 +170,7 @@ fn goal_row(
 
 /// Returns the proofs, their leaves in the columns of the kept steps.
 fn row_in_columns(alloc: Global, proofs: &[Proof], kept: &[u32]) -> Result<Vec<Proof>, NoMemory>
-    requires { length kept.now < 4294967296 }
+    requires { length kept.now ≤ u32_max }
     ensures { IfOk result (λ made. map derivation_of made.items
         ≡ map (in_columns (new_column kept.now)) (map derivation_of proofs.now)) }
 {
@@ -183,7 +186,7 @@ fn row_in_columns(alloc: Global, proofs: &[Proof], kept: &[u32]) -> Result<Vec<P
 fn kept_row(alloc: Global, table: &Table, kept: &[u32], place: usize) -> Result<Row, NoMemory>
     requires rows { length table.now.steps < length table.now.proofs }
     requires numbers { AreNumbersOf table.now kept.now }
-    requires few { length kept.now < 4294967296 }
+    requires few { length kept.now ≤ u32_max }
     requires place { place < length kept.now }
     ensures { IfOk result (λ made. map derivation_of made ≡ map (in_columns (new_column kept.now))
         (map derivation_of (slice_index_or table.now.proofs (slice_index kept.now place - 1) []))) }
@@ -203,7 +206,7 @@ pub fn kept_rows(
 ) -> Result<Vec<Row>, NoMemory>
     requires rows { length table.now.steps < length table.now.proofs }
     requires numbers { AreNumbersOf table.now kept.now }
-    requires few { length kept.now < 4294967296 }
+    requires few { length kept.now ≤ u32_max }
     requires count { length goal.now ≡ length wanted.now }
     ensures { IfOk result (λ made. (problem : Problem) → goal.now ≡ atoms_wanted problem table.now wanted.now
         → rows_of made.items ≡ rows_kept problem table.now wanted.now kept.now) }

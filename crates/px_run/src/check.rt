@@ -35,7 +35,15 @@ pub(crate) fn check<S: Source, K: Sink>(alloc: Global, source: &mut S, sink: &mu
     };
     match read_cert(alloc, &bytes) {
         Ok(cert) => judge(alloc, &cert, sink),
-        Err(CertErr::BadCert { line }) => refuse(alloc, Refused { line, code: NO_CERTIFICATE, limit: 0 }, sink),
+        Err(CertErr::BadCert { line }) => refuse(
+            alloc,
+            Refused {
+                line,
+                code: NO_CERTIFICATE,
+                limit: 0,
+            },
+            sink,
+        ),
         Err(CertErr::NoMemory) => Status::NoMemory,
     }
 }

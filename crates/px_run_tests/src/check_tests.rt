@@ -33,9 +33,21 @@ fn a_certificate_is_right_or_wrong_or_none(rt: HostRuntime) -> Result<(), NoMemo
         ("row 1 f 2 0 0\n", Status::Done, "no\n"),
         ("row 0\n", Status::Done, "no\n"),
         ("", refused(15), "refused line 15 code 13 limit 0\n"),
-        ("row 1 f 1 0 0", refused(15), "refused line 15 code 13 limit 0\n"),
-        ("row 1 f 1 0 0\n\n", refused(16), "refused line 16 code 13 limit 0\n"),
-        ("row 1 f 01 0 0\n", refused(15), "refused line 15 code 13 limit 0\n"),
+        (
+            "row 1 f 1 0 0",
+            refused(15),
+            "refused line 15 code 13 limit 0\n",
+        ),
+        (
+            "row 1 f 1 0 0\n\n",
+            refused(16),
+            "refused line 16 code 13 limit 0\n",
+        ),
+        (
+            "row 1 f 01 0 0\n",
+            refused(15),
+            "refused line 15 code 13 limit 0\n",
+        ),
     ] {
         let input = joined(alloc, &[(MADE, 1), (row, 1)])?;
         let (status, written) = answered_with(alloc, "check", input, 4096, 100, (NEVER, NEVER))?;
@@ -47,7 +59,12 @@ fn a_certificate_is_right_or_wrong_or_none(rt: HostRuntime) -> Result<(), NoMemo
 #[test]
 fn nothing_and_a_script_are_no_certificate(rt: HostRuntime) -> Result<(), NoMemory> {
     let alloc = rt.alloc();
-    for input in ["", "object a\n", "planex certificate 2\n", "planex certificate 1\r\n"] {
+    for input in [
+        "",
+        "object a\n",
+        "planex certificate 2\n",
+        "planex certificate 1\r\n",
+    ] {
         let bytes = input.as_bytes().to_vec(alloc)?;
         let (status, written) = answered_with(alloc, "check", bytes, 7, 100, (NEVER, NEVER))?;
         assert!(&rt; status == refused(1));
@@ -62,15 +79,34 @@ fn each_read_of_a_certificate_and_the_write_may_fail(rt: HostRuntime) -> Result<
     let certificate = joined(alloc, &[(MADE, 1), (ROW, 1)])?;
     // The last call finds the end.
     for call in 0..certificate.len() + 1 {
-        let (status, written) =
-            answered_with(alloc, "check", certificate.clone()?, 1, 100, (call as u32, NEVER))?;
+        let (status, written) = answered_with(
+            alloc,
+            "check",
+            certificate.clone()?,
+            1,
+            100,
+            (call as u32, NEVER),
+        )?;
         assert!(&rt; status == Status::ReadFault && written.is_empty());
     }
-    let (status, written) = answered_with(alloc, "check", certificate.clone()?, 1, 100, (NEVER, 0))?;
+    let (status, written) = answered_with(
+        alloc,
+        "check",
+        certificate.clone()?,
+        1,
+        100,
+        (NEVER, 0),
+    )?;
     assert!(&rt; status == Status::WriteFault && written.is_empty());
     for room in 0..YES.len() {
-        let (status, written) =
-            answered_with(alloc, "check", certificate.clone()?, 4096, room, (NEVER, NEVER))?;
+        let (status, written) = answered_with(
+            alloc,
+            "check",
+            certificate.clone()?,
+            4096,
+            room,
+            (NEVER, NEVER),
+        )?;
         assert!(&rt; status == Status::WriteFault && written.as_slice() == &YES.as_bytes()[..room]);
     }
     Ok(())

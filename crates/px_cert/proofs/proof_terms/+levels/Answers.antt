@@ -6,7 +6,7 @@ use Rattle.px_terms.specs.declared.clause.Lit.{Lit}
 use Rattle.px_terms.specs.declared.term.Term.{Term}
 use Rattle.px_proof.specs.declared.proof.Proof.{Proof}
 use Rattle.px_proof.specs.declared.proof.Proof.TheViews.{Step}
-use Rattle.px_cert.specs.Drafts.{axiom_at}
+use Rattle.px_table.specs.Deciding.{clause_at}
 use Rattle.px_cert.specs.Reading.{IsRefusal, ancestor_at, fact_at, many_at, proof_at, step_at}
 use Rattle.px_cert.proofs.Loop.{carried, ends, is_done, keeps_on, reads_by}
 use Rattle.px_cert.proofs.ProofLevels.{ancestor_here, fact_here, no_level, nothing_here, step_here}
@@ -67,10 +67,10 @@ pub step-returns-in_err-rest : goal.step-returns-in_err-rest
 step-returns-in_err-rest t c =
     let total = step_at c.args.draft.now (proof_at c.args.draft.now c.args.levels) c.args.bytes.now in
     let empty : Clause = record { vars = 0; lits = [] } in
-    let vars : c.vars.result ≡ (axiom_at c.args.draft.now c.in_ok-clause.clause).vars = c.vars.ensures.value empty in
+    let vars : c.vars.result ≡ (clause_at c.args.draft.now.axioms c.in_ok-clause.clause).vars = c.vars.ensures.value empty in
     let full = c.in_ok-theta.theta.ok.0 in
     let value = ap (λ (ts : List Term). length ts) c.deref_mut.ensures.value in
-    let room : length c.deref_mut.result.now ≡ (axiom_at c.args.draft.now c.in_ok-clause.clause).vars = omega (arith, c.in_ok-theta.ensures.len) in
+    let room : length c.deref_mut.result.now ≡ (clause_at c.args.draft.now.axioms c.in_ok-clause.clause).vars = omega (arith, c.in_ok-theta.ensures.len) in
     carried (λ (x : Proof × Bor (List ℕ)). (x.0, x.1.now)) c.from_residual-in_err-rest.result c.in_err-rest.field-0.0 total
     c.from_residual-in_err-rest.ensures.1
     (terms_fail c.args.draft.now c.args.levels c.args.bytes.now c.in_err-rest.field-0.0 c.count.result c.in_ok-clause.clause
@@ -95,10 +95,10 @@ pub step-returns-in_err-subs : goal.step-returns-in_err-subs
 step-returns-in_err-subs t c =
     let total = step_at c.args.draft.now (proof_at c.args.draft.now c.args.levels) c.args.bytes.now in
     let empty : Clause = record { vars = 0; lits = [] } in
-    let vars : c.vars.result ≡ (axiom_at c.args.draft.now c.in_ok-clause.clause).vars = c.vars.ensures.value empty in
+    let vars : c.vars.result ≡ (clause_at c.args.draft.now.axioms c.in_ok-clause.clause).vars = c.vars.ensures.value empty in
     let full = c.in_ok-theta.theta.ok.0 in
     let value = ap (λ (ts : List Term). length ts) c.deref_mut.ensures.value in
-    let room : length c.deref_mut.result.now ≡ (axiom_at c.args.draft.now c.in_ok-clause.clause).vars = omega (arith, c.in_ok-theta.ensures.len) in
+    let room : length c.deref_mut.result.now ≡ (clause_at c.args.draft.now.axioms c.in_ok-clause.clause).vars = omega (arith, c.in_ok-theta.ensures.len) in
     carried (λ (x : Proof × Bor (List ℕ)). (x.0, x.1.now)) c.from_residual-in_err-subs.result c.in_err-subs.field-0.0 total
     c.from_residual-in_err-subs.ensures.1
     (parts_fail c.args.draft.now c.args.levels c.args.bytes.now c.in_err-subs.field-0.0 c.count.result c.in_ok-clause.clause
@@ -113,10 +113,10 @@ step-returns-in_err-subs t c =
 pub step-returns : goal.step-returns
 step-returns t c =
     let empty : Clause = record { vars = 0; lits = [] } in
-    let vars : c.vars.result ≡ (axiom_at c.args.draft.now c.in_ok-clause.clause).vars = c.vars.ensures.value empty in
+    let vars : c.vars.result ≡ (clause_at c.args.draft.now.axioms c.in_ok-clause.clause).vars = c.vars.ensures.value empty in
     let full = c.in_ok-theta.theta.ok.0 in
     let value = ap (λ (ts : List Term). length ts) c.deref_mut.ensures.value in
-    let room : length c.deref_mut.result.now ≡ (axiom_at c.args.draft.now c.in_ok-clause.clause).vars = omega (arith, c.in_ok-theta.ensures.len) in
+    let room : length c.deref_mut.result.now ≡ (clause_at c.args.draft.now.axioms c.in_ok-clause.clause).vars = omega (arith, c.in_ok-theta.ensures.len) in
     let theta : c.fill.new.terms ≡ c.from_vec.result = first_of (cc, search rules, grind (arith, common_steps)) in
     let subs : c.in_ok-subs.subs.items ≡ c.from_vec-2.result = first_of (cc, search rules, grind (arith, common_steps)) in
     step_read c.args.draft.now c.args.levels c.args.bytes.now c.count.result c.in_ok-clause.clause c.in_ok-place.place

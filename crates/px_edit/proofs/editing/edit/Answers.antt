@@ -8,7 +8,7 @@ use Rattle.px_edit.specs.Editing.{IsEdited}
 use Rattle.px_edit.specs.Refusals.{IsWithinLimits}
 use Rattle.px_edit.proofs.EditLimits.{bad-prefix-not, good-prefix, if_ok}
 use Rattle.px_edit.proofs.EditSteps.{all-editable, editable-none, first-is_one}
-use Rattle.px_edit.proofs.Replies.{always-too_deep, always-too_long, is-too_deep, is-too_long, made-few, made-kernels, made-low, made-serves, made-table, no-bad_prefix, no-bad_want, ok_both}
+use Rattle.px_edit.proofs.Replies.{always-too_deep, always-too_long, is-too_deep, is-too_long, made-few, made-kernels, made-lows, made-serves, made-table, no-bad_prefix, no-bad_want, ok_both}
 use Rattle.px_edit.proofs.editing.edit.Goals as goal
 
 pub first_bad_want-requires-clause-most : goal.first_bad_want-requires-clause-most
@@ -97,7 +97,7 @@ returns-in-None c =
       few_steps = ok_both (IsEdited problem table wanted) (λ _. IsWithinLimits table wanted) _
           (made-few problem c.requires.problem table c.requires.table c.args.prefix wanted may) r done allowed;
       low = ok_both (IsEdited problem table wanted) (λ _. IsWithinLimits table wanted) _
-          (made-low problem c.requires.problem table c.requires.table c.args.prefix wanted may) r done allowed;
+          (made-lows problem c.requires.problem table c.requires.table c.args.prefix wanted may) r done allowed;
       bad_prefix = (
         λ e. absurd (no-bad_prefix table wanted r refused e),
         λ bad. absurd (bad-prefix-not problem table c.args.prefix wanted may bad),

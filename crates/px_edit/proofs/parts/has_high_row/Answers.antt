@@ -4,7 +4,7 @@ use Rattle.std.specs.Prelude.{Any, slice_index, slice_index_or}
 use Rattle.px_proof.specs.declared.proof.Proof.{Proof}
 use Rattle.px_proof.specs.Derivation.{height}
 use Rattle.px_proof.specs.ProofTerm.{derivation_of}
-use Rattle.px_edit.specs.EditCauses.{most_height}
+use Rattle.px_edit.specs.EditCauses.{most_kept_height}
 use Rattle.px_edit.proofs.EditSteps.{none-next}
 use Rattle.px_base.specs.Answers.{both_answers}
 use Rattle.px_edit.proofs.HighSteps.{high-there, high-nowhere}
@@ -26,6 +26,6 @@ returns c = (
 
 pub loop-place-preserved : goal.loop-place-preserved
 loop-place-preserved c =
-    none-next (λ k. Any (λ (proof : Proof). most_height < height (derivation_of proof))
+    none-next (λ k. Any (λ (proof : Proof). most_kept_height < height (derivation_of proof))
     (slice_index_or c.args.table.now.proofs (slice_index c.args.kept.now k - 1) [])) c.loop-place.place c.loop-place.invariant
     (λ high. both_answers _ c.if-is_high_row.false (c.is_high_row.ensures.1 high))
