@@ -77,8 +77,8 @@ fn an_entry_is_applicable(rt: HostRuntime) -> Result<(), Fail> {
     assert!(&rt; deciding_part(alloc, &problem, &model)?.atoms().len() == 3);
     let wanted = [is_in(ROBOT, o(2))];
     let first = relevant_first(alloc, &problem, &wanted, &model, &[], 1)?;
-    assert!(&rt; !first.is_all && first.entries.as_slice()[0] == entry);
+    assert!(&rt; matches!(first.entries.as_slice(), [found, ..] if *found == entry));
     let all = relevant(alloc, &problem, &wanted, &[], &model, &[]);
-    assert!(&rt; all.ok().expect(&rt, "an answer").len() > first.entries.len());
+    assert!(&rt; matches!(&all, Ok(entries) if entries.len() == 16));
     Ok(())
 }
