@@ -9,7 +9,7 @@ syntax match planexVariable /?\h\w*/
 syntax match planexNumber /\<\d\+\>/
 syntax match planexWildCard /\$/
 syntax match planexSign /[~+=-]/
-syntax match planexDeclaration /^\s*\(script\|object\|predicate\|axiom\|operator\|building\|fact\|sort\|table\|height\|nodes\|shapes\)\>/
+syntax match planexDeclaration /^\s*\(script\|object\|predicate\|axiom\|operator\|building\|fact\|sort\|table\|height\|nodes\|shapes\|weight\)\>/
 syntax match planexBlock /^\s*\(pre\|delete\|add\|end\|room\|door\|box\|robot\|param\|step\|goal\|proof\)\>/
 syntax match planexCommand /^\s*\(plan\|learn\|show\|disturb\|run\|facts\|duo\|save\|certify\|edit\|pursue\)\>/
 syntax match planexPredicate /\h\w*\ze\s*(/

@@ -7,8 +7,8 @@
 
 `run` takes a script, as a text or as a path, and `read` a transcript that was kept. Both return an `Answer`, which lists the replies in the
 order of the commands and finds them by name. Each reply is an object of its own kind: `Plan`, `Exhausted`, `NodeLimit`, `ShapeLimit`,
-`Learned`, `NotLearned`, `Edited`, `NotEdited`, `Table`, `Noted`, `Run`, `Duo`, `Facts` or `Unknown`, with its line and its first line's
-text. docs/LANGUAGE.md says when each comes.
+`Learned`, `NotLearned`, `Edited`, `NotEdited`, `Table`, `Noted`, `Run`, `Duo`, `Facts`, `Saved`, `NotSaved`, `Certified`, `NotCertified`,
+`Pursuit`, `Tree` or `Unknown`, with its line and its first line's text. docs/LANGUAGE.md says when each comes.
 
 In a notebook a `Table` shows itself as the picture of a triangle, and the `floors` of a plan or of a run in a building show the rooms.
 The examples on this page run the program where it stands proved, and else read what is recorded of it (`example`).
@@ -26,7 +26,7 @@ from typing import NamedTuple
 
 TOP = pathlib.Path(__file__).resolve().parent.parent
 PROGRAM = TOP / 'planex'
-MOST_COMMANDS, MOST_BYTES = 512, 1048576  # of a script
+MOST_COMMANDS, MOST_BYTES = 512, 1048576  # of a script of version 1
 NUMBER, NAME = r'(0|[1-9]\d{0,9})', r'([^\s(),]+)'
 
 
@@ -172,6 +172,61 @@ def in_order(parameters):
     return sorted(parameters, key=lambda name: int(name[1:]))
 
 
+def words_of(text):
+    """The tokens of a line: names, numbers, variables with their sign, and other signs.
+
+    >>> words_of('f 0 0 P(?p1,a)')
+    ['f', '0', '0', 'P', '(', '?p1', ',', 'a', ')']
+    """
+    return re.findall(r'[^\s(),~+=-]+|\S', text)
+
+
+def read_atoms(words):
+    """The atoms of tokens."""
+    atoms, at = [], 0
+    while at < len(words):
+        name, arguments = words[at], ()
+        at += 1
+        if words[at:at + 1] == ['(']:
+            end = words.index(')', at)
+            arguments, at = tuple(words[at + 1:end:2]), end + 1
+        atoms.append(Atom(name, arguments))
+    return tuple(atoms)
+
+
+def own_names(words):
+    """The tokens of a table's block, with its variables as a table shows them: ?p1 as p1, a variable of the goal, ?g1, as ?1."""
+    return [f'p{word[2:]}' if word.startswith('?p') else f'?{word[2:]}' if word.startswith('?g') else word for word in words]
+
+
+def leaves_of(words):
+    """The marks of a row by the tokens of its proofs: their facts, each once. An ancestor, `a I`, and the use of an axiom,
+    `s C L M (TERMS)` before its M proofs, are passed over.
+
+    >>> [(mark.column, str(mark.atom)) for mark in leaves_of(words_of('s 0 1 1 (D,A,B) f 1 0 P(D) f 0 0 Q'))]
+    [(1, 'P(D)'), (0, 'Q')]
+    """
+    found, at = {}, 0
+    while at < len(words):
+        end = at + 2
+        if words[at] == 'f':
+            end = words.index(')', at) + 1 if words[at + 4:at + 5] == ['('] else at + 4
+            atom, = read_atoms(words[at + 3:end])
+            found[int(words[at + 1]), int(words[at + 2]), atom] = Mark(int(words[at + 1]), atom)
+        elif words[at] == 's':
+            end = words.index(')', at) + 1
+        elif words[at] != 'a':
+            raise ValueError(words[at])
+        at = end
+    return list(found.values())
+
+
+def table_of(line, name, count, steps, goal, proofs):
+    """The table that a block is: its steps and its goal as atoms, and the tokens of its proofs, row by row."""
+    rows = [Row([step], leaves_of(proof)) for step, proof in zip(steps, proofs)] + [Row(list(goal), leaves_of(proofs[-1]))]
+    return Table(line, f'table {name} {count} parameters {len(steps)} steps', name, rows, count)
+
+
 # How a transcript is read: line by line, each reply in the form that docs/LANGUAGE.md gives it, and in no other.
 
 class Lines:
@@ -219,18 +274,26 @@ class Reply:
     text: str
     name: str = ''
 
-    word, form = '', ''  # of each kind: its first word, and the form of its first line
-    kinds = {}  # by word
+    word, form = '', ''  # of each kind: the word by which it is known, and the form of its first line, which no other kind has
+    kinds = []
 
     def __init_subclass__(cls):
         super().__init_subclass__()
-        cls.kinds[cls.word] = cls
+        cls.kinds.append(cls)
 
     def __str__(self):
         return self.text
 
     def take(self, numbers, lines):
         """Takes the numbers of the first line, and the lines that follow it."""
+
+
+class Reasoned:
+    """A reply whose last word says why a table isn't given."""
+
+    @property
+    def why(self):
+        return self.text.split()[2]
 
 
 @dataclass
@@ -285,13 +348,9 @@ class Learned(Reply):
 
 
 @dataclass
-class NotLearned(Reply):
+class NotLearned(Reasoned, Reply):
     """A plan wasn't learned, and why."""
     word, form = 'notlearned', f'notlearned {NAME} (?:toolong|toodeep|toowide|full)'
-
-    @property
-    def why(self):
-        return self.text.split()[2]
 
 
 @dataclass
@@ -311,13 +370,9 @@ class Edited(Reply):
 
 
 @dataclass
-class NotEdited(Reply):
+class NotEdited(Reasoned, Reply):
     """A table wasn't edited, and why."""
     word, form = 'notedited', f'notedited {NAME} (?:prefix|want|toolong|toodeep|full)'
-
-    @property
-    def why(self):
-        return self.text.split()[2]
 
 
 @dataclass
@@ -383,6 +438,76 @@ class Table(Reply):
 
 
 @dataclass
+class Saved(Reply):
+    """A table as the block that a script may begin with, which is the table again.
+
+    >>> saved = read('table M 1\\nstep A(?p1)\\ngoal G(?p1,?g1)\\nproof f 0 0 P(?p1)\\nproof f 1 0 G(?p1,b)\\nend\\n')[0]
+    >>> saved.name, saved.lines[0], str(saved.table.goal[0]), saved.table.rows[1].marks[0].column
+    ('M', 'table M 1', 'G(p1,?1)', 1)
+    """
+    word, form = 'saved', f'table {NAME} {NUMBER}'
+    lines: list = field(default_factory=list)
+    table: Table = None
+
+    def take(self, numbers, lines):
+        count, = numbers
+        begun, steps, proofs = lines.at - 1, [], []
+        while found := lines.take(r'step (\S+)'):
+            steps.append(lines.atom(''.join(own_names(words_of(found[1])))))
+        atoms = lines.wanted(r'goal((?: \S+)+)', 'the goal of a table')[1].split()
+        goal = [lines.atom(''.join(own_names(words_of(text)))) for text in atoms]
+        for row in range(1, len(steps) + 2):
+            found = lines.wanted(r'proof((?: \S+)*)', f'row {row} of a table of {len(steps)} steps')
+            proofs.append(own_names(words_of(found[1])))
+        lines.wanted('end', 'the end of a table')
+        self.lines = lines.lines[begun:lines.at]
+        try:
+            self.table = table_of(self.line, self.name, count, steps, goal, proofs)
+        except (IndexError, ValueError) as error:
+            raise Unread(lines.at - 1, 'these are no proofs of a table') from error
+
+
+@dataclass
+class NotSaved(Reasoned, Reply):
+    """A table can't be a block, and why."""
+    word, form = 'notsaved', f'notsaved {NAME} (?:toolong|toodeep|toomany)'
+
+
+@dataclass
+class Certified(Reply):
+    """A certificate of a table, which `planex check` tests: its lines, and the numbers of parameters and steps."""
+    word, form = 'certified', 'planex certificate 1'
+    lines: list = field(default_factory=list)
+    parameters: int = 0
+    steps: int = 0
+
+    def take(self, numbers, lines):
+        begun = lines.at - 1
+
+        def several(*names, count=1):
+            for _ in range(count):
+                for name in names:
+                    found = lines.wanted(rf'{name}((?: \S+)*)', f'a line {name} of a certificate')[1].split()
+            return int(found[0]) if count == 1 and found and found[0].isdigit() else 0
+        several('objects')
+        several('predicates')
+        several('axiom', count=several('axioms'))
+        several('operator', 'pre', 'delete', 'add', count=several('operators'))
+        self.parameters = several('table')
+        several('goal')
+        self.steps = several('steps')
+        several('step', count=self.steps)
+        several('row', count=self.steps + 1)
+        self.lines = lines.lines[begun:lines.at]
+
+
+@dataclass
+class NotCertified(Reasoned, Reply):
+    """A table has no certificate, and why."""
+    word, form = 'notcertified', f'notcertified {NAME} (?:toolong|toodeep|toomany)'
+
+
+@dataclass
 class Noted(Reply):
     """A disturbance was recorded: how many are, now."""
     word, form = 'noted', f'noted {NUMBER}'
@@ -390,6 +515,14 @@ class Noted(Reply):
 
     def take(self, numbers, lines):
         self.count, = numbers
+
+
+def read_turn(lines, number):
+    """The turn of that number, which stands next."""
+    found = lines.wanted(rf'  turn {number} (?:(nokernel)|kernel ([1-9]\d{{0,9}}) (?:(goal)|(\S+) (acted|slipped)))',
+                         f'turn {number} of a run')
+    text = lines.lines[lines.at - 1].strip()
+    return Turn(text, int(found[2] or 0), lines.atom(found[4]) if found[4] else None, found[1] or found[3] or found[5])
 
 
 @dataclass
@@ -405,11 +538,7 @@ class Run(Reply):
 
     def take(self, numbers, lines):
         while not self.turns or self.turns[-1].end in ('acted', 'slipped'):
-            number = len(self.turns) + 1
-            found = lines.wanted(rf'  turn {number} (?:(nokernel)|kernel ([1-9]\d{{0,9}}) (?:(goal)|(\S+) (acted|slipped)))',
-                                 f'turn {number} of a run')
-            text = lines.lines[lines.at - 1].strip()
-            self.turns.append(Turn(text, int(found[2] or 0), lines.atom(found[4]) if found[4] else None, found[1] or found[3] or found[5]))
+            self.turns.append(read_turn(lines, len(self.turns) + 1))
 
     @property
     def reached(self):
@@ -444,6 +573,103 @@ class Duo(Reply):
 
 
 @dataclass
+class Pursuit(Reply):
+    """A pursuit: runs of plans, one after the other, with a search before each. Where no kernel is found the next search begins. The end is
+    the reply by which the last search found no plan, or none where the goal is reached.
+
+    >>> pursuit = read('pursue P 2 searches\\n  turn 1 nokernel\\n  exhausted\\n')[0]
+    >>> pursuit.searches, len(pursuit.turns), pursuit.reached, str(pursuit.end)
+    (2, 1, False, 'exhausted P')
+    """
+    word, form = 'pursue', f'pursue {NAME} {NUMBER} searches'
+    searches: int = 0
+    turns: list = field(default_factory=list)
+    end: Reply = None
+
+    def take(self, numbers, lines):
+        self.searches, = numbers
+        while not self.end and (not self.turns or self.turns[-1].end != 'goal'):
+            found = lines.take(r'  (exhausted|nodelimit|shapelimit)((?: \S+)*)')
+            if found:
+                said = Lines(f'{found[1]} {self.name}{found[2]}')
+                self.end = read_reply(said)
+                self.end.line = lines.at
+            else:
+                self.turns.append(read_turn(lines, len(self.turns) + 1))
+        begun = 1 + sum(turn.end == 'nokernel' for turn in self.turns)
+        if self.searches != begun:
+            raise Unread(self.line, f'{begun} searches are begun here')
+
+    @property
+    def reached(self):
+        """Did the pursuit end at its goal?"""
+        return self.end is None
+
+
+class Node(NamedTuple):
+    """A node of a search: the one that it goes on from, its last move, `push` or `apply`, with the entry, and how many atoms it needs."""
+    before: int
+    move: str
+    entry: str
+    needs: int
+
+
+@dataclass
+class Tree(Reply):
+    """A search as the tree of its nodes, in the order in which they are found, and its end: `solved`, which is the last node, `exhausted`,
+    `more` and the number of moves to one more node, or `shapelimit` and the number of shapes.
+
+    >>> tree = read('tree T 3 nodes\\n  0 needs 2\\n  1 from 0 push A(a) needs 1\\n  2 from 1 apply A(a) needs 0\\n  solved\\n')[0]
+    >>> tree.depths(), tree.path(), tree.stack(1), tree.end
+    ([0, 1, 2], [0, 1, 2], ['A(a)'], 'solved')
+    """
+    word, form = 'tree', f'tree {NAME} {NUMBER} nodes'
+    nodes: list = field(default_factory=list)
+    end: str = ''
+
+    def take(self, numbers, lines):
+        count, = numbers
+        for number in range(count):
+            told = f'  {number} needs {NUMBER}' if number == 0 else f'  {number} from {NUMBER} (push|apply) (.+) needs {NUMBER}'
+            found = lines.wanted(told, f'node {number} of {count}')
+            if number == 0:
+                self.nodes.append(Node(0, '', '', int(found[1])))
+                continue
+            node = Node(int(found[1]), found[2], found[3], int(found[4]))
+            stack = self.stack(node.before) if node.before < number else None
+            if stack is None or node.move == 'apply' and stack[-1:] != [node.entry]:
+                lines.at -= 1
+                lines.fail('no node here leads to this one')
+            self.nodes.append(node)
+        self.end = lines.wanted(f'  (solved|exhausted|more {NUMBER} moves|shapelimit {NUMBER} shapes)', 'the end of a tree')[1]
+
+    def lead(self, number):
+        """The nodes from the first one to this one."""
+        found = [number]
+        while found[0]:
+            found.insert(0, self.nodes[found[0]].before)
+        return found
+
+    def path(self):
+        """The nodes that lead to the solved one, or none."""
+        return self.lead(len(self.nodes) - 1) if self.end == 'solved' else []
+
+    def depths(self):
+        """By how many moves each node is reached."""
+        found = []
+        for number, node in enumerate(self.nodes):
+            found.append(found[node.before] + 1 if number else 0)
+        return found
+
+    def stack(self, number):
+        """The entries on the stack of a node, the top last."""
+        found = []
+        for node in (self.nodes[each] for each in self.lead(number)[1:]):
+            found = [*found, node.entry] if node.move == 'push' else found[:-1]
+        return found
+
+
+@dataclass
 class Facts(Reply):
     """The facts, in their order."""
     word, form = 'facts', f'facts {NUMBER}'
@@ -474,10 +700,10 @@ class Refusal(Reply):
 def read_reply(lines):
     """The reply that stands next."""
     text = lines.lines[lines.at]
-    kind = Reply.kinds.get(text.split(' ')[0])
-    found = lines.take(kind.form) if kind else None
-    if not found:
+    kind = next((kind for kind in Reply.kinds if re.fullmatch(kind.form, text)), None)
+    if not kind:
         lines.fail('this line begins no reply')
+    found = lines.take(kind.form)
     count = kind.form.count(NAME)
     names, numbers = found.groups()[:count], found.groups()[count:]
     for name in names:

@@ -138,7 +138,7 @@ def limits():
     yield from row('limit 1', f'(:predicates (p) ({"q" * 65}))', goal,
                    f'd:2:19: limit 1, bytes of a name ({"q" * 65}): 65, and at most 64')
     yield from row('limit 2', '(:predicates (p))', f'(:objects {many("o{}", 257)})' + goal,
-                   'p:2:1181: limit 2, objects: 257, and at most 256, and from version 2 on 1024')
+                   'p:2:1181: limit 2, objects: 257, and at most 256, and from version 2 on 1024', ['--script', '1'])
     yield from row('limit 3', f'(:predicates (p) {many("(q{})", 64)})', goal, 'd:2:387: limit 3, predicates: 65, and at most 64')
     yield from row('limit 3 by a type',
                    f'(:types t) (:predicates (p) {many("(q{})", 63)})\n(:action a :parameters (?x - t) :effect (p))',
@@ -161,21 +161,23 @@ def limits_of_facts():
     goal = '\n(:init) (:goal (p))'
     yield from row('limit 11', '(:predicates (p) (q ?x ?y ?z))', f'(:objects {many("o{}", 8)}) (:goal (p))\n(:init (p) '
                    + ' '.join(f'(q o{n // 64} o{n // 8 % 8} o{n % 8})' for n in range(512)) + ')',
-                   'p:3:1: limit 11, different facts: 513, and at most 512, and from version 2 on 1024')
+                   'p:3:1: limit 11, different facts: 513, and at most 512, and from version 2 on 1024', ['--script', '1'])
     yield from row('limit 11 by unequal objects', '(:predicates (p))\n(:action a :parameters (?x ?y))',
                    f'(:objects {many("o{}", 24)})' + goal,
                    'p:3:1: limit 11, different facts, with those of types, complements and unequal objects: 552, and at most 512, '
-                   'and from version 2 on 1024', ['--distinct'])
+                   'and from version 2 on 1024', ['--distinct', '--script', '1'])
     yield from row('limit 11 by complements', '(:predicates (p) (q ?x ?y))\n(:action a :parameters (?x ?y) :precondition (not (q ?x ?y)))',
                    f'(:objects {many("o{}", 24)})' + goal,
                    'p:3:1: limit 11, different facts, with those of types, complements and unequal objects: 576, and at most 512, '
-                   'and from version 2 on 1024')
+                   'and from version 2 on 1024', ['--script', '1'])
     yield from row('limit 16 of version 3', '(:predicates (p))', goal, 'from-pddl: limit 16, nodes: 1000001, and 1 to 1000000 may be given',
-                   ['--script', '3', '--nodes', '1000001'])
+                   ['--nodes', '1000001'])
+    yield from row('limit 16 of weights', '(:predicates (p))', goal, 'from-pddl: limit 16, weight: 1001, and 0 to 1000 may be given',
+                   ['--weight', '1001'])
     yield from row('limit 12', f'(:predicates {many("(q{})", 17)})', f'(:init) (:goal (and {many("(q{})", 17)}))',
                    'p:2:9: limit 12, atoms of a goal: 17, and at most 16')
     yield from row('limit 16', '(:predicates (p))', goal, 'from-pddl: limit 16, nodes: 50001, and 1 to 50000 may be given',
-                   ['--nodes', '50001'])
+                   ['--script', '2', '--nodes', '50001'])
     yield from row('two limits', f'(:predicates (p) (q {many("?x{}", 7)}) (r {many("?x{}", 8)}))', goal,
                    'd:2:19: limit 4, arguments of a predicate (q): 7, and at most 6\n'
                    'd:2:51: limit 4, arguments of a predicate (r): 8, and at most 6')

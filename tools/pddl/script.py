@@ -10,6 +10,7 @@ LIMITS = {1: ('bytes of a name', 64), 2: ('objects', 256), 3: ('predicates', 64)
           11: ('different facts', 512), 12: ('atoms of a goal', 16), 16: ('nodes', 50000), 17: ('sorts', 32)}
 LATER = {2: 1024, 11: 1024}  # from version 2 on
 MOST_NODES = {1: 50000, 2: 50000, 3: 1000000}
+MOST_WEIGHT = 1000
 
 
 def tell_apart(wanted, taken=()):
@@ -51,8 +52,8 @@ def wrapped(word, parts):
 class Script:
     """The lines of a script. Version 1 needs no line that says so."""
 
-    def __init__(self, strips, version, nodes, notes):
-        self.strips, self.reader, self.version, self.nodes, self.notes = strips, strips.reader, version, nodes, notes
+    def __init__(self, strips, version, settings, notes):
+        self.strips, self.reader, self.version, self.settings, self.notes = strips, strips.reader, version, settings, notes
         self.objects = tell_apart(same(self.reader.objects))
         self.operators = tell_apart({(one.action.name.text, one.case): one.action.name.text + (f'-{one.case}' if one.case > 1 else '')
                                      for one in strips.operators})
@@ -132,7 +133,7 @@ class Script:
                 yield from wrapped(word, atoms)
             yield 'end'
         yield from wrapped('fact', self.facts())
-        yield f'nodes {self.nodes}'
+        yield from (f'{word} {number}' for word, number in self.settings.items())
         yield 'plan solution ' + ' '.join(self.goal())
 
 

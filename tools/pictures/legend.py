@@ -1,5 +1,5 @@
 """The legend of a page: what columns, colours, outlines and signs mean, as far as the page has them."""
-from planex import Duo, Run
+from planex import Duo, Run, Tree
 
 
 def sign(inner):
@@ -24,6 +24,11 @@ OF_FACTS = (
     ('<text x="8" y="14">+</text>', 'a fact that the step adds'),
     ('<text x="8" y="14">\u2212</text>', 'a fact that the step deletes'),
 )
+OF_SEARCHES = (
+    ('<text x="4" y="14">+3</text>', 'nodes behind this one that are folded: a click, or the arrow to the right, shows them'),
+    ('<rect x="2" y="2" width="24" height="14" fill="none" stroke="currentColor" stroke-width="3"/>',
+     'a node that leads to the solved one'),
+)
 OF_FLOORS = (
     ('<circle class="thing" cx="14" cy="9" r="6"/>', 'the robot'),
     ('<rect class="thing" x="8" y="3" width="12" height="12"/>', 'a box'),
@@ -45,6 +50,8 @@ def entries(stories):
         yield from OF_RUNS
     if any(item.states or item.turns or item.events for story in stories for item in story.told):
         yield from OF_FACTS
+    if any(isinstance(reply, Tree) for reply in replies):
+        yield from OF_SEARCHES
     if any(story.script and story.script.building and any(True for _ in story.states()) for story in stories):
         yield from OF_FLOORS
 

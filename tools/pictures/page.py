@@ -2,12 +2,12 @@
 import html
 import pathlib
 
-from pictures import floor, legend, triangle
+from pictures import floor, legend, tree, triangle
 from pictures.drawing import style
 from pictures.ends import said_of
 from pictures.duo import memories_of, name_of
 from pictures.floor import captions
-from planex import Duo, Edited, Facts, Learned, Noted, Plan, Run, Table, Unknown, in_order
+from planex import Certified, Duo, Edited, Facts, Learned, Noted, Plan, Pursuit, Run, Saved, Table, Tree, Unknown, in_order
 
 HERE = pathlib.Path(__file__).resolve().parent
 STYLE, SCRIPT = (HERE / 'view.css').read_text(), (HERE / 'view.js').read_text()
@@ -127,9 +127,9 @@ def plan_part(item, script, table, layout, is_shown):
     return f'<section class="{kind}"><h3>{text(item.reply.text)}</h3>{goal(item)}{inner}{folded}</section>'
 
 
-def goal(item):
-    """The goal of a plan, which its command has."""
-    return f'<p class="goal">goal: {breaking(item.command.text.split(None, 2)[2])}</p>' if item.command else ''
+def goal(item, before=2):
+    """The goal of a search, which its command has after so many words."""
+    return f'<p class="goal">goal: {breaking(item.command.text.split(None, before)[before])}</p>' if item.command else ''
 
 
 def values_of(table, turn, objects):
@@ -163,6 +163,54 @@ def turn_item(turn, told, table, script, layout):
     if told:
         yield from turn_facts(told, turn, script)
     yield '</li>'
+
+
+def search_after(reply, number):
+    """What is said of the search that comes after a turn of a pursuit in which no kernel is found."""
+    search = 1 + sum(turn.end == 'nokernel' for turn in reply.turns[:number])
+    found = 'finds a plan, which is run from the next turn on' if number < len(reply.turns) else 'finds no plan'
+    return f'<p>Search {search} begins from these facts: it {found}.</p></li>'
+
+
+def pursuit_part(item, script, layout):
+    """A pursuit: the turns of its runs on one slider, and how it ends. The tables that are run aren't told."""
+    reply, turns = item.reply, item.turns or [None] * len(item.reply.turns)
+    items = [''.join(turn_item(turn, told, None, script, layout)) for turn, told in zip(reply.turns, turns)]
+    items = [part.removesuffix('</li>') + search_after(reply, number) if turn.end == 'nokernel' else part
+             for number, (turn, part) in enumerate(zip(reply.turns, items), 1)]
+    inner = goal(item) + f'<p>Searches: {reply.searches}, each from the facts at that time. The first comes before turn 1.</p>'
+    inner += f'<p class="note">Facts{" and floors" if layout else ""}: {COMPUTED}.</p>' if item.turns else ''
+    inner += walk(reply.text, f'turn of {reply.name}', 1, items, layout) if items else ''
+    if reply.end:
+        numbers, meaning = said_of(reply.end)
+        inner += f'<p class="line">{text(reply.end.text)}</p><p>{text(f"{numbers} {meaning}".strip())}</p>'
+    return f'<section class="run{" drawn" if items else ""}"><h3>{text(reply.text)}</h3>{inner}</section>'
+
+
+def tree_part(item):
+    """A search as a tree, with what is said of the node that is chosen."""
+    reply = item.reply
+    return (f'<section class="drawn"><h3>{text(reply.text)}</h3>{goal(item, 3)}<p>{text(tree.summary(reply))}</p>'
+            f'<div class="search slide" tabindex="-1" data-title="{text(reply.text)}">{tree.levels(reply)}{FULL}<p role="status"></p>'
+            f'{figure(tree.picture(reply), f"search {reply.name}")}</div></section>')
+
+
+def lines_part(reply, caption):
+    """The lines of a reply, folded."""
+    return f'<details><summary>{text(caption)}</summary><pre>{text(chr(10).join(reply.lines))}</pre></details>'
+
+
+def saved_part(reply, script, unique):
+    """A saved table, and the block that it is in a script."""
+    return table_part(reply.table, script, unique) + lines_part(reply, f'the block of {reply.name}')
+
+
+def certified_part(item):
+    """A certificate."""
+    reply = item.reply
+    title = f'certificate of {item.command.name}' if item.command else reply.text
+    return (f'<section><h3>{text(title)}</h3><p>A table of {reply.parameters} parameters and {reply.steps} steps, with its whole problem. '
+            f'./planex check tests it (docs/CERTIFICATES.md).</p>{lines_part(reply, "its lines")}</section>')
 
 
 def run_part(item, script, table, layout):
@@ -260,11 +308,22 @@ def parts(story, unique):
     if script:
         facts = script.in_order(frozenset(script.facts))
         yield f'<details><summary>facts of the script</summary>{listed(facts, name="facts")}</details>'
-    layout, shown = floor.layout_of(story), {item.reply.name for item in story.told if isinstance(item.reply, Table)}
+    layout, shown = floor.layout_of(story), {item.reply.name for item in story.told if isinstance(item.reply, (Saved, Table))}
+    for name, table in (script.tables if script else {}).items():
+        if name not in shown:
+            yield table_part(table, script, f'b{unique}-{text(name)}')
     for number, item in enumerate(story.told):
         reply = item.reply
         if isinstance(reply, Table):
             yield table_part(reply, script, f'k{unique}-{number}')
+        elif isinstance(reply, Saved):
+            yield saved_part(reply, script, f'k{unique}-{number}')
+        elif isinstance(reply, Certified):
+            yield certified_part(item)
+        elif isinstance(reply, Pursuit):
+            yield pursuit_part(item, script, layout)
+        elif isinstance(reply, Tree):
+            yield tree_part(item)
         elif isinstance(reply, Run):
             yield run_part(item, script, tables.get(reply.name), layout)
         elif isinstance(reply, Duo):

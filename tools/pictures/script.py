@@ -6,9 +6,9 @@ from dataclasses import dataclass, field
 from typing import NamedTuple
 
 from pictures.changes import Change
-from planex import Atom, Unread
+from planex import Atom, Unread, own_names, read_atoms, table_of
 
-COMMANDS = ('plan', 'learn', 'edit', 'show', 'disturb', 'run', 'duo', 'facts')
+COMMANDS = ('plan', 'learn', 'edit', 'show', 'disturb', 'run', 'duo', 'facts', 'save', 'certify', 'pursue', 'tree')
 # What a building gives to its script: as the table of operators in docs/LANGUAGE.md, without the preconditions.
 BUILDING_PREDICATES = ('INROOM', 'NEXTTO', 'CONNECTS', 'OPENED', 'CLOSED', 'ROOM', 'DOOR', 'BOX')
 BUILDING_OPERATORS = """
@@ -58,12 +58,26 @@ class Building:
 
 
 @dataclass
+class Block:
+    """A table's block: its line, name and number of parameters, its steps and goal, and the tokens of the proofs of each row."""
+    line: int
+    name: str
+    parameters: int
+    steps: list = field(default_factory=list)
+    goal: tuple = ()
+    proofs: list = field(default_factory=list)
+
+
+@dataclass
 class Script:
+    version: int = 1
     objects: list = field(default_factory=list)
     predicates: list = field(default_factory=list)
     operators: dict = field(default_factory=dict)  # by name: the parameters and the change
     facts: list = field(default_factory=list)
     building: Building = None
+    tables: dict = field(default_factory=dict)  # by name: those that the script begins with
+    block: Block = None  # the one that is open
     commands: list = field(default_factory=list)
 
     def declared(self, atoms, others=()):
@@ -101,19 +115,6 @@ def tokens(line):
             found.append(text[at:end])
         at = end
     return found
-
-
-def read_atoms(words):
-    """The atoms of a line."""
-    atoms, at = [], 0
-    while at < len(words):
-        name, arguments = words[at], ()
-        at += 1
-        if words[at:at + 1] == ['(']:
-            end = words.index(')', at)
-            arguments, at = tuple(words[at + 1:end:2]), end + 1
-        atoms.append(Atom(name, arguments))
-    return tuple(atoms)
 
 
 def known(name, names):
@@ -178,10 +179,32 @@ def read_thing(words, script):
                          Atom('OPENED' if known(rest[2], ('open', 'closed')) == 'open' else 'CLOSED', (name,))]
 
 
+def read_block(words, script):
+    """Takes a line of a table's block."""
+    block, (word, *rest) = script.block, own_names(words)
+    if word == 'step':
+        block.steps += read_atoms(rest)
+    elif word == 'goal':
+        block.goal = read_atoms(rest)
+    elif word == 'proof':
+        block.proofs.append(rest)
+    elif known(word, ('end',)):
+        if len(block.proofs) != len(block.steps) + 1:
+            raise ValueError(word)
+        script.tables[block.name] = table_of(block.line, block.name, block.parameters, block.steps, block.goal, block.proofs)
+        script.block = None
+
+
 def read_line(number, text, words, script):
     """Takes one line that has tokens."""
     word, rest = words[0], words[1:]
-    if word in COMMANDS:
+    if script.block:
+        read_block(words, script)
+    elif word == 'table':
+        script.block = Block(number, rest[0], int(rest[1]))
+    elif word == 'script':
+        script.version = int(rest[0])
+    elif word in COMMANDS:
         script.commands.append(read_command(number, text, words, script))
     elif word == 'object':
         script.objects += rest
@@ -203,7 +226,7 @@ def read_line(number, text, words, script):
             read_line(number, line, tokens(line), script)
     elif word in ('room', 'door', 'box', 'robot'):
         read_thing(words, script)
-    elif word not in ('script', 'axiom', 'param', 'pre', 'end', 'height', 'nodes', 'shapes'):
+    elif word not in ('axiom', 'param', 'pre', 'end', 'height', 'nodes', 'shapes', 'weight'):
         raise ValueError(word)
 
 

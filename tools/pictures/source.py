@@ -31,10 +31,10 @@ def answer(path, data):
 def asking(data, script):
     """The script with a `show` line behind the first command of each result that no line shows, as long as it has room for one; the places
     of these among the commands; and by line the number of the line that it was before."""
-    shown = {command.name for command in script.commands if command.word == 'show'}
-    names, places = {}, []
+    shown = {*script.tables, *(command.name for command in script.commands if command.word == 'show')}
+    names, places, most = {}, [], MOST_COMMANDS if script.version == 1 else 2 * MOST_COMMANDS
     for place, command in enumerate(script.commands):
-        if command.word in ('plan', 'learn', 'edit', 'run') and command.name not in shown and len(script.commands) + len(names) < MOST_COMMANDS:
+        if command.word in ('plan', 'learn', 'edit', 'run') and command.name not in shown and len(script.commands) + len(names) < most:
             shown.add(command.name)
             names[command.line] = command.name
             places.append(place + len(names))

@@ -5,7 +5,7 @@ The facts are worked out from the script's facts, operators and disturbances, an
 from dataclasses import dataclass, field
 
 from pictures.duo import check_duo, check_step, events_of
-from planex import Duo, Facts, Noted, Plan, Run, Table, Unread
+from planex import Duo, Facts, Noted, Plan, Pursuit, Run, Saved, Table, Unread
 
 # The replies that a command may have.
 ANSWERS = {
@@ -17,6 +17,10 @@ ANSWERS = {
     'run': ('run', 'unknown'),
     'duo': ('duo', 'unknown'),
     'facts': ('facts',),
+    'save': ('saved', 'notsaved', 'unknown'),
+    'certify': ('certified', 'notcertified', 'unknown'),
+    'pursue': ('pursue',),
+    'tree': ('tree',),
 }
 
 
@@ -96,13 +100,14 @@ def without_script(title, replies):
 
 def with_script(title, script, replies, asked=()):
     """What a transcript and its script tell, with tables that were asked for besides."""
-    tables = tables_of([*asked, *replies], replies)
+    tables = tables_of([*script.tables.values(), *asked, *replies], replies)
     return Story(title, tell(script, replies, tables), script, tables)
 
 
 def tables_of(told, replies):
     """The tables that are told, by name. A run that goes through steps that its table hasn't is refused."""
-    tables = {reply.name: reply for reply in told if isinstance(reply, Table)}
+    tables = {reply.name: reply.table for reply in told if isinstance(reply, Saved)}
+    tables.update({reply.name: reply for reply in told if isinstance(reply, Table)})
     for reply in replies:
         if isinstance(reply, Run) and reply.name in tables:
             check_run(reply, tables[reply.name])
@@ -122,8 +127,8 @@ def check_run(reply, table):
 
 def steps_of(reply):
     """The steps of a plan, or of a run."""
-    if isinstance(reply, (Run, Duo)):
-        return [each.step for each in (reply.turns if isinstance(reply, Run) else reply.events) if each.step]
+    if isinstance(reply, (Run, Duo, Pursuit)):
+        return [each.step for each in (reply.events if isinstance(reply, Duo) else reply.turns) if each.step]
     return reply.steps if isinstance(reply, Plan) else []
 
 
@@ -144,9 +149,9 @@ def tell(script, replies, tables):
             recorded.append(command)
             if reply.count != len(recorded):
                 raise Unread(reply.line, f'{len(recorded)} disturbances are recorded here')
-        elif isinstance(reply, Run):
+        elif isinstance(reply, (Run, Pursuit)):
             item.turns = turns_of(script, facts, recorded, reply)
-            facts, recorded = item.turns[-1].left, []
+            facts, recorded = item.turns[-1].left if item.turns else facts, []
         elif isinstance(reply, Duo):
             item.events = events_of(script, facts, reply, tables)
             facts = item.events[-1].left

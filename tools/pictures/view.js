@@ -66,6 +66,59 @@ document.querySelectorAll('.walk').forEach(function (part) {
   slides.push({part: part, go: go, toggle: toggle, pause: pause}); show();
 });
 
+// A search is a tree that is gone through by the arrow keys: to the right it opens a node, or goes to the first one behind it; to the left
+// it folds it, or goes back.
+document.querySelectorAll('.search').forEach(function (search) {
+  var tree = search.querySelector('[role=tree]'), said = search.querySelector('[role=status]');
+  var slider = search.querySelector('input'), nodes = Array.from(tree.querySelectorAll('li')), chosen = nodes[0];
+  function fold(item, isFolded) {
+    if (!item.hasAttribute('aria-expanded')) return;
+    item.setAttribute('aria-expanded', !isFolded); item.lastElementChild.hidden = isFolded;
+  }
+  function above(item) { return item.parentElement.closest('li'); }
+  function isSeen(item) { return !item.closest('[hidden]'); }
+  function choose(item) {
+    if (!item) return false;
+    chosen.tabIndex = -1; chosen = item; chosen.tabIndex = 0;
+    said.textContent = item.dataset.said; chosen.focus();
+    return true;
+  }
+  function go(to) {
+    var seen = nodes.filter(isSeen);
+    return choose(seen[to === 'first' ? 0 : to === 'last' ? seen.length - 1 : seen.indexOf(chosen) + to]);
+  }
+  if (slider) {
+    slider.closest('p').hidden = false;
+    slider.addEventListener('input', function () {
+      nodes.forEach(function (item) { fold(item, +item.dataset.level >= +slider.value); });
+      while (!isSeen(chosen)) { chosen.tabIndex = -1; chosen = above(chosen); chosen.tabIndex = 0; }
+    });
+  }
+  tree.addEventListener('click', function (event) {
+    var item = event.target.closest('.node') && event.target.closest('li');
+    if (!item) return;
+    if (item === chosen) fold(item, item.getAttribute('aria-expanded') === 'true');
+    choose(item);
+  });
+  tree.addEventListener('focusin', function (event) { said.textContent = event.target.dataset.said || ''; });
+  tree.addEventListener('keydown', function (event) {
+    var opened = chosen.getAttribute('aria-expanded');
+    if (event.ctrlKey || event.altKey || event.metaKey) return;
+    if (event.key === 'ArrowDown') go(1);
+    else if (event.key === 'ArrowUp') go(-1);
+    else if (event.key === 'ArrowRight' && opened === 'false') fold(chosen, false);
+    else if (event.key === 'ArrowRight' && opened) choose(chosen.lastElementChild.firstElementChild);
+    else if (event.key === 'ArrowLeft' && opened === 'true') fold(chosen, true);
+    else if (event.key === 'ArrowLeft') choose(above(chosen));
+    else if (event.key === 'Home') go('first');
+    else if (event.key === 'End') go('last');
+    else if (event.key === 'Enter' || event.key === ' ') fold(chosen, opened === 'true');
+    else return;
+    event.preventDefault(); event.stopPropagation();
+  });
+  slides.push({part: search, go: go});
+});
+
 // One slide at a time, over the whole window, and over the whole screen where the browser allows that.
 var shown = null, back = null;
 slides.sort(function (one, other) { return one.part.compareDocumentPosition(other.part) & 4 ? -1 : 1; });

@@ -48,6 +48,7 @@ FORMS = [
     (LISTS, r',\s*$|^[^(]*,|\)[^(]*,', 'leave the comma out, since atoms have blanks between'),
     (LISTS, r'[=<>]', 'objects aren\'t compared: a predicate says which are unequal, as NE of examples/sussman.planex'),
     (LISTS | {'object'}, r'[(\s]\d', 'a name begins with a letter or _'),
+    ({'proof'}, r'\bs\b', 'after a proof that begins with s stand as many proofs as its last number says'),
     ({'edit'}, r'^\s*edit\s+\w+\s+from\b', 'after the names stand a number of steps, and pairs of a step and one of its adds, as 2 1=0'),
     ({'learn', 'edit'}, r'', 'the word from stands between the two names'),
     ({'end', 'building', 'facts'}, r'', 'nothing may follow the word'),

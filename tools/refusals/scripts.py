@@ -120,6 +120,8 @@ class Declared:
             self.results[names[0]] = number
             if word == 'plan':
                 self.plans[names[0]] = number
+        if word == 'table':
+            self.results[names[0]] = number
         if word == 'operator':
             self.operator, self.parameters = names[0], names[1:]
             self.operators[names[0]] = number

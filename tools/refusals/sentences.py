@@ -1,10 +1,12 @@
 """The sentence on a refusal: the most exact one that is found, with a hint where there is one."""
 from refusals.hints import JOINING, PDDL, as_atom, meant, meant_word, no_form, no_token
 from refusals.scripts import code_point, visible
-from refusals.words import (ATOMS, BLOCKS, BUILDING_EDITS, COMMAND, DECLARATION, LIMITS, OPERATOR, OUT_OF_RANGE, SENTENCES, WORDS, WORDS_OF_TWO)
+from refusals.words import (ATOMS, BLOCKS, BUILDING_EDITS, COMMAND, DECLARATION, LIMITS, OPERATOR, OUT_OF_RANGE, SENTENCES, TABLE, WORDS,
+                            WORDS_OF_THREE, WORDS_OF_TWO)
 
 OPERATOR_LISTS = {word for word, row in WORDS.items() if row.places == (OPERATOR,)}
-ONCE = {'nodes', 'height', 'shapes', 'building', 'robot'}
+TABLE_LINES = {word for word, row in WORDS.items() if row.places == (TABLE,)}
+ONCE = {'nodes', 'height', 'shapes', 'weight', 'building', 'robot'}
 
 
 def bad_form(line, known, limit):
@@ -30,6 +32,8 @@ def unknown_word(line, known, limit):
         return f'{line.word} is a predicate, and no word of the language: does {place} belong before {as_atom(line)}?'
     if line.word in WORDS_OF_TWO:
         return f'{line.word} is a word of version 2: begin the script by script 2'
+    if line.word in WORDS_OF_THREE:
+        return f'{line.word} is a word of version 3: begin the script by script 3'
     if line.word in ('-', '='):
         return f'{line.word} begins no line: a comment begins with #'
     near = meant_word(line.word)
@@ -76,7 +80,7 @@ def things_wanted(line):
 
 
 def unknown_result(line, known):
-    """The sentence on the first result that isn't declared, in a line learn, show, run, duo or edit."""
+    """The sentence on the first result that isn't declared, in a line that names some."""
     places = {'learn': (3,), 'edit': (3,), 'duo': (1, 2)}.get(line.word, (1,))
     names, what = (known.plans, 'plan') if line.word == 'learn' else (known.results, 'result')
     name = next((name for name in (line.tokens[place][1] for place in places) if name not in names), None)
@@ -94,10 +98,12 @@ def unknown_name(line, known, limit):
             for kind, text in arguments:
                 if kind == 'name' and text not in known.objects and text not in known.parameters:
                     return unknown_in_atom(line, known, text, 'argument')
-    if line.word in ('learn', 'show', 'run', 'duo', 'edit'):
+    if line.word in ('learn', 'show', 'run', 'save', 'certify', 'duo', 'edit'):
         said = unknown_result(line, known)
         if said:
             return said
+    if line.word == 'step' and line.names[0] not in known.operators:
+        return f'the operator {line.names[0]} isn\'t declared by an earlier line' + meant(line.names[0], known.operators)
     if line.word == 'param':
         if line.names[0] not in known.sorts:
             return f'{line.names[0]} is no sort of an earlier line' + meant(line.names[0], known.sorts)
@@ -129,8 +135,9 @@ def duplicate_objects(names, known):
 
 def duplicate(line, known, limit):
     names, word = line.names, line.word
-    kinds = {'object': known.objects, 'predicate': known.predicates, 'plan': known.results, 'learn': known.results, 'edit': known.results,
-             'room': known.objects, 'door': known.objects, 'box': known.objects}
+    kinds = {'object': known.objects, 'predicate': known.predicates,
+             **{giver: known.results for giver in ('plan', 'learn', 'edit', 'table')},
+             **{thing: known.objects for thing in ('room', 'door', 'box')}}
     if word == 'operator':
         if names[0] in known.operators:
             return f'the operator {names[0]} is declared already by line {known.operators[names[0]]}: give one of them another name'
@@ -176,6 +183,9 @@ def arity(line, known, limit):
 def unbound(line, known, limit):
     if not line.variables:
         return '$ stands outside a delete list, where it means any object: name an object'
+    if line.word in TABLE_LINES:
+        return 'the parameters of a table are ?p1, ?p2 and so on, as many as its block says' + (
+            ', and the variables of its goal ?g1 to ?g12' if line.word == 'goal' else '')
     name = line.variables[0]
     instead = f'in an operator a parameter is written {name[1:]}' if line.word in OPERATOR_LISTS else 'name an object'
     return f'the variable {name} stands outside a goal and an axiom: {instead}'
@@ -197,10 +207,13 @@ def order(line, known, limit):
         if BLOCKS[opener] not in places:
             return (f'{word} stands inside the {opener} block that line {number} opens, and no end is between them: '
                     'close the block by a line end')
+        if opener == 'table':
+            return 'the lines of a table block stand in this order: step lines, one goal, proof lines, end'
         if word == 'end':
             return f'the building that line {number} opens has no line robot: say in it where the robot is, as robot R1'
     elif COMMAND not in places and DECLARATION not in places and word != 'script':
-        opens = ' or '.join(opener for opener, inside in BLOCKS.items() if inside in places)
+        openers = [opener for opener, inside in BLOCKS.items() if inside in places]
+        opens = ' or '.join(filter(None, (', '.join(openers[:-1]), openers[-1])))
         return f'{word} stands outside a block: a line {opens} opens one, and end closes it'
     if COMMAND not in places and known.command:
         return f'a declaration stands after the command of line {known.command}: move it before that'

@@ -12,7 +12,7 @@ class Word(NamedTuple):
 
 
 WORDS = {
-    'script': Word('script 1', (HEAD,), 'the version may be 1 or 2'),
+    'script': Word('script 1', (HEAD,), 'the version may be 1, 2 or 3'),
     'object': Word('object NAME ..', (DECLARATION,)),
     'predicate': Word('predicate NAME NUMBER', (DECLARATION,)),
     'axiom': Word('axiom LITERAL .., each an ATOM or ~ATOM', (DECLARATION,)),
@@ -20,7 +20,7 @@ WORDS = {
     'pre': Word('pre ATOM ..', (OPERATOR,)),
     'delete': Word('delete ATOM ..', (OPERATOR,)),
     'add': Word('add ATOM ..', (OPERATOR,)),
-    'end': Word('end', (OPERATOR, BUILDING)),
+    'end': Word('end', (OPERATOR, BUILDING, TABLE)),
     'building': Word('building', (DECLARATION,)),
     'room': Word('room NAME', (BUILDING,)),
     'door': Word('door NAME ROOM ROOM open, or closed', (BUILDING,)),
@@ -28,8 +28,9 @@ WORDS = {
     'robot': Word('robot ROOM', (BUILDING,)),
     'fact': Word('fact ATOM ..', (DECLARATION,)),
     'height': Word('height NUMBER', (DECLARATION,), 'height may be from 1 to 8'),
-    'nodes': Word('nodes NUMBER', (DECLARATION,), 'nodes may be from 1 to 50,000'),
+    'nodes': Word('nodes NUMBER', (DECLARATION,), 'nodes may be from 1 to 50,000, or in version 3 to 1,000,000'),
     'shapes': Word('shapes NUMBER', (DECLARATION,), 'shapes may be from 2 to 70,000'),
+    'weight': Word('weight NUMBER', (DECLARATION,), 'weight may be from 0 to 1,000'),
     'plan': Word('plan NAME ATOM ..', (COMMAND,)),
     'learn': Word('learn NAME from NAME', (COMMAND,)),
     'show': Word('show NAME', (COMMAND,)),
@@ -39,22 +40,24 @@ WORDS = {
     'sort': Word('sort NAME OBJECT ..', (DECLARATION,)),
     'param': Word('param SORT PARAMETER ..', (OPERATOR,)),
     'duo': Word('duo NAME NAME NUMBER .., each number 1 or 2', (COMMAND,), 'a number of a duo line may be 1 or 2'),
-    'table': Word('table NAME NUMBER', (DECLARATION,)),
+    'table': Word('table NAME NUMBER', (DECLARATION,), 'the numbers of a table block may be up to 9,999'),
     'step': Word('step OPERATOR, or step OPERATOR(ARGUMENT,..)', (TABLE,)),
     'goal': Word('goal ATOM ..', (TABLE,)),
-    'proof': Word('proof PART .., each f NUMBER NUMBER ATOM, a NUMBER, or s NUMBER NUMBER NUMBER (TERM,..)', (TABLE,)),
+    'proof': Word('proof PART .., each f NUMBER NUMBER ATOM, a NUMBER, or s NUMBER NUMBER NUMBER (TERM,..)', (TABLE,),
+                  'the numbers of a table block may be up to 9,999'),
     'save': Word('save NAME', (COMMAND,)),
     'certify': Word('certify NAME', (COMMAND,)),
     'edit': Word('edit NAME from NAME NUMBER STEP=PLACE ..', (COMMAND,), 'the numbers of an edit line may be up to 9,999'),
     'pursue': Word('pursue NAME ATOM ..', (COMMAND,)),
 }
-# The words that version 1 hasn't got.
+# The words that version 2 is the first to have, and version 3.
 WORDS_OF_TWO = ('sort', 'param', 'duo', 'table', 'step', 'goal', 'proof', 'save', 'certify', 'edit', 'pursue')
+WORDS_OF_THREE = ('weight',)
 BUILDING_EDITS = 'disturb NUMBER before EDIT .., or between, each edit robot ROOM, box BOX ROOM, or door DOOR open, or closed'
 # The words that open a block, with the place of the lines inside.
-BLOCKS = {'operator': OPERATOR, 'building': BUILDING}
+BLOCKS = {'operator': OPERATOR, 'building': BUILDING, 'table': TABLE}
 # The words whose lines have atoms, with the number of tokens before these.
-ATOMS = {'pre': 1, 'delete': 1, 'add': 1, 'fact': 1, 'axiom': 1, 'plan': 2, 'disturb': 3}
+ATOMS = {'pre': 1, 'delete': 1, 'add': 1, 'fact': 1, 'axiom': 1, 'plan': 2, 'disturb': 3, 'goal': 1}
 # The predicates that a building gives to its script, with their numbers of arguments.
 BUILDING_PREDICATES = {'INROOM': 2, 'NEXTTO': 2, 'CONNECTS': 3, 'OPENED': 1, 'CLOSED': 1, 'ROOM': 1, 'DOOR': 1, 'BOX': 1}
 
@@ -71,17 +74,21 @@ SENTENCES = {
     9: 'this line may not stand here',
     10: 'the block that opens here is closed by no end: write a line end after its last line',
     11: 'lines of this word can\'t be answered yet: leave it out',
+    12: 'the lines of this block make no table: a goal has to stand in it, and one line proof for each step and one for the goal, '
+        'each with proofs of what its row needs',
     13: 'by the lines before it this is no line of a certificate: docs/CERTIFICATES.md shows how each is written',
 }
 # By limit: what passes it. A number that is out of its range (16) has the sentence of its word.
 OUT_OF_RANGE = 16
 LIMITS = {
-    1: 'a name has more than 64 bytes', 2: 'more than 256 objects, or in version 2 more than 1,024', 3: 'more than 64 predicates',
+    1: 'a name has more than 64 bytes', 2: 'more than 256 objects, or from version 2 on more than 1,024', 3: 'more than 64 predicates',
     4: 'a predicate of more than 6 arguments', 5: 'more than 64 axioms', 6: 'an axiom of more than 6 literals',
     7: 'more than 12 variables in a goal or an axiom', 8: 'more than 32 operators', 9: 'an operator of more than 8 parameters',
-    10: 'a list of an operator has more than 16 atoms', 11: 'more than 512 different facts, or in version 2 more than 1,024', 12: 'a goal of more than 16 atoms',
-    13: 'more than 512 commands, or in version 2 more than 1,024', 14: 'more than 64 disturb lines since the last run', 15: 'a disturbance of more than 16 edits',
-    OUT_OF_RANGE: 'a number is out of its range', 17: 'more than 32 sorts',
+    10: 'a list of an operator has more than 16 atoms', 11: 'more than 512 different facts, or from version 2 on more than 1,024',
+    12: 'a goal of more than 16 atoms', 13: 'more than 512 commands, or from version 2 on more than 1,024',
+    14: 'more than 64 disturb lines since the last run', 15: 'a disturbance of more than 16 edits',
+    OUT_OF_RANGE: 'a number is out of its range', 17: 'more than 32 sorts', 18: 'more than 32 tables', 19: 'more than 64 steps in a table',
+    20: 'a proof higher than 56',
     21: 'more than 16 pairs in an edit line', 22: 'more than 256 numbers in a duo line',
 }
 # Words of other languages at the head of a line, with what this one has for them.

@@ -7,7 +7,7 @@ import re
 import string
 
 from pictures.page import SCRIPT
-from refusals.words import BUILDING, COMMAND, OPERATOR, WORDS
+from refusals.words import BUILDING, COMMAND, OPERATOR, TABLE, WORDS
 
 HERE = pathlib.Path(__file__).resolve().parent
 EXAMPLES = HERE.parent.parent / 'examples'
@@ -17,7 +17,7 @@ MOST_BYTES = 1048576
 
 def kinds():
     """How each word is coloured."""
-    return {name: 'command' if COMMAND in word.places else 'block' if word.places[0] in (OPERATOR, BUILDING) else 'declaration'
+    return {name: 'command' if COMMAND in word.places else 'block' if word.places[0] in (OPERATOR, BUILDING, TABLE) else 'declaration'
             for name, word in WORDS.items()}
 
 

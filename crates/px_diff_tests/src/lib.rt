@@ -1,24 +1,9 @@
 //! Tests of `px_gaps`, `px_entries` and `px_diff`: they stand apart from the crates that they test, since a crate with tests is proved
-//! twice.
+//! twice. Their contracts say what comes of each call, so that there is memory for it is tried once; and how many questions are asked, and
+//! which formulas are known to have few shapes, which no clause says.
 #![tactic(auto)]
 
 #[cfg(test)]
-mod asking;
+mod calls;
 #[cfg(test)]
-mod bounds_tests;
-#[cfg(test)]
-mod entry_tests;
-#[cfg(test)]
-mod first_tests;
-#[cfg(test)]
-mod known_tests;
-#[cfg(test)]
-mod macro_tests;
-#[cfg(test)]
-mod plain_tests;
-#[cfg(test)]
-mod relevance_tests;
-#[cfg(test)]
-mod sample_problems;
-#[cfg(test)]
-mod sample_tables;
+mod questions;

@@ -69,7 +69,8 @@ pair-fits (q ∷ ps) (u ∷ us) h p t has = elim (Contains-cases (q, u) (zip ps 
 pairs-alike : (ps ts : List Term) → are_alike ps ts ≡ true → (v : ℕ) (t u : Term) → Contains (zip ps ts) (Var v, t)
     → Contains (zip ps ts) (Var v, u) → t ≡ u
 pairs-alike ps ts h v t u one other =
-    let outer = all-pass (λ (p : Pair). list_all (λ (q : Pair). not (term_eq p.0 q.0) || term_eq p.1 q.1) (zip ps ts)) (zip ps ts) h (Var v, t)
+    let outer =
+    all-pass (λ (p : Pair). list_all (λ (q : Pair). not (term_eq p.0 q.0) || term_eq p.1 q.1) (zip ps ts)) (zip ps ts) h (Var v, t)
     one in
     let inner = all-pass (λ (q : Pair). not (term_eq (Var v) q.0) || term_eq t q.1) (zip ps ts) outer (Var v, u) other in
     so (term_eq (Var v) (Var v)) ((term_eq-decides (Var v) (Var v)).1 refl) inner

@@ -8,5 +8,7 @@ pub mod MadeOne
 pub mod Smallest
 pub mod Operators
 pub mod ByValueLaws
+pub mod AtStart
 pub mod Fitting
+pub mod PickCounts
 pub mod WorkedByValue

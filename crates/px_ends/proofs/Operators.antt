@@ -100,13 +100,13 @@ no_entry : (entry : Entry) → ¬ IsEntry (plain_problem [] 1) [] entry
 no_entry (Op inst) is = let within = is.of.op in omega (arith, within)
 no_entry (Macro number prefix sigma) is = let at = is.1 in cc
 
+pub no_moves : (moves : List Move) → AreMoves (p_from_none [] 1) moves → [] ≡ moves
+no_moves [] can = refl
+no_moves (Apply ∷ moves) can = absurd (can.0.0 refl)
+no_moves (Push entry ∷ moves) can = absurd (no_entry entry can.0.0.is_entry)
+
 not_there : IsExhausted (p_from_none [] 1)
 not_there = exhausted_at_once [] (λ nodes inst. tt) no_moves
-  where
-    no_moves : (moves : List Move) → AreMoves (p_from_none [] 1) moves → [] ≡ moves
-    no_moves [] can = refl
-    no_moves (Apply ∷ moves) can = absurd (can.0.0 refl)
-    no_moves (Push entry ∷ moves) can = absurd (no_entry entry can.0.0.is_entry)
 
 -- ---- an operator that isn't open
 

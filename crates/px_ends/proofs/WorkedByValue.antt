@@ -10,6 +10,7 @@ use Rattle.px_table.specs.declared.entry.Entry.{Entry}
 use Rattle.px_table.specs.declared.entry.Move.{Move}
 use Rattle.px_table.specs.declared.entry.Move.TheVariants.{Apply, Push}
 use Rattle.px_table.specs.declared.node.Node.{Node}
+use Rattle.px_proof.specs.Derivation.{also, fact, none}
 use Rattle.px_gaps.specs.Questions.{Question, MeetsLimit}
 use Rattle.px_order.specs.Spaces.{Order, value}
 use Rattle.px_order.specs.Runs.{IsDone, IsGoneOver, IsNew, Reaches, RunsFor}
@@ -19,11 +20,12 @@ use Rattle.px_order.specs.Ends as order_ends
 use Rattle.px_ends.specs.ByValue.{space_of, order_by, aim_of, IsExhausted, IsFound, IsNodeLimit}
 use Rattle.px_ends.specs.Ends.{AreMoves, node_of}
 use Rattle.px_ends.specs.Order.{move_cmp}
-use Rattle.px_ends.specs.Tasks.{IsAllowed}
-use Rattle.px_ends.specs.WorkedEnds.{bare, make, p, p_from_none, plain_problem, stuck}
+use Rattle.px_ends.specs.Tasks.{IsAllowed, IsSolved, task_of}
+use Rattle.px_ends.specs.WorkedEnds.{bare, idle, make, p, p_from_none, plain_problem, stuck}
 use Rattle.px_ends.specs.WorkedValues.{ValueFacts}
-use Rattle.px_ends.proofs.Operators.{IsPlainStack, NeedLittle, all_moves, apply_allowed, each_list, little, little_stuck, needs_below, not_open, only_make, push_allowed, pushed, pushed_and_applied, stops, stuck_moves, three, to_p, two}
-use Rattle.px_ends.proofs.Smallest.{proving_below}
+use Rattle.px_ends.proofs.Operators.{IsPlainStack, NeedLittle, all_moves, apply_allowed, each_list, little, little_stuck, needs_below, no_moves, only_make, push_allowed, pushed, pushed_and_applied, stops, stuck_moves, three, to_p, two}
+use Rattle.px_ends.proofs.AtStart.{found_at_start}
+use Rattle.px_ends.proofs.Smallest.{no_proof, p_leaf, p_proof, proving_below}
 
 module _ (weight : ℕ) where
   abbrev by : (schemas : List Schema) (nodes : ℕ) → Order Node Move
@@ -198,7 +200,8 @@ module _ (weight : ℕ) where
 
     below-limit : order_ends.IsUnlimited (space_of (to_p nodes)) (by two nodes) (aim_of (to_p nodes))
     below-limit = unlimited two nodes little
-        (λ moves can. each_list (λ (ms : List Move). IsPlainStack (node_of (to_p nodes) ms).stack) tt tt tt moves (all_moves nodes moves can))
+        (λ moves can. each_list (λ (ms : List Move). IsPlainStack (node_of (to_p nodes) ms).stack) tt tt tt moves
+        (all_moves nodes moves can))
 
   made : IsFound (to_p 3) weight pushed_and_applied
   made = record { unlimited = below-limit 3; earlier = [] ∷ pushed ∷ []; stop = stop 3 (omega arith); room = omega arith }
@@ -216,30 +219,45 @@ module _ (weight : ℕ) where
     nodes_are = refl;
   }
 
-  -- ---- an operator that isn't open
+  -- ---- where nothing is pushed
 
-  abbrev alone : List Schema
-  alone = stuck ∷ []
+  module _ (schemas : List Schema) (few : NeedLittle schemas)
+      (only : (moves : List Move) → AreMoves (p_from_none schemas 1) moves → [] ≡ moves) where
+    no-move : (m : Move) → ¬ IsAllowed (p_from_none schemas 1) (bare []) m
+    no-move m can = let none = only (m ∷ []) (can, tt) in cc
 
-  none_open : IsExhausted (p_from_none alone 1) weight
-  none_open = record {
-    unlimited = unlimited alone 1 little_stuck
-        (λ moves can. subst (λ (ms : List Move). IsPlainStack (node_of (p_from_none alone 1) ms).stack) (stuck_moves moves can) tt);
-    lists = [] ∷ [];
-    picked = 0 ∷ [];
-    over = record {
-      comes = (1, first-picked alone 1);
-      done = λ moves stands. subst (λ (l : List Move). IsGoneOver (space_of (p_from_none alone 1)) (by alone 1) ([] ∷ []) l)
-          (only-first 0 moves stands).1 (λ m can. absurd (no-move m can));
-      all = λ k moves stands. subst (λ (n : ℕ). Contains (0 ∷ []) n) (sym (only-first k moves stands).0) (Contains-first 0 []);
-    };
-    unsolved = λ moves has. subst (λ (l : List Move). ¬ (aim_of (p_from_none alone 1)).solved (node_of (p_from_none alone 1) l))
-        (Contains-one [] moves has) (not_open.unsolved [] tt);
-    room = omega arith;
-  }
-    where
-      no-move : (m : Move) → ¬ IsAllowed (p_from_none alone 1) (bare []) m
-      no-move m can = let none = stuck_moves (m ∷ []) (can, tt) in cc
+    not-solved : ¬ IsSolved (p_from_none schemas 1) (bare [])
+    not-solved solved = no_proof schemas 1 p solved.1
+
+    exhausted_at_first : IsExhausted (p_from_none schemas 1) weight
+    exhausted_at_first = record {
+      unlimited = unlimited schemas 1 few
+          (λ moves can. subst (λ (ms : List Move). IsPlainStack (node_of (p_from_none schemas 1) ms).stack) (only moves can) tt);
+      lists = [] ∷ [];
+      picked = 0 ∷ [];
+      over = record {
+        comes = (1, first-picked schemas 1);
+        done = λ moves stands. subst (λ (l : List Move). IsGoneOver (space_of (p_from_none schemas 1)) (by schemas 1) ([] ∷ []) l)
+            (only-first 0 moves stands).1 (λ m can. absurd (no-move m can));
+        all = λ k moves stands. subst (λ (n : ℕ). Contains (0 ∷ []) n) (sym (only-first k moves stands).0) (Contains-first 0 []);
+      };
+      unsolved = λ moves has. subst (λ (l : List Move). ¬ (aim_of (p_from_none schemas 1)).solved (node_of (p_from_none schemas 1) l))
+          (Contains-one [] moves has) not-solved;
+      room = omega arith;
+    }
+
+  -- an operator that isn't open
+  none_open : IsExhausted (p_from_none (stuck ∷ []) 1) weight
+  none_open = exhausted_at_first (stuck ∷ []) little_stuck stuck_moves
+
+  -- no operator
+  pub not_there_by_value : IsExhausted (p_from_none [] 1) weight
+  not_there_by_value = exhausted_at_first [] (λ nodes inst. tt) no_moves
+
+  -- P where it is a fact
+  pub there_by_value : IsFound (task_of idle [] (p ∷ []) (p ∷ []) 0) weight []
+  there_by_value = found_at_start (task_of idle [] (p ∷ []) (p ∷ []) 0) weight (omega arith)
+      (refl, ([], also (fact p_leaf) none, p_proof [] 1)) (proving_below [] 1 (p ∷ []) (p ∷ []) tt)
 
 pub value_facts : ValueFacts
 value_facts = record {

@@ -1,7 +1,7 @@
 //! What a search over proofs is asked, how it ends, and the table of its moves.
 //!
-//! These are definitions and their laws, which the search of `px_search` meets. The nodes are those of the goal stack of Fikes
-//! and Nilsson 1971, with the first steps of learned tables among the entries (Fikes, Hart and Nilsson 1972).
+//! These are definitions and their laws, which the search of `px_search` meets, with the weight of its problem. The nodes are those of the
+//! goal stack of Fikes and Nilsson 1971, with the first steps of learned tables among the entries (Fikes, Hart and Nilsson 1972).
 //!
 //! # Calling it
 //!
@@ -21,7 +21,7 @@
 //! - `specs/ByValue`: the same four ends with a weight, of a search that picks the node of the least value (`px_order`): the number of
 //!   moves, and what the node lacks (`specs/Lacks`) as many times as the weight says. With each weight a search has one end
 //!   ([`value_ends_are_one`]); where it is exhausted with one, it isn't found or limited with any ([`exhausted_with_all`]); weight 0 is
-//!   breadth ([`weight_none_is_breadth`]). No search goes by a weight yet. [`fits_is_match`] says what the test of an instance means.
+//!   breadth ([`weight_none_is_breadth`]). [`fits_is_match`] says what the test of an instance means.
 //! - [`worked_ends`] has the smallest searches, and [`worked_values`] those with a weight.
 //! - The laws are calls that do nothing.
 #![tactic(auto)]

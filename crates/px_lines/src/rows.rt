@@ -1,7 +1,7 @@
 //! The table of the words.
-ghost use Rattle.std.specs.Prelude.{◌≡◌, IfSome};
+ghost use Rattle.std.specs.Prelude.{◌≡◌, ◌++◌, IfSome};
 ghost use Rattle.std.specs.Option.{option_map};
-ghost use Rattle.px_script.proofs.Rows.{disturb_row, entries_of_two, is_of, newer, row_among, row as spec_row, row_of};
+ghost use Rattle.px_script.proofs.Rows.{disturb_row, entries_of_commands, entries_of_tables, entries_of_three, entries_of_two, is_of, newer, row_among, row as spec_row, row_of};
 ghost use Rattle.px_script.specs.Limits.{is_word};
 ghost use Rattle.px_lines.specs.LineViews.{row_view};
 
@@ -101,18 +101,45 @@ fn plain(word: &'static str, place: Place, ones: &'static [One], last: Last) -> 
     described(word, place, Manner::Plain, ones, last)
 }
 
-/// Returns the row as one that version 2 is the first to have.
-fn newer(row: Row) -> Row
-    ensures { row_view result ≡ newer (row_view row) }
+/// Returns the row of a word that this version is the first to have.
+fn since(
+    version: u32,
+    word: &'static str,
+    place: Place,
+    manner: Manner,
+    ones: &'static [One],
+    last: Last,
+) -> Row
+    ensures { row_view result ≡ newer version (spec_row word.now place manner ones.now last) }
 {
     Row {
-        word: row.word,
-        since: 2,
-        place: row.place,
-        manner: row.manner,
-        ones: row.ones,
-        last: row.last,
+        word,
+        since: version,
+        place,
+        manner,
+        ones,
+        last,
     }
+}
+
+/// Returns the row of a word that version 2 is the first to have, and whose atoms, if it has some, have names alone.
+fn of_two(word: &'static str, place: Place, ones: &'static [One], last: Last) -> Row
+    ensures { row_view result ≡ newer 2 (spec_row word.now place Manner.Plain ones.now last) }
+{
+    since(2, word, place, Manner::Plain, ones, last)
+}
+
+/// Returns the row of a line of a table's block.
+fn in_table(
+    word: &'static str,
+    block: Block,
+    manner: Manner,
+    ones: &'static [One],
+    last: Last,
+) -> Row
+    ensures { row_view result ≡ newer 2 (spec_row word.now (Place.Inside block) manner ones.now last) }
+{
+    since(2, word, Place::Inside(block), manner, ones, last)
 }
 
 fn disturbance(with_building: bool) -> Row
@@ -137,57 +164,93 @@ fn disturbance(with_building: bool) -> Row
     }
 }
 
-/// Returns the row of a word that version 2 is the first to have.
-fn row_of_two(word: &str) -> Option<Row>
-    ensures { option_map row_view result ≡ row_among word.now entries_of_two }
+/// Returns the row of a word that version 3 is the first to have.
+fn row_of_three(word: &str) -> Option<Row>
+    ensures { option_map row_view result ≡ row_among word.now entries_of_three }
 {
     match word {
-        "sort" => Some(newer(plain("sort", Place::Domain, &SORT, Last::New(Named::Object)))),
-        "duo" => Some(newer(plain("duo", Place::Command, &DUO, Last::Numbers))),
-        "param" => Some(newer(plain(
-            "param",
-            Place::Inside(Block::Operator),
-            &PARAM,
-            Last::Known(Named::Parameter),
-        ))),
-        "table" => Some(newer(plain(
-            "table",
-            Place::Opens(Block::TableSteps),
-            &NEW_TABLE,
+        "weight" => Some(since(
+            3,
+            "weight",
+            Place::Setting,
+            Manner::Plain,
+            &NUMBER,
             Last::Nothing,
-        ))),
-        "step" => Some(newer(described(
-            "step",
-            Place::Inside(Block::TableSteps),
-            Manner::TableTerms,
-            &STEP,
-            Last::Arguments,
-        ))),
-        "goal" => Some(newer(described(
-            "goal",
-            Place::Inside(Block::TableSteps),
-            Manner::TableGoals,
-            &NONE,
-            Last::Atoms,
-        ))),
-        "proof" => Some(newer(described(
-            "proof",
-            Place::Inside(Block::TableRows),
-            Manner::TableTerms,
-            &NONE,
-            Last::Proofs,
-        ))),
-        "save" => Some(newer(plain("save", Place::Command, &TABLE, Last::Nothing))),
-        "certify" => Some(newer(plain("certify", Place::Command, &TABLE, Last::Nothing))),
-        "edit" => Some(newer(plain("edit", Place::Command, &EDIT, Last::Pairs))),
-        "pursue" => Some(newer(described(
+        )),
+        _ => None,
+    }
+}
+
+/// Returns the row of a command of version 2, or of a word that version 3 is the first to have.
+fn row_of_commands(word: &str) -> Option<Row>
+    ensures { option_map row_view result ≡ row_among word.now (entries_of_commands ++ entries_of_three) }
+{
+    match word {
+        "save" => Some(of_two("save", Place::Command, &TABLE, Last::Nothing)),
+        "certify" => Some(of_two("certify", Place::Command, &TABLE, Last::Nothing)),
+        "edit" => Some(of_two("edit", Place::Command, &EDIT, Last::Pairs)),
+        "duo" => Some(of_two("duo", Place::Command, &DUO, Last::Numbers)),
+        "pursue" => Some(since(
+            2,
             "pursue",
             Place::Command,
             Manner::Goals,
             &RESULT,
             Last::Atoms,
-        ))),
-        _ => None,
+        )),
+        _ => row_of_three(word),
+    }
+}
+
+/// Returns the row of a word of a table's block, or of one of those.
+fn row_of_tables(word: &str) -> Option<Row>
+    ensures { option_map row_view result ≡ row_among word.now (entries_of_tables ++ (entries_of_commands ++ entries_of_three)) }
+{
+    match word {
+        "table" => Some(of_two(
+            "table",
+            Place::Opens(Block::TableSteps),
+            &NEW_TABLE,
+            Last::Nothing,
+        )),
+        "step" => Some(in_table(
+            "step",
+            Block::TableSteps,
+            Manner::TableTerms,
+            &STEP,
+            Last::Arguments,
+        )),
+        "goal" => Some(in_table(
+            "goal",
+            Block::TableSteps,
+            Manner::TableGoals,
+            &NONE,
+            Last::Atoms,
+        )),
+        "proof" => Some(in_table(
+            "proof",
+            Block::TableRows,
+            Manner::TableTerms,
+            &NONE,
+            Last::Proofs,
+        )),
+        _ => row_of_commands(word),
+    }
+}
+
+/// Returns the row of a word that version 2 or a later one is the first to have.
+fn row_of_two(word: &str) -> Option<Row>
+    ensures { option_map row_view result ≡ row_among word.now (entries_of_two ++ entries_of_three) }
+{
+    match word {
+        "sort" => Some(of_two("sort", Place::Domain, &SORT, Last::New(Named::Object))),
+        "param" => Some(of_two(
+            "param",
+            Place::Inside(Block::Operator),
+            &PARAM,
+            Last::Known(Named::Parameter),
+        )),
+        _ => row_of_tables(word),
     }
 }
 
@@ -261,6 +324,6 @@ impl Row {
     fn is_of(&self, version: u32) -> bool
         ensures { result ≡ is_of version (row_view self.now) }
     {
-        self.since == 1 || version == 2
+        self.since == 1 || self.since <= version
     }
 }

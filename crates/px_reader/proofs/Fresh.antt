@@ -1,5 +1,6 @@
 -- The names that a line without a fault declares are fresh: they are names, no two of a kind are equal, and there is room for them.
 use Rattle.px_script.specs.RangeLaws.{version-most}
+use Rattle.px_script.proofs.States.{from_blocks}
 use Rattle.px_reader.proofs.Common.{◌≡◌, ◌≤◌, ℕ, true, List, [], ◌∷◌, ◌++◌, map, length, refl, sym, ap, ◌∙◌, subst, arith, chars, all_scalars, and_parts, get_or-append_seam, length-append, NameLists, Lexeme, name, Lexes, Statement, line_of, is_formed, Declared, well-formed, line-kept, IsFaultless, AreInRange, AreOfKinds, IsFresh, IsNameLexeme, leaves, text_of, Bor, AllByRecursion, IsName, is_name, get_or_append_left, chars-encodes, IsWelcome, names_in, Kind, IsLexeme}
 
 -- ---- the names in the lexemes of a line are names
@@ -37,7 +38,8 @@ lists d r =
       predicates = record { distinct = r.names.predicates.distinct; few = r.names.few_predicates };
       operators = record { distinct = r.names.operators.distinct; few = r.names.few_operators };
       results = (let few = version-most d.version _ 512 1024 (omega arith) r.commands.few in let results = r.results.few in
-          record { distinct = r.names.results.distinct; few = omega (arith, few, results) });
+          let tables : length (from_blocks d) ≤ 32 = r.few_saved in
+          record { distinct = r.names.results.distinct; few = omega (arith, few, results, tables) });
     }
 
 -- those of a line without a fault with those before it

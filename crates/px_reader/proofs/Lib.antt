@@ -9,8 +9,12 @@ pub mod Times
 pub mod Variables
 pub mod Twice
 pub mod Facts
+-- the lines of tables
+pub mod ProofHeights
 -- what a line adds
 pub mod Right
+pub mod TableLines
+pub mod TableEnds
 pub mod MoreNames
 pub mod Sorting
 pub mod Fresh

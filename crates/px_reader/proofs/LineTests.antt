@@ -1,8 +1,7 @@
 -- Tests of lines, token by token and of what stands to their ends.
 use Rattle.px_base.specs.declared.no_memory.NoMemory.{NoMemory}
-use Rattle.px_reader.proofs.Common.{◌≡◌, ◌||◌, ◌∙◌, ap, sym, true, false, List, list_any, list_any-map, flat_map, Declared, lacks, Option, Result, Ok, Err, IfOk, Statement, line_of, ℕ, Bool, not, ◌&&◌, has_name, refl}
+use Rattle.px_reader.proofs.Common.{◌≡◌, ◌||◌, ◌∙◌, ap, sym, true, false, List, list_any, list_any-map, flat_map, Declared, lacks, Option, Result, Ok, Err, IfOk, Statement, line_of}
 use Rattle.px_script.specs.Causes.{has_long_name}
-use Rattle.px_script.specs.Stages.{Stage, is_built, words_to_come}
 use Rattle.px_script.specs.Items.{declared_in, wanted_in}
 use Rattle.px_lines.proofs.Views.{any-said}
 use Rattle.px_lines.specs.ItemViews.{rest_view, said_items, said_view}
@@ -56,11 +55,3 @@ pub own-first : (d : Declared) (s : Statement) (l : Line) → line_of s ≡ line
     → IfOk r (λ found. IsFirstLimit found (early_limits d s))
 own-first d s l same none (Ok found) own = rw (ap (has_long_name d) same ∙ none) own
 own-first d s l same none (Err e) own = tt
-
--- a word that is built is none of those to come
-pub has-come : (stage : Stage) (w : List ℕ) → not (is_built stage w) ≡ false → has_name w words_to_come ≡ false
-has-come stage w built = told (has_name w words_to_come) (has_name w stage) built
-  where
-    told : (b c : Bool) → not (not b && c) ≡ false → b ≡ false
-    told true c e = cc
-    told false c e = refl

@@ -1,5 +1,6 @@
 -- What reading a text, and bytes, ends with.
-use Rattle.px_reader.proofs.Common.{◌≡◌, ℕ, ◌+◌, ◌≤◌, List, [], ◌∷◌, map, take, length, refl, sym, ap, ◌∙◌, subst, inr, arith, Some, Result, Ok, Err, IfOk, IfErr, count_by, ◌==◌, IsErrAnd, slice_split, IsUtf8, bytes_eq, chars, length-map, length-drop, map-map, count_by-le-length, ScriptValue, Declared, OpenBlock, Refusal, mark, without_mark, without_return, lines_of, Stage, PassAll, FailsIn, IsScript, FirstFault, ReadsOneWay, by_test, of-stage, characters_of, LinesFail, HasFirstFault, IsRead, IsLineRefused, content, refusal_told, Bor, IsOfStage}
+use Rattle.px_reader.proofs.Common.{◌≡◌, ℕ, ◌+◌, ◌≤◌, List, [], ◌∷◌, map, take, length, refl, sym, ap, ◌∙◌, subst, inr, arith, Some, Result, Ok, Err, IfOk, IfErr, count_by, ◌==◌, IsErrAnd, slice_split, IsUtf8, bytes_eq, chars, length-map, length-drop, map-map, count_by-le-length, ScriptValue, Declared, OpenBlock, Refusal, mark, without_mark, without_return, lines_of, Stage, PassAll, FailsIn, IsScript, FirstFault, ReadsOneWay, by_test, of-stage, characters_of, LinesFail, HasFirstFault, IsRead, IsLineRefused, content, refusal_told, Bor, IsOfStage, nothing_declared}
+use Rattle.px_reader.specs.LineReads.{AreScript}
 use Rattle.std.proofs.lemmas.List.Splits.{length-slice_split}
 use Rattle.px_script.proofs.Law.{reads-one-way}
 use Rattle.px_script.specs.declared.script.Script.{Script}
@@ -10,6 +11,21 @@ pub text-fails : (stage : Stage) (text : List ℕ) (error : ScriptErr) → IsUtf
     → HasFirstFault stage text error
 text-fails stage text (Refused refused) utf8 fails = inr (utf8, fails)
 text-fails stage text NoMemory utf8 fails = tt
+
+-- what the lines of a text end with, the text ends with
+pub text-ends : (stage : Stage) (text : List ℕ) (lines : List (List ℕ)) (r : Result Script ScriptErr) → lines ≡ lines_of text → IsUtf8 text
+    → IfOk r (λ s. AreScript stage lines (content s)) → IfErr r (LinesFail stage lines)
+    → IfOk r (λ s. IsScript stage text (content s)) × IfErr r (HasFirstFault stage text)
+text-ends stage text lines (Ok s) same utf8 is fails = (
+  record {
+    last = is.last;
+    spells = record { text = utf8; lines = subst (λ ls. PassAll stage 1 nothing_declared ls is.last) same is.passes; closed = is.closed };
+    is = is.is;
+  },
+  tt,
+)
+text-ends stage text lines (Err error) same utf8 is fails =
+    (tt, text-fails stage text error utf8 (subst (λ ls. LinesFail stage ls error) same fails))
 
 -- after lines without a fault an open block is the first
 pub left-open : (stage : Stage) (n : ℕ) (d : Declared) (lines : List (List ℕ)) (last : Declared) (block : OpenBlock)

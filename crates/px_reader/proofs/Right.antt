@@ -3,7 +3,7 @@ use Rattle.px_terms.specs.Limits.{most_arguments, most_parameters}
 use Rattle.px_reader.proofs.Common.{◌≡◌, ℕ, ◌≤◌, true, List, [], ◌∷◌, ◌++◌, map, length, get_or, false, refl, sym, ap, ◌∙◌, subst, inl, inr, arith, All, Option, None, Some, slice_index, get_or-append_seam, eqb-true, cases_lt, append-nil, length-map, get_or_past, ArePlainBelow, IsClause, IsGround, has_wrong_arity, Declared, OpenOperator, operator_here, parameters_of, number_in, atom_of, literal_of, clause_of, variable_names_of, own_problem, line_atoms, is_formed, SignedAtom, Line, Statement, plain, line_of, «axiom», fact, IsRight, IsFaultless, stands-right, at-top, has_other_arity, atoms-right, line-kept, well-formed, atoms-with, unmap, no-parameters, OperatorsInRange, AreInRange, not-false, each-fails, AreReadable, argument_view, signed_view, WrittenAtom, length-append}
 use Rattle.px_terms.specs.ValidityLaws.{atom_of-is_ground}
 
-few-in : (d : Declared) (o : Option OpenOperator) → OperatorsInRange d.version d.names (own_problem d) d.things o
+pub few-in : (d : Declared) (o : Option OpenOperator) → OperatorsInRange d.version d.names (own_problem d) d.things o
     → length (parameters_of o) ≤ most_parameters
 few-in d None h = omega arith
 few-in d (Some o) h = let params = h.schema.params in omega (arith, h.params, params)
@@ -16,7 +16,7 @@ arity-small arities small k = elim (cases_lt k (length arities)) [
 ]
 
 -- no atom of a line has more than six arguments
-sizes : (d : Declared) (l : Line) → AreInRange d → has_wrong_arity d l ≡ false
+pub sizes : (d : Declared) (l : Line) → AreInRange d → has_wrong_arity d l ≡ false
     → All (λ x. length x.atom.arguments ≤ most_arguments) (line_atoms l)
 sizes d l r right = each-fails (has_other_arity d) (λ x. length x.atom.arguments ≤ most_arguments)
     (λ x e. let count : length x.atom.arguments ≡ slice_index d.arities (number_in x.atom.predicate d.names.predicates) = eqb-true _ _

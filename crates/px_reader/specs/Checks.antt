@@ -13,7 +13,7 @@ use Rattle.px_script.specs.Causes.{has_long_name, is_known_argument, is_long, is
 use Rattle.px_script.specs.Lexemes.{Lexeme, name}
 use Rattle.px_script.specs.Limits.{number_of}
 use Rattle.px_script.specs.declared.limits.Limit.TheVariants.{NameBytes as name_bytes}
-use Rattle.px_script.specs.Faults.{Refusal, causes_with, first_of, grown, own_limits, passed}
+use Rattle.px_script.specs.Faults.{Refusal, causes_with, coded, first_of, grown, is_bad_table, own_limits, passed}
 use Rattle.px_script.specs.Statements.{Statement, line_of, pre, delete, add, fact}
 use Rattle.px_script.specs.declared.kinds.Manner.{Manner}
 use Rattle.px_script.specs.declared.kinds.Named.{Named}
@@ -103,9 +103,16 @@ early_own d s = own_limits d s
 abbrev pub early_limits : Declared → Statement → List (Bool × ℕ)
 early_limits d s = (has_long_name d (line_of s), number_of name_bytes) ∷ early_own d s
 
+-- the last causes of a line but for the limit of facts
+abbrev pub late_causes : Declared → Statement → List (Bool × Refusal)
+late_causes d s = map passed (early_limits d s) ++ (is_bad_table d s, coded 12) ∷ []
+
+abbrev pub late_fault : Declared → Statement → Option Refusal
+late_fault d s = first_of (late_causes d s)
+
 -- the first fault of a line but for the limit of facts
 abbrev pub early_fault : Stage → Declared → Statement → Option Refusal
-early_fault stage d s = first_of (causes_with stage d s (early_limits d s))
+early_fault stage d s = first_of (causes_with stage d s (early_limits d s) ++ (is_bad_table d s, coded 12) ∷ [])
 
 -- the first of these limits that is passed, if any is
 abbrev pub IsFirstLimit : Option PassedLimit → List (Bool × ℕ) → Type 0

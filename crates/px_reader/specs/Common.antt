@@ -2,7 +2,7 @@
 pub use Rattle.px_names.specs.Lists.{has_name, with_name, IsWelcome, names_of as names_in}
 pub use Rattle.px_reader.specs.Checks.{AreOfKind, AreOfKinds, AreReadable, IsFirstLimit, IsFresh, IsNameLexeme, early_fault, early_limits, early_own, group_is_long, group_repeats, grown_by, is_fact, lacks, lacks_argument, refuses, part_has, part_atom_has}
 pub use Rattle.px_reader.specs.FaultViews.{limit_number, refusal_of}
-pub use Rattle.px_reader.specs.LineReads.{HasFirstFault, IsRead, IsLineRefused, LineEnds, LinesFail, HasFault, characters_of, stage_view, told, refusal_told}
+pub use Rattle.px_reader.specs.LineReads.{AreScript, HasFirstFault, IsRead, IsLineRefused, LineEnds, LinesFail, HasFault, characters_of, stage_view, told, refusal_told}
 pub use Rattle.px_reader.specs.Readers.{declared_of, kind_view, leaves, operator_view, with_more}
 pub use Rattle.px_lines.specs.ItemViews.{argument_view, atom_varies, binding_view, lexemes_of, list_view, room_edit_view, signed_view, text_of}
 pub use Rattle.px_lines.specs.Tokens.{lexeme_of}

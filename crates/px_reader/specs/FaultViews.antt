@@ -28,3 +28,4 @@ refusal_of (fault.Limit limit) = limit_refusal limit
 refusal_of fault.Order = coded 9
 refusal_of fault.MissingEnd = coded 10
 refusal_of fault.NotBuilt = coded 11
+refusal_of fault.BadTable = coded 12

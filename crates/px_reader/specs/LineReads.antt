@@ -1,5 +1,5 @@
 -- What reading a line, and all lines, ends with.
-use Rattle.px_script.specs.Content.{ScriptValue}
+use Rattle.px_script.specs.Content.{ScriptValue, content_of}
 use Rattle.px_script.specs.Declarations.{Declared, nothing_declared}
 use Rattle.px_script.specs.Stages.{Stage}
 use Rattle.px_script.specs.Statements.{Statement}
@@ -8,7 +8,7 @@ use Rattle.std.specs.Prelude.{◌≡◌, ℕ, List, map, None, Some, Option, Ok,
 use Rattle.std.specs.Str.{chars}
 use Rattle.px_script.specs.Faults.{Refusal, fault_at}
 use Rattle.px_script.specs.Lines.{without_return}
-use Rattle.px_script.specs.Scripts.{Passes, Fails, FailsIn, FirstFault}
+use Rattle.px_script.specs.Scripts.{Passes, PassAll, Fails, FailsIn, FirstFault}
 use Rattle.px_reader.specs.declared.fault.LineFault.{LineFault}
 use Rattle.px_reader.specs.declared.refused.Refused.{Refused}
 use Rattle.px_reader.specs.declared.refused.ScriptErr.{ScriptErr}
@@ -47,6 +47,13 @@ told line fault = script.Refused (record { line = line; code = (refusal_of fault
 abbrev pub LinesFail : Stage → List (List ℕ) → ScriptErr → Type 0
 LinesFail stage lines (script.Refused refused) = FailsIn stage 1 nothing_declared lines refused.line (refusal_told refused)
 LinesFail stage lines script.NoMemory = Unit {0}
+
+-- the lines are a script about this
+pub record AreScript (stage : Stage) (lines : List (List ℕ)) (value : ScriptValue) : Type 0 where
+  pub last : Declared
+  pub passes : PassAll stage 1 nothing_declared lines last
+  pub closed : last.block ≡ None
+  pub is : value ≡ content_of last
 
 -- the bytes have this first fault, unless memory ran out
 abbrev pub HasFirstFault : Stage → List ℕ → ScriptErr → Type 0

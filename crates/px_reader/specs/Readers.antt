@@ -2,15 +2,19 @@
 use Rattle.px_names.specs.Lists.{NameLists}
 use Rattle.px_script.specs.Statements.{Statement, line_of}
 use Rattle.std.specs.Option.{option_map}
-use Rattle.std.specs.Prelude.{ℕ, List, [], ◌++◌, map, length}
+use Rattle.std.specs.Prelude.{ℕ, Bool, true, false, List, ◌++◌, map, length, Option}
 use Rattle.std.specs.String.{string_bytes}
 use Rattle.px_names.specs.declared.kind.Kind.{Kind}
 use Rattle.px_names.specs.declared.kind.Kind.TheVariants as kind
-use Rattle.px_script.specs.Declarations.{Declared, OpenBlock, OpenOperator, BlockKind, of_operator, of_building, declares, declared_by, with_all_names}
+use Rattle.px_table.specs.Tables.{rows_of}
+use Rattle.px_terms.specs.declared.instance.OpInst.{OpInst}
+use Rattle.px_script.specs.Declarations.{Declared, OpenBlock, OpenOperator, WrittenTable, BlockKind, of_operator, of_building, of_table_steps, of_table_rows, declares, declared_by, with_all_names}
 use Rattle.px_reader.specs.declared.reader.Reader.{Reader}
 use Rattle.px_reader.specs.declared.blocks.OpenBlock as code
 use Rattle.px_reader.specs.declared.blocks.OpenOperator as operator
 use Rattle.px_reader.specs.declared.blocks.BlockKind as block
+use Rattle.px_reader.specs.declared.open_tables.OpenTable as table
+use Rattle.px_reader.specs.declared.open_tables.WrittenStep as step
 
 -- an open operator with the number that its schema will have
 abbrev pub operator_view : ℕ → operator.OpenOperator → OpenOperator
@@ -26,9 +30,28 @@ operator_view number o = record {
   };
 }
 
+abbrev pub step_view : step.WrittenStep → OpInst
+step_view s = record { op = s.op; args = s.terms.items }
+
+abbrev pub table_view : table.OpenTable → WrittenTable
+table_view t = record {
+  name = t.name;
+  parameters = t.parameters;
+  steps = map step_view t.steps.items;
+  goal = t.goal.items;
+  goal_vars = t.goal_vars;
+  rows = rows_of t.rows.items;
+}
+
+-- a table's block after its goal, or before
+abbrev pub table_kind : Bool → WrittenTable → BlockKind
+table_kind true t = of_table_rows t
+table_kind false t = of_table_steps t
+
 abbrev pub kind_view : ℕ → block.BlockKind → BlockKind
 kind_view number (block.TheVariants.Operator o) = of_operator (operator_view number o)
 kind_view number block.TheVariants.Building = of_building
+kind_view number (block.TheVariants.Table t) = table_kind t.has_goal (table_view t)
 
 abbrev pub open_block_view : ℕ → code.OpenBlock → OpenBlock
 open_block_view number block = record { line = block.line; kind = kind_view number block.kind }
@@ -55,13 +78,18 @@ declared_of reader = record {
   height = reader.height;
   nodes = reader.nodes;
   shapes = reader.shapes;
-  tables = [];
+  weight = reader.weight;
+  saved = reader.saved.items;
   commands = reader.commands.items;
   disturbs = reader.disturbs;
   block = option_map (open_block_view (length reader.schemas.items)) reader.block;
   own_domain = reader.own_domain;
   begun = reader.begun;
 }
+
+-- what the open block is of
+abbrev pub kind_here : Declared → Option BlockKind
+kind_here d = option_map (λ block. block.kind) d.block
 
 -- what a line without a fault leaves, but for that a line stood
 abbrev pub leaves : ℕ → Declared → Statement → Declared

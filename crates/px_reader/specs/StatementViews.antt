@@ -34,6 +34,7 @@ statement_view (statement.Fact atoms) = spec.fact (map signed_view atoms.now)
 statement_view (statement.Height n) = spec.height n
 statement_view (statement.Nodes n) = spec.nodes n
 statement_view (statement.Shapes n) = spec.shapes n
+statement_view (statement.Weight n) = spec.weight n
 statement_view (statement.Plan n atoms) = spec.plan n.now (map signed_view atoms.now)
 statement_view (statement.Learn n source) = spec.learn n.now source.now
 statement_view (statement.Show n) = spec.show n.now

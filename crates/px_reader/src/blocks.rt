@@ -1,9 +1,12 @@
 //! Blocks that are open, and what their lines add.
-ghost use Rattle.std.specs.Prelude.{◌≡◌, ◌≤◌, ◌++◌, ◌∷◌, ℕ, [], length, map, IfOk, OnOk};
+ghost use Rattle.std.specs.Prelude.{◌≡◌, ◌≤◌, ◌++◌, ◌∷◌, ℕ, false, [], length, map, IfOk, OnOk};
 ghost use Rattle.px_base.specs.Bounds.{u32_max};
+ghost use Rattle.px_script.specs.Faults.{is_bad_table};
 ghost use Rattle.px_script.specs.Statements as spec;
 ghost use Rattle.px_reader.specs.Common.{AreOfKinds, IsFresh, string_bytes, kind_of_block, with_thing, AreInRange, AreReadable, declared_of, kind_view, leaves, operator_view, in_role, signed_view, text_of};
 
+use crate::line_variables::Variables;
+use crate::open_tables::OpenTable;
 use crate::reader::Reader;
 use crate::sorts::without_sorts;
 use px_base::{NoMemory, Sequence};
@@ -38,6 +41,7 @@ pub enum Role {
 pub enum BlockKind {
     Operator(OpenOperator),
     Building,
+    Table(OpenTable),
 }
 
 /// A block that isn't closed, and the line that opened it.
@@ -54,6 +58,7 @@ impl BlockKind {
         match self {
             BlockKind::Operator(_) => Block::Operator,
             BlockKind::Building => Block::Building,
+            BlockKind::Table(table) => table.block(),
         }
     }
 }
@@ -116,7 +121,7 @@ impl Reader {
         requires { AreReadable (declared_of self.old) atoms.now }
         ensures { OnOk result (declared_of self.new ≡ leaves 0 (declared_of self.old) (in_role role (map signed_view atoms.now))) }
     {
-        let atoms = self.atoms(&[], atoms)?;
+        let atoms = self.atoms(&Variables::Named(&[]), atoms)?;
         if let Some(block) = &mut self.block {
             if let BlockKind::Operator(operator) = &mut block.kind {
                 match role {
@@ -130,7 +135,8 @@ impl Reader {
     }
 
     pub fn close_block(&mut self) -> Result<(), NoMemory>
-        requires { AreInRange (declared_of self.old) }
+        requires range { AreInRange (declared_of self.old) }
+        requires good { is_bad_table (declared_of self.old) spec.end ≡ false }
         ensures { OnOk result (declared_of self.new ≡ leaves 0 (declared_of self.old) (spec.end)) }
     {
         let Some(block) = self.block.take() else {
@@ -139,6 +145,7 @@ impl Reader {
         match block.kind {
             BlockKind::Operator(operator) => self.add_schema(operator),
             BlockKind::Building => Ok(()),
+            BlockKind::Table(table) => self.close_table(table),
         }
     }
 

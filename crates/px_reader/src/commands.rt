@@ -6,6 +6,7 @@ ghost use Rattle.px_script.specs.Limits.{greatest};
 ghost use Rattle.px_script.specs.Statements as spec;
 ghost use Rattle.px_reader.specs.Common.{IsFresh, variable_names_of, with_command, with_names, a_plan, AreReadable, declared_of, leaves, signed_view, room_edit_view, binding_view};
 
+use crate::line_variables::Variables;
 use crate::reader::Reader;
 use crate::terms::variables;
 use px_base::{NoMemory, Sequence};
@@ -28,7 +29,7 @@ impl Reader {
         ensures { OnOk result (declared_of self.new ≡ leaves 0 (declared_of self.old) (spec.plan name.now (map signed_view goal.now))) }
     {
         let variables = variables(self.alloc, goal)?;
-        let goal = self.atoms(&variables, goal)?;
+        let goal = self.atoms(&Variables::Named(&variables), goal)?;
         let name = self.add_plan_name(name)?;
         self.add_command(Command::Plan {
             name,
@@ -62,6 +63,20 @@ impl Reader {
     {
         let name = self.number(Kind::Result, name);
         self.add_command(Command::Show { name })
+    }
+
+    pub fn add_save(&mut self, name: &str) -> Result<(), NoMemory>
+        ensures { OnOk result (declared_of self.new ≡ leaves 0 (declared_of self.old) (spec.save name.now)) }
+    {
+        let name = self.number(Kind::Result, name);
+        self.add_command(Command::Save { name })
+    }
+
+    pub fn add_certify(&mut self, name: &str) -> Result<(), NoMemory>
+        ensures { OnOk result (declared_of self.new ≡ leaves 0 (declared_of self.old) (spec.certify name.now)) }
+    {
+        let name = self.number(Kind::Result, name);
+        self.add_command(Command::Certify { name })
     }
 
     #[tactic(auto, using(crate::proofs::Facts::map_map))]

@@ -11,6 +11,7 @@ ghost use Rattle.px_script.proofs.Faultless.{IsFaultless, IsRight};
 ghost use Rattle.px_reader.specs.Common.{AllByRecursion, AreOfKind, AreOfKinds, IsFresh, IsNameLexeme, spelling, with_name, atom_of, literal_of, variable_names_of, is_formed, line_of, AreInRange, AreReadable, is_fact, declared_of, leaves, with_more, signed_view, statement_view, text_of};
 
 use crate::blocks::Role;
+use crate::line_variables::Variables;
 use crate::reader::Reader;
 use crate::statement::Statement;
 use crate::terms::variables;
@@ -62,6 +63,7 @@ impl Reader {
             Statement::Height(height) => set(&mut self.height, height),
             Statement::Nodes(nodes) => set(&mut self.nodes, nodes),
             Statement::Shapes(shapes) => set(&mut self.shapes, shapes),
+            Statement::Weight(weight) => set(&mut self.weight, weight),
             Statement::Plan(name, goal) => self.add_plan(name, goal),
             Statement::Learn(name, source) => self.add_learned(name, source),
             Statement::Show(name) => self.add_show(name),
@@ -73,12 +75,12 @@ impl Reader {
                 self.add_edited(name, source, prefix, pairs)
             }
             Statement::Facts => self.add_command(Command::Facts),
-            Statement::Table(_, _) => unreachable!(),
-            Statement::Step(_, _) => unreachable!(),
-            Statement::Goal(_) => unreachable!(),
-            Statement::Proof(_) => unreachable!(),
-            Statement::Save(_) => unreachable!(),
-            Statement::Certify(_) => unreachable!(),
+            Statement::Table(name, parameters) => self.begin_table(line, name, parameters),
+            Statement::Step(operator, terms) => self.add_step(operator, terms),
+            Statement::Goal(atoms) => self.set_goal(atoms),
+            Statement::Proof(parts) => self.add_row(parts),
+            Statement::Save(name) => self.add_save(name),
+            Statement::Certify(name) => self.add_certify(name),
             Statement::Pursue(_, _) => unreachable!(),
             Statement::Sort(name, objects) => self.add_sort(name, objects),
             Statement::Param(sort, names) => self.give_sort(sort, names),
@@ -128,7 +130,7 @@ impl Reader {
         ensures { OnOk result (declared_of self.new ≡ leaves 0 (declared_of self.old) (spec.«axiom» (map signed_view literals.now))) }
     {
         let variables = variables(self.alloc, literals)?;
-        let literals = self.literals(&variables, literals)?;
+        let literals = self.literals(&Variables::Named(&variables), literals)?;
         match self.axioms.push(variables.len() as u32, &literals) {
             Ok(_) => Ok(()),
             Err(_) => Err(NoMemory),
@@ -144,7 +146,7 @@ impl Reader {
             ≡ atom_set (map (atom_of (declared_of self.old) []) (map signed_view atoms.now) ++ self.old.facts.atoms)) }
     {
         for atom in atoms {
-            self.add_fact(self.atom(&[], atom))?;
+            self.add_fact(self.atom(&Variables::Named(&[]), atom))?;
         }
         Ok(())
     }

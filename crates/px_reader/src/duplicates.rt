@@ -152,6 +152,7 @@ impl Reader {
             Statement::Height(_) => Ok(self.height.is_some()),
             Statement::Nodes(_) => Ok(self.nodes.is_some()),
             Statement::Shapes(_) => Ok(self.shapes.is_some()),
+            Statement::Weight(_) => Ok(self.weight.is_some()),
             Statement::Run(_, bindings) => binds_twice(self.alloc, bindings),
             Statement::Param(_, names) => self.sorts_twice(names),
             _ => Ok(false),

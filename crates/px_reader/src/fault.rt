@@ -41,6 +41,8 @@ pub enum LineFault {
     /// The input ends inside a block.
     MissingEnd,
     NotBuilt,
+    /// The block of a table is closed whose parts make no table of the problem.
+    BadTable,
 }
 
 impl LineFault {
@@ -61,6 +63,7 @@ impl LineFault {
             LineFault::Order => (9, 0),
             LineFault::MissingEnd => (10, 0),
             LineFault::NotBuilt => (11, 0),
+            LineFault::BadTable => (12, 0),
         }
     }
 }

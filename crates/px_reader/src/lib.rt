@@ -11,10 +11,11 @@
 //! - Where the bytes are no script it returns [`ScriptErr::Refused`] with the first fault: its line from 1, its code, and
 //!   the number of the limit that is passed, or 0. That comes exactly where `FirstFault` of `px_script` holds.
 //! - [`px_script::Command`] is what a script asks for, in its order.
-//! - All words of version 1, and `sort`, `param`, `duo` and `edit` of version 2, are read and built, and what they say is declared and
-//!   checked. A building's script has the problem of `px_rooms` and the facts of its first state. The words that are built are
-//!   listed in one place, `STAGE` of `reading` (`stage_now` of `px_script`); below it all is proved for whatever words are built.
-//!   A line of another word is refused with code 11 where no cause stands before it. A bad form, such as the bare word `room`, has
+//! - What lines say is declared and checked. A building's script has the problem of `px_rooms` and the facts of its first state. A table
+//!   of the script is checked whole where its block ends, by `rows_make_table` of `px_table`: nothing of its text is trusted. Each is then
+//!   a table of the script's problem ([`px_script::Script`]), and a block that makes none is refused with code 12. The words that are
+//!   built are listed in one place, `STAGE` of `reading` (`stage_now` of `px_script`); below it all is proved for whatever words are
+//!   built. A line of another word is refused with code 11 where no cause stands before it. A bad form, such as the bare word `room`, has
 //!   code 2; and a line out of order has code 9.
 //! - Tokens and names borrow from the input. How fast it reads is measured (`bench/reading`). Its tests stand in
 //!   `px_run_tests` (`reading_tests`), since a crate with tests is proved twice.
@@ -23,26 +24,34 @@
 //!
 //! A line is read by `px_lines`. `Reader` has what the lines so far have declared, with the fields of `Declared` of `px_script`
 //! (`declared_of` in `specs/Readers`). The causes to refuse a line are tests of the reader, in the order of their codes (`order`,
-//! `naming`, `duplicates`, `limits`): most go over the line's items, whatever its word. What its word alone says, its own limits, what
-//! may stand once, and what it adds, is told by a `Statement` (`statements`), which borrows the line's lists. A line without a fault is
-//! declared (`declaring`, `blocks`, `commands`, over `terms`). Only facts are counted after they are added. Of `specs/`, public clauses
+//! `naming`, `duplicates`, `limits`, `closing`): most go over the line's items, whatever its word. What its word alone says, its own
+//! limits, what may stand once, and what it adds, is told by a `Statement` (`statements`), which borrows the line's lists. A line without a
+//! fault is declared (`declaring`, `blocks`, `commands`, over `terms`). Only facts are counted after they are added. The lines of a table's
+//! block add to its `OpenTable` (`open_tables`); the proofs of a row are made of their parts from the last to the first (`rows`), after
+//! their heights (`tables`), so none is made that is higher than 56. Of `specs/`, public clauses
 //! cite only `LineReads`.
 #![tactic(auto)]
 
 mod blocks;
+mod closing;
 mod commands;
 mod declaring;
 mod duplicates;
 mod fault;
 mod limits;
+mod line_variables;
 mod naming;
+mod open_tables;
 mod order;
+mod problem;
 mod reader;
 mod reading;
 mod refused;
+mod rows;
 mod sorts;
 mod statement;
 mod statements;
+mod tables;
 mod terms;
 
 pub use reading::read_script;

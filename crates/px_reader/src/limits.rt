@@ -3,24 +3,24 @@ ghost use Rattle.std.specs.Prelude.{◌≡◌, ◌<◌, ◌+◌, ◌^◌, ◌&&�
 ghost use Rattle.px_script.specs.Causes.{is_long, is_numbered};
 ghost use Rattle.px_script.specs.Items.{declared_in};
 ghost use Rattle.px_script.specs.declared.limits.Limit.TheVariants as limit;
-ghost use Rattle.px_script.specs.Faults.{any_outside, has_great_number};
+ghost use Rattle.px_script.specs.Faults.{any_outside, has_great_number, heights_of, highest, numbers_of_part, steps_here};
 ghost use Rattle.px_script.specs.Limits.{greatest, of_executor};
-ghost use Rattle.px_script.specs.Stages.{words_to_come};
 ghost use Rattle.px_script.specs.Statements as spec;
-ghost use Rattle.px_lines.specs.ItemViews.{rest_view, said_view};
+ghost use Rattle.px_lines.specs.ItemViews.{part_view, rest_view, said_view};
 ghost use Rattle.px_lines.specs.LineViews.{line_view};
-ghost use Rattle.px_reader.specs.Common.{IsFirstLimit, early_own, flat_map, group_is_long, list_any, has_long_name, Declared, operator_here, variable_names_of, passed, own_limits, over, outside, disturbance_limits, line_of, AreInRange, early_limits, grown_by, declared_of, signed_view, statement_view, string_bytes, text_of, has_name};
+ghost use Rattle.px_reader.specs.Common.{IsFirstLimit, early_own, flat_map, group_is_long, list_any, has_long_name, Declared, operator_here, variable_names_of, passed, own_limits, over, outside, disturbance_limits, line_of, AreInRange, early_limits, grown_by, declared_of, signed_view, statement_view, string_bytes, text_of};
 
 use crate::fault::PassedLimit;
 use crate::reader::Reader;
 use crate::statement::Statement;
+use crate::tables::{any_part_great, greatest_height};
 use crate::terms::has_many_variables;
 use px_base::NoMemory;
-use px_lines::{Line, Rest, Said, SignedAtom};
+use px_lines::{Line, Part, Rest, Said, SignedAtom};
 use px_names::Kind;
 use px_script::{
-    EXECUTORS, LAST_NUMBER, LAST_TURN, LAST_VERSION, Limit, MOST_SCRIPT_NODES, NAME_BYTES, Named,
-    greatest,
+    EXECUTORS, LAST_NUMBER, LAST_TURN, LAST_VERSION, Limit, NAME_BYTES, Named, greatest,
+    most_script_nodes, most_script_weight,
 };
 use px_terms::{MOST_HEIGHT, MOST_SHAPES};
 
@@ -148,7 +148,6 @@ impl Reader {
     ) -> Result<Option<PassedLimit>, NoMemory>
         requires range { AreInRange (declared_of self.now) }
         requires same { line_of (statement_view statement) ≡ line_view line.now }
-        requires come { has_name (line_of (statement_view statement)).word words_to_come ≡ false }
         ensures { IfOk result (λ found. IsFirstLimit found (early_limits (declared_of self.now) (statement_view statement.entry))) }
     {
         if has_long_name(line) {
@@ -160,7 +159,6 @@ impl Reader {
     /// Returns the least number of the limits that the line passes, but for those of long names and of facts.
     fn own_limit(&self, statement: Statement<'_, '_>) -> Result<Option<PassedLimit>, NoMemory>
         requires range { AreInRange (declared_of self.now) }
-        requires come { has_name (line_of (statement_view statement)).word words_to_come ≡ false }
         ensures { IfOk result (λ found. IsFirstLimit found (early_own (declared_of self.now) (statement_view statement.entry))) }
     {
         let limit = match statement {
@@ -176,15 +174,18 @@ impl Reader {
                 self.over(self.grown(statement), Limit::OperatorAtoms)
             }
             Statement::Height(height) => outside(height, 1, MOST_HEIGHT),
-            Statement::Nodes(nodes) => outside(nodes, 1, MOST_SCRIPT_NODES),
+            Statement::Nodes(nodes) => outside(nodes, 1, most_script_nodes(self.version)),
             Statement::Shapes(shapes) => outside(shapes, 2, MOST_SHAPES),
+            Statement::Weight(weight) => outside(weight, 0, most_script_weight(self.version)),
             Statement::Plan(_, goal) => self.plan_limit(goal)?,
             Statement::DisturbAtoms(turn, _, edits) => self.disturbance_limit(turn, edits.len()),
             Statement::DisturbRooms(turn, _, edits) => self.disturbance_limit(turn, edits.len()),
             Statement::Learn(_, _) | Statement::Show(_) | Statement::Run(_, _) | Statement::Facts =>
                 { self.commands_limit() }
-            Statement::Table(_, _) | Statement::Step(_, _) => unreachable!(),
-            Statement::Goal(_) | Statement::Proof(_) => unreachable!(),
+            Statement::Table(_, parameters) => self.table_limit(parameters),
+            Statement::Step(_, _) => self.step_limit(),
+            Statement::Goal(atoms) => self.over(atoms.len(), Limit::GoalAtoms),
+            Statement::Proof(parts) => self.proof_limit(parts)?,
             Statement::Save(_) | Statement::Certify(_) => self.commands_limit(),
             Statement::Edit(_, _, prefix, pairs) => self.edit_limit(prefix, pairs),
             Statement::Duo(_, _, numbers) => self.duo_limit(numbers),
@@ -291,6 +292,39 @@ impl Reader {
         self.commands_over()
             .or(great_number(prefix, pairs))
             .or(self.over(pairs.len(), Limit::Pairs))
+    }
+
+    fn table_limit(&self, parameters: u32) -> Option<PassedLimit>
+        ensures { IsFirstLimit result (has_great_number (parameters ∷ [])
+            ∷ over (declared_of self.now) limit.Tables (length self.now.saved.items + 1) ∷ []) }
+    {
+        great_number(parameters, &[]).or(self.over(self.saved.len() + 1, Limit::Tables))
+    }
+
+    fn step_limit(&self) -> Option<PassedLimit>
+        ensures { IsFirstLimit result (over (declared_of self.now) limit.TableSteps (steps_here (declared_of self.now).block + 1) ∷ []) }
+    {
+        self.over(self.steps_here() + 1, Limit::TableSteps)
+    }
+
+    /// Returns how many steps the table has whose block is open.
+    fn steps_here(&self) -> usize
+        ensures count { result ≡ steps_here (declared_of self.now).block }
+        ensures few { result < 2 ^ 63 }
+    {
+        match self.open_table() {
+            Some(table) => table.steps.len(),
+            None => 0,
+        }
+    }
+
+    fn proof_limit(&self, parts: &[Part<'_>]) -> Result<Option<PassedLimit>, NoMemory>
+        ensures { IfOk result (λ found. IsFirstLimit found (has_great_number (flat_map numbers_of_part (map part_view parts.now))
+            ∷ over (declared_of self.now) limit.ProofHeight (highest (heights_of (map part_view parts.now))) ∷ [])) }
+    {
+        let height = greatest_height(self.alloc, parts)?;
+        let great = passed(any_part_great(parts), PassedLimit::Bounds);
+        Ok(great.or(self.over(height, Limit::ProofHeight)))
     }
 
     fn disturbance_limit(&self, turn: u32, edits: usize) -> Option<PassedLimit>

@@ -1,8 +1,10 @@
 //! Names that aren't declared, arguments that may not stand, and wrong numbers of arguments.
 ghost use Rattle.std.specs.Prelude.{◌≡◌, ◌==◌, ◌||◌, ◌<◌, length, not, None, Some, position, is_some, slice_index, map, IfSome, MatchOption};
 ghost use Rattle.px_names.specs.Lists.{names_of};
-ghost use Rattle.px_script.specs.Causes.{is_goal_variable};
-ghost use Rattle.px_script.specs.Declarations.{Declared, table_parameters_here};
+ghost use Rattle.px_terms.specs.Limits.{most_formula_variables};
+ghost use Rattle.px_script.specs.Causes.{is_numbered_by};
+ghost use Rattle.px_script.specs.Declarations.{Declared, table_here, table_parameters_here};
+ghost use Rattle.px_reader.specs.Readers.{kind_here, table_kind, table_view};
 ghost use Rattle.px_script.specs.Forms.{arguments_of, line_atoms};
 ghost use Rattle.px_script.specs.Items.{open_variable, wanted_in};
 ghost use Rattle.px_lines.specs.ItemViews.{rest_view, said_view};
@@ -10,8 +12,9 @@ ghost use Rattle.px_lines.specs.LineViews.{line_view};
 ghost use Rattle.px_reader.specs.Common.{flat_map, list_any, bytes_eq, string_bytes, has_name, has_unknown_name, has_wrong_arity, is_known_argument, is_unbound, takes, wanted_by, operator_here, parameters_here, number_in, an_object, wanted_by_edit, lacks, lacks_argument, part_atom_has, part_has, refuses, declared_of, operator_view, argument_view, room_edit_view};
 
 use crate::blocks::{BlockKind, OpenOperator};
+use crate::line_variables::{goal_place, parameter_place};
+use crate::open_tables::OpenTable;
 use crate::reader::Reader;
-use crate::terms::is_one_of;
 use px_lines::{Argument, Line, Part, Rest, Said, SignedAtom, WrittenBinding, WrittenRoomEdit};
 use px_names::Kind;
 use px_script::{Manner, Named};
@@ -31,28 +34,28 @@ pub fn is_among(name: &str, names: &[String]) -> bool
     place_of(name, names).is_some()
 }
 
-/// The variables that the goal of a table's block may have.
-const GOAL_VARIABLES: [&str; 12] = [
-    "g1", "g2", "g3", "g4", "g5", "g6", "g7", "g8", "g9", "g10", "g11", "g12",
-];
-
-#[tactic(auto, using(crate::proofs::TableVariables::goal_variables))]
-fn is_goal_variable(name: &str) -> bool
-    ensures { (d : Declared) → result ≡ is_goal_variable d name.now }
-{
-    is_one_of(&GOAL_VARIABLES, name)
-}
-
-/// Returns whether a variable may stand in atoms of the manner, where no table's block is open.
-#[tactic(auto, using(crate::proofs::TableVariables::without_table))]
-fn takes_variable(manner: Manner, name: &str) -> bool
-    ensures { (d : Declared) → table_parameters_here d.block ≡ 0 → result ≡ takes d manner (open_variable name.now) }
+/// Returns whether a variable may stand in atoms of the manner, where the open block is of a table with so many parameters.
+fn takes_variable(parameters: u32, manner: Manner, name: &str) -> bool
+    ensures { (d : Declared) → table_parameters_here d.block ≡ parameters → result ≡ takes d manner (open_variable name.now) }
 {
     match manner {
         Manner::Literals | Manner::Goals => true,
-        Manner::TableGoals => is_goal_variable(name),
+        Manner::TableTerms => is_parameter(parameters, name),
+        Manner::TableGoals => is_parameter(parameters, name) || is_goal_variable(name),
         _ => false,
     }
+}
+
+fn is_parameter(parameters: u32, name: &str) -> bool
+    ensures { result ≡ is_numbered_by 112 parameters name.now }
+{
+    parameter_place(parameters, name).is_some()
+}
+
+fn is_goal_variable(name: &str) -> bool
+    ensures { result ≡ is_numbered_by 103 most_formula_variables name.now }
+{
+    goal_place(name).is_some()
 }
 
 impl Reader {
@@ -76,7 +79,18 @@ impl Reader {
     {
         match &self.block.as_ref()?.kind {
             BlockKind::Operator(operator) => Some(operator),
-            BlockKind::Building => None,
+            BlockKind::Building | BlockKind::Table(_) => None,
+        }
+    }
+
+    /// Returns the table whose block is open.
+    pub fn open_table(&self) -> Option<&OpenTable>
+        ensures { MatchOption result (table_here (declared_of self.now).block ≡ None)
+            (λ t. kind_here (declared_of self.now) ≡ Some (table_kind t.now.has_goal (table_view t.now))) }
+    {
+        match &self.block.as_ref()?.kind {
+            BlockKind::Table(table) => Some(table),
+            BlockKind::Operator(_) | BlockKind::Building => None,
         }
     }
 
@@ -329,12 +343,7 @@ impl Reader {
             || self.others_unbound(line.row.manner, others, parts)
     }
 
-    fn others_unbound(
-        &self,
-        manner: Manner,
-        others: &[Argument<'_>],
-        parts: &[Part<'_>],
-    ) -> bool
+    fn others_unbound(&self, manner: Manner, others: &[Argument<'_>], parts: &[Part<'_>]) -> bool
         ensures { result ≡ (list_any (λ a. not (takes (declared_of self.now) manner (argument_view a))) others.now
             || list_any (part_has (λ a. not (takes (declared_of self.now) manner a))) parts.now) }
     {
@@ -375,14 +384,23 @@ impl Reader {
         atom.arguments.iter().any(|x| !self.takes(manner, x))
     }
 
+    /// Returns how many parameters the table has whose block is open, and 0 where none is.
+    pub fn table_parameters(&self) -> u32
+        ensures { result ≡ table_parameters_here (declared_of self.now).block }
+    {
+        match self.open_table() {
+            Some(table) => table.parameters,
+            None => 0,
+        }
+    }
+
     /// Returns whether the argument may stand in atoms of the manner.
-    #[tactic(auto, using(crate::proofs::TableVariables::no_table))]
     fn takes(&self, manner: Manner, argument: &Argument<'_>) -> bool
         ensures { result ≡ takes (declared_of self.now) manner (argument_view argument.now) }
     {
         match argument {
             Argument::Named(_) => true,
-            Argument::Variable(name) => takes_variable(manner, name),
+            Argument::Variable(name) => takes_variable(self.table_parameters(), manner, name),
             Argument::Anything => matches!(manner, Manner::Patterns),
         }
     }

@@ -7,8 +7,8 @@ ghost use Rattle.px_script.specs.Items.{is_variable};
 ghost use Rattle.px_lines.specs.LineViews.{line_view};
 ghost use Rattle.px_reader.specs.Common.{list_any, part_has, option_map, is_out_of_order, may_stand, has_two_domains, varies, varies_too_early, is_robot, has_robot, lacks_robot, has_building, block_here, stage_view, declared_of};
 
+use crate::line_variables::is_one_of;
 use crate::reader::Reader;
-use crate::terms::is_one_of;
 use px_lines::{Argument, Line, Part, SignedAtom};
 use px_names::Kind;
 use px_script::{Block, Place};
@@ -68,10 +68,8 @@ fn others_vary(others: &[Argument<'_>], parts: &[Part<'_>]) -> bool
     any_variable(others) || any_part_varies(parts)
 }
 
-/// The words of tables in scripts and of commands that there aren't yet.
-const TO_COME: [&str; 7] = [
-    "table", "step", "goal", "proof", "save", "certify", "pursue",
-];
+/// The word of the command that there isn't yet.
+const TO_COME: [&str; 1] = ["pursue"];
 
 /// Returns whether the line's word isn't built.
 pub fn is_unbuilt(stage: &[&str], line: &Line<'_>) -> bool

@@ -1,29 +1,30 @@
 //! The lines so far, and the next one.
-ghost use Rattle.std.specs.Prelude.{◌≡◌, ◌<◌, ◌≤◌, ◌+◌, true, None, Some, length, IfOk, IfSome, MatchOption, unwrap_or};
+ghost use Rattle.std.specs.Prelude.{◌≡◌, ◌<◌, ◌≤◌, ◌∷◌, [], true, length, IfOk, IfSome, MatchOption};
 ghost use Rattle.px_base.specs.Bounds.{u32_max};
-ghost use Rattle.px_rooms.specs.States.{IsBuilding, first_state, rendering, standings};
-ghost use Rattle.px_terms.specs.Validity.{IsValid};
-ghost use Rattle.px_script.specs.declared.limits.TheConstants.{DEFAULT_HEIGHT as default_height, DEFAULT_NODES as default_nodes, DEFAULT_SHAPES as default_shapes};
-ghost use Rattle.px_script.specs.Content.{problem_with};
+ghost use Rattle.px_rooms.specs.States.{IsBuilding, first_state, rendering};
+ghost use Rattle.px_script.specs.Faults.{first_of};
 ghost use Rattle.px_script.specs.Ranges.{IsInRange};
 ghost use Rattle.px_lines.specs.LineViews.{line_view};
-ghost use Rattle.px_reader.specs.Common.{AllByRecursion, IsNameLexeme, spelling, after_line, option_map, chars, content_of, facts_of, problem_of, nothing_declared, begins_with_word, is_formed, line_of, AreInRange, early_fault, refusal_of, HasFault, LineEnds, content, stage_view, declared_of, lexemes_of, statement_view};
+ghost use Rattle.px_reader.specs.Checks.{late_fault};
+ghost use Rattle.px_reader.specs.Problems.{HasProblem};
+ghost use Rattle.px_reader.specs.Common.{AllByRecursion, IsNameLexeme, coded, spelling, after_line, option_map, chars, content_of, facts_of, nothing_declared, begins_with_word, is_formed, line_of, AreInRange, early_fault, refusal_of, HasFault, LineEnds, content, stage_view, declared_of, lexemes_of, statement_view};
 
 use crate::blocks::OpenBlock;
 use crate::fault::{LineFault, PassedLimit};
 use crate::order::is_unbuilt;
-use crate::sorts::fill_up;
 use crate::statement::Statement;
 use crate::statements::statement;
 use px_base::{NoMemory, Sequence};
 use px_lines::{Line, Token, formed_line, is_word, tokens};
-use px_names::{Kind, Names};
+use px_names::Names;
 use px_ops::Model;
-use px_rooms::{Building, RoomErr, RoomWorld, rooms_problem};
-use px_script::{Command, DEFAULT_HEIGHT, DEFAULT_NODES, DEFAULT_SHAPES, Limit, Script};
-use px_terms::{ClauseArena, Problem, Schema};
+use px_rooms::{Building, RoomErr, RoomWorld};
+use px_script::{Command, Limit, Script};
+use px_table::Table;
+use px_terms::{ClauseArena, Schema};
 use px_world::Thing;
 use std::alloc::Global;
+use std::mem;
 
 /// What the lines so far have declared.
 #[derive(Drop)]
@@ -49,6 +50,9 @@ pub struct Reader {
     pub height: Option<u32>,
     pub nodes: Option<u32>,
     pub shapes: Option<u32>,
+    pub weight: Option<u32>,
+    /// The tables whose blocks are closed, each with the number of its name.
+    pub saved: Vec<(u32, Table)>,
     pub commands: Vec<Command>,
     /// How many lines `disturb` stood since the last `run`.
     pub disturbs: u32,
@@ -57,6 +61,17 @@ pub struct Reader {
     pub own_domain: bool,
     /// A line with tokens stood.
     pub begun: bool,
+}
+
+/// Returns that the line closes the block of a bad table, if it does.
+fn bad_table(is_bad: bool) -> Option<LineFault>
+    ensures { option_map refusal_of result ≡ first_of ((is_bad, coded 12) ∷ []) }
+{
+    if is_bad {
+        Some(LineFault::BadTable)
+    } else {
+        None
+    }
 }
 
 impl Reader {
@@ -82,6 +97,8 @@ impl Reader {
             height: None,
             nodes: None,
             shapes: None,
+            weight: None,
+            saved: Vec::new(alloc),
             commands: Vec::new(alloc),
             disturbs: 0,
             block: None,
@@ -182,39 +199,50 @@ impl Reader {
         } else if self.is_unbound(line) {
             Ok(Some(LineFault::Unbound))
         } else {
-            let limit = self.passed_limit(line, statement)?;
-            Ok(limit.map(|limit| LineFault::Limit(limit)))
+            self.late_fault(line, statement)
         }
     }
 
-    /// Returns the script, where no block is open.
-    #[tactic(auto, using(crate::proofs::Finishing::content_is, crate::proofs::Finishing::content_in_range, crate::proofs::Finishing::own_made))]
-    pub fn finish(self) -> Result<Script, NoMemory>
-        requires range { IsInRange (content_of (declared_of self)) }
-        requires few_sorts { length self.sorts.items ≤ 32 }
-        ensures { IfOk result (λ script. content script ≡ content_of (declared_of self)) }
+    /// Returns the limit that the line passes, but for that of facts, or else whether it closes the block of a bad table.
+    fn late_fault(
+        &self,
+        line: &Line<'_>,
+        statement: Statement<'_, '_>,
+    ) -> Result<Option<LineFault>, NoMemory>
+        requires range { AreInRange (declared_of self.now) }
+        requires same { line_of (statement_view statement) ≡ line_view line.now }
+        ensures { IfOk result (λ fault. option_map refusal_of fault ≡ late_fault (declared_of self.now) (statement_view statement.entry)) }
     {
-        let sorts = self.sort_count();
-        let names = self.names;
-        let limits = (self.height, self.nodes, self.shapes);
-        let own = own_problem(
-            self.alloc,
-            &names,
-            self.arities,
-            self.axioms,
-            self.schemas,
-            limits,
-            (sorts, self.object_sorts),
-        )?;
-        let building = building(self.things);
-        let (problem, facts) = subject(self.alloc, &building, own, self.facts)?;
+        match self.passed_limit(line, statement)? {
+            Some(limit) => Ok(Some(LineFault::Limit(limit))),
+            None => {
+                let is_bad = self.closes_bad_table(statement)?;
+                Ok(bad_table(is_bad))
+            }
+        }
+    }
+
+    /// Returns the script, where no block is open. What it has is taken from the reader.
+    #[tactic(auto, using(crate::proofs::Finishing::content_is, crate::proofs::Finishing::content_in_range))]
+    pub fn finish(&mut self) -> Result<Script, NoMemory>
+        requires range { IsInRange (content_of (declared_of self.old)) }
+        requires problem { HasProblem (declared_of self.old) }
+        ensures { IfOk result (λ script. content script ≡ content_of (declared_of self.old)) }
+    {
+        let alloc = self.alloc;
+        let names = Names::new(alloc)?;
+        let problem = self.problem_here()?;
+        let building = building(self.things.take());
+        let own_facts = mem::replace(&mut self.facts, Model::new(alloc));
+        let facts = first_facts(alloc, &building, own_facts)?;
         Ok(Script {
             version: self.version,
-            names,
+            names: mem::replace(&mut self.names, names),
             problem,
             facts,
             building,
-            commands: Sequence::from_vec(self.commands),
+            tables: Sequence::from_vec(mem::replace(&mut self.saved, Vec::new(alloc))),
+            commands: Sequence::from_vec(mem::replace(&mut self.commands, Vec::new(alloc))),
         })
     }
 }
@@ -227,64 +255,21 @@ fn building(things: Option<Vec<Thing>>) -> Option<Building>
     })
 }
 
-/// Returns the problem of a script's own lines, with the limits that they give, or those that hold where they give none. `sorts` are
-/// the number of sorts, and the sorts of its objects.
-fn own_problem(
-    alloc: Global,
-    names: &Names,
-    arities: Vec<u8>,
-    axioms: ClauseArena,
-    schemas: Vec<Schema>,
-    limits: (Option<u32>, Option<u32>, Option<u32>),
-    sorts: (u32, Vec<u32>),
-) -> Result<Problem, NoMemory>
-    ensures { IfOk result (λ problem. problem ≡ problem_with (length names.now.objects) arities.items axioms schemas.items
-        (unwrap_or limits.0 default_height) (unwrap_or limits.1 default_nodes) (unwrap_or limits.2 default_shapes) sorts.0 sorts.1.items) }
-{
-    let objects = names.count(Kind::Object);
-    let mut object_sorts = sorts.1;
-    fill_up(alloc, &mut object_sorts, objects)?;
-    Ok(Problem {
-        objects,
-        arities: Sequence::from_vec(arities),
-        axioms,
-        schemas: Sequence::from_vec(schemas),
-        height: limits.0.unwrap_or(DEFAULT_HEIGHT),
-        nodes: limits.1.unwrap_or(DEFAULT_NODES),
-        shapes: limits.2.unwrap_or(DEFAULT_SHAPES),
-        sorts: sorts.0,
-        object_sorts: Sequence::from_vec(object_sorts),
-        weight: 0,
-    })
-}
-
-/// Returns the problem and the first facts of a script: its own, or those of its building with the limits of its own problem.
-#[tactic(auto, using(crate::proofs::Finishing::building_made, crate::proofs::Finishing::facts_made))]
-fn subject(
-    alloc: Global,
-    building: &Option<Building>,
-    own: Problem,
-    facts: Model,
-) -> Result<(Problem, Model), NoMemory>
+/// Returns the facts at first: those of the script's own lines, or those of its building's first state.
+#[tactic(auto, using(crate::proofs::Finishing::facts_made))]
+fn first_facts(alloc: Global, building: &Option<Building>, own: Model) -> Result<Model, NoMemory>
     requires building { IfSome building.now (λ building. IsBuilding building.things) }
     requires short { IfSome building.now (λ building. length building.things < u32_max) }
-    requires objects { IfSome building.now (λ building. own.objects ≡ length (standings building.things) + 1) }
-    requires valid { IsValid (problem_of own (option_map (λ building. building.things) building.now)) }
-    ensures problem { IfOk result (λ parts. parts.0 ≡ problem_of own (option_map (λ building. building.things) building.now)) }
-    ensures facts { IfOk result (λ parts. parts.1.atoms ≡ facts_of facts.atoms (option_map (λ building. building.things) building.now)) }
+    ensures { IfOk result (λ facts. facts.atoms ≡ facts_of own.atoms (option_map (λ building. building.things) building.now)) }
 {
     match building {
-        None => Ok((own, facts)),
-        Some(building) => {
-            let problem = rooms_problem(alloc, building, own.height, own.nodes, own.shapes)?;
-            let facts = first_facts(alloc, building)?;
-            Ok((problem, facts))
-        }
+        None => Ok(own),
+        Some(building) => facts_of_building(alloc, building),
     }
 }
 
 /// Returns the facts of a building's first state.
-fn first_facts(alloc: Global, building: &Building) -> Result<Model, NoMemory>
+fn facts_of_building(alloc: Global, building: &Building) -> Result<Model, NoMemory>
     requires short { length building.now.things < u32_max }
     requires building { IsBuilding building.now.things }
     ensures { IfOk result (λ facts. facts.atoms ≡ rendering (first_state building.now.things)) }

@@ -1,10 +1,10 @@
 //! Reads all lines of an input.
-ghost use Rattle.std.specs.Prelude.{◌≡◌, ℕ, ◌<◌, ◌≤◌, ◌+◌, ◌==◌, IfOk, IfErr, OnOk, length, map, count_by};
+ghost use Rattle.std.specs.Prelude.{◌≡◌, ℕ, ◌<◌, ◌≤◌, ◌+◌, ◌==◌, None, IfOk, IfErr, OnOk, length, map, count_by};
 ghost use Rattle.px_base.specs.Bounds.{u32_max};
 ghost use Rattle.px_script.specs.Lines.{without_mark, without_return};
 ghost use Rattle.px_script.specs.Ranges.{IsOfStage};
 ghost use Rattle.px_script.specs.Scripts.{PassAll, IsScript, FirstFault};
-ghost use Rattle.px_reader.specs.Common.{slice_split, ScriptValue, nothing_declared, Refusal, stage_now, characters_of, stage_view, LinesFail, HasFirstFault, IsRead, IsLineRefused, content, told, declared_of};
+ghost use Rattle.px_reader.specs.Common.{slice_split, AreScript, ScriptValue, nothing_declared, Refusal, stage_now, characters_of, stage_view, LinesFail, HasFirstFault, IsRead, IsLineRefused, content, told, declared_of};
 
 use crate::fault::LineFault;
 use crate::reader::Reader;
@@ -13,8 +13,9 @@ use px_script::Script;
 use std::alloc::{AllocError, Global};
 use std::str;
 
-/// The words that are built: all of version 1, sorts, two executors in one world, and edited tables.
-const STAGE: [&str; 28] = [
+/// The words that are built: all of version 1; of version 2 sorts, tables, what saves, certifies and edits them, and two executors in one
+/// world; and the weight of version 3.
+const STAGE: [&str; 35] = [
     "script",
     "object",
     "predicate",
@@ -41,8 +42,15 @@ const STAGE: [&str; 28] = [
     "facts",
     "sort",
     "param",
-    "duo",
+    "table",
+    "step",
+    "goal",
+    "proof",
+    "save",
+    "certify",
     "edit",
+    "duo",
+    "weight",
 ];
 
 /// Returns the parts of a text between line feeds.
@@ -96,6 +104,35 @@ fn read_each(stage: &[&str], reader: &mut Reader, lines: &[&str]) -> Result<(), 
     Ok(())
 }
 
+/// Reads all lines, after which no block may be open.
+fn read_closed(stage: &[&str], reader: &mut Reader, lines: &[&str]) -> Result<(), ScriptErr>
+    requires start { declared_of reader.old ≡ nothing_declared }
+    requires few { length lines.now ≤ u32_max }
+    ensures passes { OnOk result (PassAll (stage_view stage.now) 1 nothing_declared (characters_of lines.now) (declared_of reader.new)) }
+    ensures closed { OnOk result ((declared_of reader.new).block ≡ None) }
+    ensures fails { IfErr result (LinesFail (stage_view stage.now) (characters_of lines.now)) }
+{
+    read_each(stage, reader, lines)?;
+    match &reader.block {
+        Some(block) => Err(refused(block.line, LineFault::MissingEnd)),
+        None => Ok(()),
+    }
+}
+
+/// Reads all lines, and returns the script that they are.
+fn read_lines(stage: &[&str], reader: &mut Reader, lines: &[&str]) -> Result<Script, ScriptErr>
+    requires start { declared_of reader.old ≡ nothing_declared }
+    requires few { length lines.now ≤ u32_max }
+    ensures script { IfOk result (λ script. AreScript (stage_view stage.now) (characters_of lines.now) (content script)) }
+    ensures fails { IfErr result (LinesFail (stage_view stage.now) (characters_of lines.now)) }
+{
+    read_closed(stage, reader, lines)?;
+    match reader.finish() {
+        Ok(script) => Ok(script),
+        Err(_) => Err(ScriptErr::NoMemory),
+    }
+}
+
 fn read_text(alloc: Global, stage: &[&str], text: &str) -> Result<Script, ScriptErr>
     requires { length text.now < u32_max }
     ensures script { IfOk result (λ script. IsScript (stage_view stage.now) text.now (content script)) }
@@ -107,14 +144,7 @@ fn read_text(alloc: Global, stage: &[&str], text: &str) -> Result<Script, Script
     let Ok(mut reader) = Reader::new(alloc) else {
         return Err(ScriptErr::NoMemory);
     };
-    read_each(stage, &mut reader, &lines)?;
-    match &reader.block {
-        Some(block) => Err(refused(block.line, LineFault::MissingEnd)),
-        None => match reader.finish() {
-            Ok(script) => Ok(script),
-            Err(_) => Err(ScriptErr::NoMemory),
-        },
-    }
+    read_lines(stage, &mut reader, &lines)
 }
 
 /// Returns the line of the byte after these.

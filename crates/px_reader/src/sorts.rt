@@ -7,9 +7,9 @@ ghost use Rattle.px_script.specs.Statements as spec;
 ghost use Rattle.px_reader.specs.Common.{AllByRecursion, AreOfKind, declared_of, has_name, leaves, list_any, number_in, operator_here, string_bytes, text_of};
 
 use crate::blocks::BlockKind;
+use crate::line_variables::is_one_of;
 use crate::naming::place_of;
 use crate::reader::Reader;
-use crate::terms::is_one_of;
 use px_base::NoMemory;
 use px_names::Kind;
 use px_terms::sort_at;

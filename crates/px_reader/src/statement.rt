@@ -26,6 +26,8 @@ pub enum Statement<'line, 'text> {
     Height(u32),
     Nodes(u32),
     Shapes(u32),
+    /// How much the search goes by what its nodes lack.
+    Weight(u32),
     Plan(&'text str, &'line [SignedAtom<'text>]),
     Learn(&'text str, &'text str),
     Show(&'text str),
@@ -40,7 +42,6 @@ pub enum Statement<'line, 'text> {
     Sort(&'text str, &'line [&'text str]),
     /// A sort, and the parameters of the open operator that have it.
     Param(&'text str, &'line [&'text str]),
-    // None of these is built yet, so each is refused as not built.
     /// The name of a table and how many parameters it has; then the lines of its block.
     Table(&'text str, u32),
     Step(&'text str, &'line [Argument<'text>]),

@@ -1,9 +1,9 @@
 //! The statement that a line is.
-ghost use Rattle.std.specs.Prelude.{◌≡◌, ℕ, List, ◌∷◌, Some, None, codes, if◌then◌else◌, length, map, IfSome};
+ghost use Rattle.std.specs.Prelude.{◌≡◌, ◌++◌, ℕ, List, ◌∷◌, Some, None, codes, if◌then◌else◌, length, map, IfSome};
 ghost use Rattle.px_script.specs.Items as items;
 ghost use Rattle.px_script.specs.Statements as spec;
 ghost use Rattle.px_script.specs.Statements.{time_word};
-ghost use Rattle.px_script.proofs.Rows.{entry_of, make_atoms, make_box, make_disturb, make_door, make_duo, make_edit, make_learn, make_nothing, make_number, make_object, make_of_table, make_operator, make_param, make_plan, make_predicate, make_proof, make_pursue, make_robot, make_room, make_run, make_show, make_sort, make_step, make_table, row_of, statement_of};
+ghost use Rattle.px_script.proofs.Rows.{entries_of_three, entries_of_two, entry_among, entry_of, make_atoms, make_box, make_disturb, make_door, make_duo, make_edit, make_learn, make_nothing, make_number, make_object, make_of_table, make_operator, make_param, make_plan, make_predicate, make_proof, make_pursue, make_robot, make_room, make_run, make_show, make_sort, make_step, make_table, row_among, row_of, statement_of};
 ghost use Rattle.px_lines.specs.ItemViews.{rest_view, said_items};
 ghost use Rattle.px_lines.specs.LineViews.{line_view, IsShaped};
 ghost use Rattle.px_reader.specs.Common.{bytes_eq, option_and_then, option_map, time_of, signed_view, statement_view};
@@ -292,6 +292,16 @@ fn shapes<'line, 'text>(
     Some(Statement::Shapes(number(ones, last)?))
 }
 
+fn weight<'line, 'text>(
+    ones: &[Said<'text>],
+    last: &'line Rest<'text>,
+) -> Option<Statement<'line, 'text>>
+    requires { length ones.now ≡ 1 }
+    ensures { option_map statement_view result ≡ make_number spec.weight (said_items ones.now last.now) }
+{
+    Some(Statement::Weight(number(ones, last)?))
+}
+
 fn plan<'line, 'text>(
     ones: &[Said<'text>],
     last: &'line Rest<'text>,
@@ -396,6 +406,21 @@ fn edits<'line, 'text>(
 }
 
 #[tactic(auto, using(crate::proofs::Times::untimed))]
+fn timed<'line, 'text>(
+    with_building: bool,
+    turn: u32,
+    time: &str,
+    last: &'line Rest<'text>,
+) -> Option<Statement<'line, 'text>>
+    ensures { option_map statement_view result ≡ make_disturb with_building
+        (items.amount turn ∷ items.the time.now ∷ rest_view last.now) }
+{
+    match between_of(time) {
+        Some(between) => edits(with_building, turn, between, last),
+        None => None,
+    }
+}
+
 fn disturb<'line, 'text>(
     with_building: bool,
     ones: &[Said<'text>],
@@ -405,10 +430,7 @@ fn disturb<'line, 'text>(
     ensures { option_map statement_view result ≡ make_disturb with_building (said_items ones.now last.now) }
 {
     match ones {
-        [Said::Number(turn), Said::The(time)] => match between_of(time) {
-            Some(between) => edits(with_building, *turn, between, last),
-            None => None,
-        },
+        [Said::Number(turn), Said::The(time)] => timed(with_building, *turn, time, last),
         _ => None,
     }
 }
@@ -678,6 +700,22 @@ fn made<'line, 'text>(
         "disturb" => disturb(with_building, ones, last),
         "run" => run(ones, last),
         "facts" => facts(ones, last),
+        _ => made_of_two(word, ones, last),
+    }
+}
+
+/// Returns what the items of a line say whose word version 2 or a later one is the first to have.
+fn made_of_two<'line, 'text>(
+    word: &str,
+    ones: &[Said<'text>],
+    last: &'line Rest<'text>,
+) -> Option<Statement<'line, 'text>>
+    requires { IfSome (row_among word.now (entries_of_two ++ entries_of_three)) (λ row. length ones.now ≡ length row.ones) }
+    ensures { option_map statement_view result
+        ≡ option_and_then (λ entry. entry.make (said_items ones.now last.now))
+        (entry_among word.now (entries_of_two ++ entries_of_three)) }
+{
+    match word {
         "duo" => duo(ones, last),
         "sort" => sort(ones, last),
         "param" => param(ones, last),
@@ -689,6 +727,22 @@ fn made<'line, 'text>(
         "certify" => certify(ones, last),
         "edit" => edit(ones, last),
         "pursue" => pursue(ones, last),
+        _ => made_of_three(word, ones, last),
+    }
+}
+
+/// Returns what the items of a line say whose word version 3 is the first to have.
+fn made_of_three<'line, 'text>(
+    word: &str,
+    ones: &[Said<'text>],
+    last: &'line Rest<'text>,
+) -> Option<Statement<'line, 'text>>
+    requires { IfSome (row_among word.now entries_of_three) (λ row. length ones.now ≡ length row.ones) }
+    ensures { option_map statement_view result
+        ≡ option_and_then (λ entry. entry.make (said_items ones.now last.now)) (entry_among word.now entries_of_three) }
+{
+    match word {
+        "weight" => weight(ones, last),
         _ => None,
     }
 }

@@ -1,8 +1,12 @@
 //! Terms, atoms and edits by numbers.
-ghost use Rattle.std.specs.Prelude.{◌≡◌, ◌≤◌, ◌<◌, length, map, nat_lt, fold, position, IfOk, IfSome, OnOk};
+ghost use Rattle.std.specs.Prelude.{◌≡◌, ◌≤◌, length, map, nat_lt, fold, IfOk, OnOk};
 ghost use Rattle.px_terms.specs.Limits.{most_arguments, most_formula_variables, most_parameters};
-ghost use Rattle.px_reader.specs.Common.{bytes_eq, has_name, parameters_here, number_in, term_of, atom_of, literal_of, atom_edit_of, room_edit_of, binding_of, variable_names_of, AreReadable, with_variable, declared_of, argument_view, signed_view, room_edit_view, binding_view, text_of};
+ghost use Rattle.px_script.specs.Declarations.{table_parameters_here, table_term, table_variables};
+ghost use Rattle.px_script.specs.declared.limits.TheConstants.{LAST_NUMBER as last_number};
+ghost use Rattle.px_reader.specs.LineVariables.{AreFew, variables_view};
+ghost use Rattle.px_reader.specs.Common.{parameters_here, number_in, term_of, atom_of, literal_of, atom_edit_of, room_edit_of, binding_of, variable_names_of, AreReadable, with_variable, declared_of, argument_view, signed_view, room_edit_view, binding_view, text_of};
 
+use crate::line_variables::{Variables, is_one_of};
 use crate::reader::Reader;
 use px_base::NoMemory;
 use px_lines::{Argument, SignedAtom, WrittenBinding, WrittenRoomEdit};
@@ -11,22 +15,6 @@ use px_script::{Binding, Sign};
 use px_terms::{Atom, Lit, MOST_ARGUMENTS, MOST_FORMULA_VARIABLES, Term};
 use px_world::{AtomEdit, RoomEdit};
 use std::alloc::Global;
-
-/// Returns where a name stands among these.
-fn place_among(names: &[&str], name: &str) -> Option<usize>
-    ensures number { result ≡ position (λ other. bytes_eq name.now other.now) names.now }
-    ensures within { IfSome result (λ number. number < length names.now) }
-{
-    names.iter().position(|other| name == *other)
-}
-
-/// Returns whether the name is one of these.
-#[tactic(auto, using(crate::proofs::AtomTests::positions))]
-pub fn is_one_of(names: &[&str], name: &str) -> bool
-    ensures { result ≡ has_name name.now (map text_of names.now) }
-{
-    place_among(names, name).is_some()
-}
 
 /// Adds a variable that isn't there yet.
 fn add_variable<'a>(variables: &mut Vec<&'a str>, argument: &Argument<'a>) -> Result<(), NoMemory>
@@ -82,40 +70,29 @@ pub fn has_many_variables(alloc: Global, atoms: &[SignedAtom<'_>]) -> Result<boo
     Ok(variables.len() > MOST_FORMULA_VARIABLES)
 }
 
-#[tactic(auto, using(crate::proofs::AtomTests::positions))]
-fn variable_number(variables: &[&str], name: &str) -> u32
-    requires { length variables.now ≤ most_formula_variables }
-    ensures { result ≡ number_in name.now (map text_of variables.now) }
-{
-    match place_among(variables, name) {
-        Some(number) => number as u32,
-        None => 0,
-    }
-}
-
 impl Reader {
-    fn term(&self, variables: &[&str], argument: &Argument<'_>) -> Term
+    fn term(&self, variables: &Variables<'_, '_>, argument: &Argument<'_>) -> Term
         requires few { length (parameters_here (declared_of self.now)) ≤ most_parameters }
-        requires few_variables { length variables.now ≤ most_formula_variables }
+        requires few_variables { AreFew variables.now }
         ensures { result ≡ term_of (parameters_here (declared_of self.now))
-            (map text_of variables.now) self.now.names.objects (argument_view argument.now) }
+            (variables_view variables.now) self.now.names.objects (argument_view argument.now) }
     {
         match argument {
             Argument::Named(name) => match self.parameter(name) {
                 Some(number) => Term::Var(number as u32),
                 None => Term::Obj(self.object(name)),
             },
-            Argument::Variable(name) => Term::Var(variable_number(variables, name)),
+            Argument::Variable(name) => Term::Var(variables.number(name)),
             Argument::Anything => Term::Any,
         }
     }
 
     /// Returns an atom by numbers, with these variables.
-    pub fn atom(&self, variables: &[&str], atom: &SignedAtom<'_>) -> Atom
+    pub fn atom(&self, variables: &Variables<'_, '_>, atom: &SignedAtom<'_>) -> Atom
         requires few { length (parameters_here (declared_of self.now)) ≤ most_parameters }
-        requires few_variables { length variables.now ≤ most_formula_variables }
+        requires few_variables { AreFew variables.now }
         requires size { length atom.now.arguments.items ≤ most_arguments }
-        ensures { result ≡ atom_of (declared_of self.now) (map text_of variables.now) (signed_view atom.now) }
+        ensures { result ≡ atom_of (declared_of self.now) (variables_view variables.now) (signed_view atom.now) }
     {
         let predicate = self.number(Kind::Predicate, atom.predicate);
         let mut terms = [Term::Any; MOST_ARGUMENTS];
@@ -125,12 +102,53 @@ impl Reader {
         Atom::new(predicate, &terms[..atom.arguments.len()]).unwrap()
     }
 
-    // Alike: `literals`, which gives each atom its sign.
-    pub fn atoms(&self, variables: &[&str], atoms: &[SignedAtom<'_>]) -> Result<Vec<Atom>, NoMemory>
+    /// Returns the arguments by numbers, with these variables.
+    pub fn terms(
+        &self,
+        variables: &Variables<'_, '_>,
+        arguments: &[Argument<'_>],
+    ) -> Result<Vec<Term>, NoMemory>
+        requires few { length (parameters_here (declared_of self.now)) ≤ most_parameters }
+        requires few_variables { AreFew variables.now }
+        ensures { IfOk result (λ terms. terms.items ≡ map (λ a. term_of (parameters_here (declared_of self.now))
+            (variables_view variables.now) self.now.names.objects (argument_view a)) arguments.now) }
+    {
+        let mut terms = Vec::new(self.alloc);
+        for argument in arguments {
+            terms.push(self.term(variables, argument))?;
+        }
+        Ok(terms)
+    }
+
+    /// Returns the arguments by numbers, where they stand in a table's block.
+    pub fn table_terms(&self, arguments: &[Argument<'_>]) -> Result<Vec<Term>, NoMemory>
+        requires few { length (parameters_here (declared_of self.now)) ≤ most_parameters }
+        requires few_parameters { table_parameters_here (declared_of self.now).block ≤ last_number }
+        ensures { IfOk result (λ terms. terms.items ≡ map (table_term (declared_of self.now)) (map argument_view arguments.now)) }
+    {
+        self.terms(&Variables::OfTable(self.table_parameters()), arguments)
+    }
+
+    /// Returns the atoms by numbers, where they stand in a table's block.
+    pub fn table_atoms(&self, atoms: &[SignedAtom<'_>]) -> Result<Vec<Atom>, NoMemory>
         requires readable { AreReadable (declared_of self.now) atoms.now }
-        requires few_variables { length variables.now ≤ most_formula_variables }
+        requires few_parameters { table_parameters_here (declared_of self.now).block ≤ last_number }
         ensures { IfOk result (λ numbered. numbered.items
-            ≡ map (λ x. atom_of (declared_of self.now) (map text_of variables.now) (signed_view x)) atoms.now) }
+            ≡ map (atom_of (declared_of self.now) (table_variables (declared_of self.now))) (map signed_view atoms.now)) }
+    {
+        self.atoms(&Variables::OfTable(self.table_parameters()), atoms)
+    }
+
+    // Alike: `literals`, which gives each atom its sign.
+    pub fn atoms(
+        &self,
+        variables: &Variables<'_, '_>,
+        atoms: &[SignedAtom<'_>],
+    ) -> Result<Vec<Atom>, NoMemory>
+        requires readable { AreReadable (declared_of self.now) atoms.now }
+        requires few_variables { AreFew variables.now }
+        ensures { IfOk result (λ numbered. numbered.items
+            ≡ map (λ x. atom_of (declared_of self.now) (variables_view variables.now) (signed_view x)) atoms.now) }
     {
         let mut numbered = Vec::new(self.alloc);
         for atom in atoms {
@@ -141,13 +159,13 @@ impl Reader {
 
     pub fn literals(
         &self,
-        variables: &[&str],
+        variables: &Variables<'_, '_>,
         atoms: &[SignedAtom<'_>],
     ) -> Result<Vec<Lit>, NoMemory>
         requires readable { AreReadable (declared_of self.now) atoms.now }
-        requires few_variables { length variables.now ≤ most_formula_variables }
+        requires few_variables { AreFew variables.now }
         ensures { IfOk result (λ numbered. numbered.items
-            ≡ map (λ x. literal_of (declared_of self.now) (map text_of variables.now) (signed_view x)) atoms.now) }
+            ≡ map (λ x. literal_of (declared_of self.now) (variables_view variables.now) (signed_view x)) atoms.now) }
     {
         let mut literals = Vec::new(self.alloc);
         for atom in atoms {
@@ -164,7 +182,7 @@ impl Reader {
         requires size { length atom.now.arguments.items ≤ most_arguments }
         ensures { result ≡ atom_edit_of (declared_of self.now) (signed_view atom.now) }
     {
-        let edited = self.atom(&[], atom);
+        let edited = self.atom(&Variables::Named(&[]), atom);
         match atom.sign {
             Sign::Added => AtomEdit::Add(edited),
             _ => AtomEdit::Remove(edited),

@@ -6,8 +6,8 @@ use px_run::Status;
 use std::alloc::Global;
 use std::rt::HostRuntime;
 
-// Two operators, of which one deletes under the name of one object what is true of another.
-const DANGER: (&str, u32) = (
+/// Two operators, of which one deletes under the name of one object what is true of another.
+pub(crate) const DANGER: (&str, u32) = (
     "object a b
 predicate P 1
 predicate Q 1
@@ -195,7 +195,7 @@ const ANSWERED: &[(Pieces, Pieces)] = &[
 ];
 
 /// Returns whether this is written for the script.
-fn answers(alloc: Global, script: Pieces, replies: Pieces) -> Result<bool, NoMemory> {
+pub(crate) fn answers(alloc: Global, script: Pieces, replies: Pieces) -> Result<bool, NoMemory> {
     let wanted = joined(alloc, replies)?;
     let (status, written) = ran(alloc, joined(alloc, script)?)?;
     Ok(status == Status::Done && written.as_slice() == wanted.as_slice())

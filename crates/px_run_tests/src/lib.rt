@@ -16,3 +16,5 @@ mod reading_tests;
 mod runs;
 #[cfg(test)]
 mod samples;
+#[cfg(test)]
+mod table_tests;

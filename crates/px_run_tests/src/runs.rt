@@ -27,11 +27,12 @@ pub(crate) fn answered_with(
     input: Vec<u8>,
     most: usize,
     room: usize,
-    (read, write): (u32, u32),
+    failing: (u32, u32),
 ) -> Result<(Status, Vec<u8>), NoMemory>
     requires most { 1 ≤ most }
-    requires calls { (read < u32_max) × (write < u32_max) }
+    requires calls { (failing.0 < u32_max) × (failing.1 < u32_max) }
 {
+    let (read, write) = failing;
     let mut source = MemSource::new(input, most, only(alloc, read)?);
     let mut sink = MemSink::new(alloc, room, only(alloc, write)?)?;
     let status = planex_main(alloc, &[word], &mut source, &mut sink);

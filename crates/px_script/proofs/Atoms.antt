@@ -107,7 +107,7 @@ module _ (objects : List (List ℕ)) where
   numbered-from (_ ∷ rest) seen more variables whole all = numbered-from rest seen more variables whole all
 
 -- the terms of atoms, in a row
-args-of : (d : Declared) (variables : List (List ℕ)) (xs : List SignedAtom)
+pub args-of : (d : Declared) (variables : List (List ℕ)) (xs : List SignedAtom)
     → flat_map (λ atom. atom.args) (map (atom_of d variables) xs) ≡ map (term_of (parameters_here d) variables d.names.objects)
     (arguments_of xs)
 args-of d variables [] = refl
@@ -216,16 +216,20 @@ empty-length [] e = refl
 empty-length (x ∷ xs) e = absurd (omega (arith, e))
 
 -- there are no variables where there is no object
-pub no-variables : (d : Declared) (l : Line) (xs : List SignedAtom) → HasAtoms l xs → varies_too_early d l ≡ false
-    → length d.names.objects ≡ 0 → length (variable_names_of xs) ≡ 0
-no-variables d l xs has early none =
+pub no-variable : (d : Declared) (l : Line) (xs : List SignedAtom) → HasAtoms l xs → varies_too_early d l ≡ false
+    → length d.names.objects ≡ 0 → list_any is_variable (arguments_of xs) ≡ false
+no-variable d l xs has early none =
     let still : (varies l && true) ≡ false = ap (λ b. varies l && b) (sym (empty-length d.names.objects none)) ∙ early in
     let plain = or_parts (list_any is_variable (forms.arguments_of l)) _ (and-true (varies l) still) in
-    ap length (variables-none (arguments_of xs) (of-items is_variable (forms.arguments_of l) (arguments_of xs) has.arguments plain.0))
+    of-items is_variable (forms.arguments_of l) (arguments_of xs) has.arguments plain.0
   where
     and-true : (b : Bool) → (b && true) ≡ false → b ≡ false
     and-true true e = e
     and-true false e = refl
+
+pub no-variables : (d : Declared) (l : Line) (xs : List SignedAtom) → HasAtoms l xs → varies_too_early d l ≡ false
+    → length d.names.objects ≡ 0 → length (variable_names_of xs) ≡ 0
+no-variables d l xs has early none = ap length (variables-none (arguments_of xs) (no-variable d l xs has early none))
 
 none-few : (n : ℕ) → 0 ≤ n
 none-few n = omega arith

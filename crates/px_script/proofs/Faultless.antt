@@ -1,6 +1,6 @@
 -- A line without a fault: what each cause says where it isn't there.
 use Rattle.px_script.specs.Faults as faults
-use Rattle.px_script.proofs.Common.{◌≡◌, ℕ, Bool, true, false, not, ◌&&◌, List, [], ◌∷◌, map, refl, sym, ◌∙◌, inl, inr, Option, None, Some, AllByRecursion, list_any, option_map, not-false, or_parts, both_answers, has_name, Statement, Line, Block, line_of, save, certify, pursue, words_to_come, Declared, OpenBlock, block_here, declared_by, names_here, kind_of_block, Stage, whole_language, is_unbuilt, is_out_of_order, declares_after_command, may_stand, is_late, has_two_domains, varies_too_early, lacks_robot, has_unknown_name, wanted_by, repeats, repeats_name, taken_here, has_wrong_arity, is_unbound, has_long_name, is_long, is_numbered, causes_with, fault_at, first_of, passed, own_limits, has_duplicate, repeats_itself, OnlyTakesAway, ◌++◌, Refusal, table, step, goal, proof}
+use Rattle.px_script.proofs.Common.{◌≡◌, ℕ, Bool, true, false, not, ◌&&◌, List, [], ◌∷◌, map, refl, sym, ◌∙◌, inl, inr, Option, None, Some, AllByRecursion, list_any, option_map, not-false, or_parts, both_answers, has_name, Statement, Line, Block, line_of, pursue, words_to_come, Declared, OpenBlock, block_here, declared_by, names_here, kind_of_block, Stage, whole_language, is_unbuilt, is_out_of_order, declares_after_command, may_stand, is_late, has_two_domains, varies_too_early, lacks_robot, has_unknown_name, wanted_by, repeats, repeats_name, taken_here, has_wrong_arity, is_unbound, has_long_name, is_long, is_numbered, causes_with, fault_at, first_of, passed, own_limits, has_duplicate, repeats_itself, OnlyTakesAway, ◌++◌, Refusal, is_bad_table}
 use Rattle.px_script.proofs.Lists.{by_test, none-passes, passes-test}
 
 -- No cause to refuse the line is there but for limits and for what isn't built.
@@ -30,6 +30,7 @@ pub record IsFaultless (d : Declared) (s : Statement) : Type 0 where
   pub itself : repeats_itself d s ≡ false
   pub short : AllByRecursion (λ group. (is_numbered group.0 && list_any (is_long d.version) group.1) ≡ false) (declared_by (line_of s))
   pub limits : AllByRecursion (λ test. test.0 ≡ false) (own_limits d s)
+  pub no_bad_table : is_bad_table d s ≡ false
 
 pub stands-right : (d : Declared) (l : Line) → is_out_of_order d l ≡ false → StandsRight d l
 stands-right d l e = let a = or_parts _ (lacks_robot d (block_here d) l.place) e in let b = or_parts _ (varies_too_early d l) a.0 in
@@ -74,6 +75,7 @@ no-fault stage d s e = let l = line_of s in let first = none-first (causes_with 
       itself = twice.1;
       short = none-passes (λ group. is_numbered group.0 && list_any (is_long d.version) group.1) _ (λ group e. e) (declared_by l) k.0;
       limits = none-passed (own_limits d s) k.1;
+      no_bad_table = (passes-test (is_bad_table d s) _ _ first.1).0;
     } in (none.0, is)
   where
     come : (b c : Bool) → not (not b && c) ≡ false → b ≡ false
@@ -82,12 +84,6 @@ no-fault stage d s e = let l = line_of s in let first = none-first (causes_with 
 
 -- each line that is built somewhere is built in the whole language
 whole-built : (stage : Stage) (s : Statement) → is_unbuilt stage s ≡ false → is_unbuilt whole_language s ≡ false
-whole-built stage (table n parameters) built = cc
-whole-built stage (step o ts) built = cc
-whole-built stage (goal xs) built = cc
-whole-built stage (proof parts) built = cc
-whole-built stage (save n) built = cc
-whole-built stage (certify n) built = cc
 whole-built stage (pursue n xs) built = cc
 whole-built stage _ built = refl
 

@@ -5,7 +5,7 @@ use Rattle.std.specs.List.Sorted.{IsStrictlySortedBy}
 use Rattle.px_base.specs.Bounds.{u32_max}
 use Rattle.px_rooms.proofs.Valid.{buildings_are_valid}
 use Rattle.px_rooms.proofs.Belonging.{facts-are-atoms}
-use Rattle.px_script.proofs.Common.{both_ways, building_problem, robot_name, room_schemas, building_rules, thing_at, no_schema, ◌≡◌, ◌≢◌, ℕ, suc, ◌+◌, ◌<◌, ◌≤◌, ◌==◌, Bool, true, false, not, ◌||◌, List, [], ◌∷◌, ◌++◌, map, length, refl, sym, ap, ◌∙◌, subst, arith, leb-true, append-nil, length-append, nat_lt, Option, None, Some, is_some, IfSome, All, slice_index_or, list_any, option_map, not-false, not-true, length-map, All-append, All-map, All-from_recursion, All-nil, cases_lt, inl, inr, range_with_len, slice_index, if◌then◌else◌, both_answers, has_name, bytes_eq, bytes_eq-itself, Standing, a_room, a_door, a_box, IsBoxAt, IsDoorAt, IsRoomAt, first_state, rendering, robot_rooms, standings, standings-more, Atom, Problem, IsAtomOf, IsPatternOf, Thing, codes, All-push, NameLists, IsSchemaOf, Lexeme, lines_of, SignedAtom, is_empty, Statement, Block, plain, inside, operator_block, building_block, line_of, script, object, predicate, «axiom», operator, pre, delete, add, building, room, door, box, robot, end, fact, height, nodes, shapes, plan, learn, show, disturb_atoms, disturb_rooms, run, sort, param, filled_up, with_sort, greatest, of_height, of_nodes, of_shapes, of_version, Command, Declared, OpenBlock, BlockKind, OpenOperator, of_operator, of_building, kind_of_block, number_in, atom_of, nothing_declared, after_line, predicate_names, predicate_arities, operator_names, ScriptValue, own_problem, content_of, is_robot, may_stand, is_long, repeats, same_block, has_two_domains, fault_at, is_formed, AreNamesOf, AreNumbered, HasShortLists, IsInRange, IsThingAfter, PassesLexemes, PassAll, IsScript, IsBuiltCommand, IsOfStage, Stage, whole_language, is_built, facts, get_or-append, duo, save, certify, edit, pursue, table, step, goal, proof, WrittenTable, table_closed, table_in}
+use Rattle.px_script.proofs.Common.{both_ways, robot_name, room_schemas, building_rules, thing_at, no_schema, ◌≡◌, ◌≢◌, ℕ, ◌+◌, ◌<◌, ◌≤◌, Bool, true, false, not, ◌||◌, List, [], ◌∷◌, ◌++◌, map, length, refl, sym, ap, ◌∙◌, subst, arith, leb-true, append-nil, length-append, nat_lt, nat_le, Option, None, Some, is_some, IfSome, All, slice_index_or, list_any, option_map, not-false, not-true, length-map, All-append, All-map, All-from_recursion, All-nil, cases_lt, inl, inr, range_with_len, slice_index, if◌then◌else◌, both_answers, has_name, bytes_eq, bytes_eq-itself, Standing, a_room, a_door, a_box, IsBoxAt, IsDoorAt, IsRoomAt, first_state, rendering, robot_rooms, standings, standings-more, Atom, Problem, IsAtomOf, IsPatternOf, Thing, codes, All-push, NameLists, IsSchemaOf, Lexeme, lines_of, SignedAtom, is_empty, Statement, Block, plain, inside, operator_block, building_block, line_of, script, object, predicate, «axiom», operator, pre, delete, add, building, room, door, box, robot, end, fact, height, nodes, shapes, weight, of_weight, building_with, plan, learn, show, disturb_atoms, disturb_rooms, run, sort, param, filled_up, with_sort, greatest, of_height, of_nodes, of_shapes, Command, Declared, OpenBlock, BlockKind, OpenOperator, of_operator, of_building, kind_of_block, number_in, atom_of, nothing_declared, after_line, predicate_names, predicate_arities, operator_names, ScriptValue, own_problem, content_of, is_robot, may_stand, is_long, repeats, same_block, has_two_domains, fault_at, is_formed, AreNamesOf, AreNumbered, HasShortLists, IsInRange, IsThingAfter, PassesLexemes, PassAll, IsScript, IsBuiltCommand, IsOfStage, Stage, whole_language, is_built, facts, get_or-append, duo, save, certify, edit, pursue, table, step, goal, proof, WrittenTable, of_table_steps, of_table_rows, table_steps, table_rows, Table, IsSavedTable, problem_of, CommandsInRange}
 use Rattle.px_world.specs.declared.thing.Thing.TheVariants as thing
 use Rattle.px_script.specs.Limits as limit
 use Rattle.px_script.proofs.Atoms.{atoms-right, atoms-with, patterns-with, AreRight}
@@ -13,9 +13,14 @@ use Rattle.px_script.proofs.Buildings.{rooms-kind, doors-kind, boxes-kind, IsKin
 use Rattle.px_script.proofs.Commands.{commands-moved}
 use Rattle.px_script.proofs.Faultless.{IsFaultless, no-fault, only-takes-away, stage-takes-away}
 use Rattle.px_script.proofs.Forms.{IsWellFormed, well-formed}
-use Rattle.px_script.proofs.KeptLines.{in-version, sorts-filled, still-sorted, script-kept, sort-kept, few-objects, no-own, settings-kept, in-bounds, still-none, carried, Keeps, object-kept, predicate-kept, axiom-kept, fact-kept, operator-kept, show-kept, facts-kept, disturb-atoms-kept, disturb-rooms-kept, run-kept, learn-kept, plan-kept, duo-kept, edit-kept}
+use Rattle.px_script.proofs.KeptLines.{more-objects, saved-kept, in-version, sorts-filled, still-sorted, script-kept, sort-kept, few-objects, no-own, settings-kept, in-bounds, still-none, carried, Keeps, object-kept, predicate-kept, axiom-kept, fact-kept, operator-kept, show-kept, save-kept, certify-kept, facts-kept, disturb-atoms-kept, disturb-rooms-kept, run-kept, learn-kept, plan-kept, duo-kept, edit-kept}
+use Rattle.px_proof.specs.Derivation.{no_atom}
+use Rattle.px_terms.specs.Validity.{IsValid}
+use Rattle.px_table.proofs.DecidingLaws.{tables_are_decided}
+use Rattle.px_table.specs.GrowthLaws as growth
+use Rattle.px_script.proofs.KeptTables.{table-kept, step-kept, goal-kept, proof-kept, end-table}
 use Rattle.px_script.proofs.Lists.{by_test, number-below, at-most, each-fails, same-number, at-name, is-new, each-pushed}
-use Rattle.px_script.proofs.Problems.{Grows, alike, atoms-kept, names-more, schema-kept}
+use Rattle.px_script.proofs.Problems.{heavier, same-lists, alike, atoms-kept, names-more, schema-kept}
 use Rattle.px_script.proofs.States.{AreInRange, AreRolesOf, IsBegun, OperatorsInRange, AreStanding}
 
 -- ---- the lines of an operator's block, and its end
@@ -87,7 +92,15 @@ module _ (n : ℕ) (d : Declared) (line : ℕ) (o : OpenOperator) where
   end-operator : AreInRange c → Keeps n c end
   end-operator r f = let is = r.operators in let all = d.schemas ++ o.schema ∷ [] in
       let q : Problem = record (own_problem d) { schemas = all } in let more = alike (own_problem d) q refl refl in
-      let old = carried c q d.things r more (omega arith) f.order.after in
+      let grows : growth.Grows (own_problem d) q = record {
+        objects = omega arith;
+        arities = ([], sym (append-nil d.arities));
+        axioms = ([], sym (append-nil d.axioms));
+        schemas = (o.schema ∷ [], refl);
+        sorts = omega arith;
+        object_sorts = ([], sym (append-nil (own_problem d).object_sorts));
+      } in
+      let old = carried c q d.things r grows (saved-kept c q d.things refl r grows) f.order.after in
       let counts : length d.names.operators ≡ length all = omega (arith, length-append d.schemas (o.schema ∷ []), is.named) in
       let few = r.names.few_operators in let short : length all < u32_max = omega (arith, counts, few) in
       let none : length d.names.objects ≡ 0 → All (λ schema. schema.params ≡ 0) all × All (λ clause. clause.vars ≡ 0) d.axioms = λ empty.
@@ -95,24 +108,33 @@ module _ (n : ℕ) (d : Declared) (line : ℕ) (o : OpenOperator) where
       let of = schema-kept (own_problem d) q more (omega arith) _ o.schema is.schema in
       let each = each-pushed (IsSchemaOf q) d.schemas o.schema no_schema old.schemas of in
       let shorts = All-push (HasShortLists d.version) d.schemas o.schema r.problem.short_lists is.short_lists in
-      assumption (still-none c r, in-version c r, old, each, shorts, operators-named d.version d.names q d.things counts)
+      let closed : Declared = record c { schemas = all; block = None; own_domain = d.own_domain || false; begun = true } in
+      subst (λ saved. AreInRange (record closed { saved = saved })) (sym (append-nil d.saved))
+      (assumption (still-none c r, in-version c r, old, each, shorts, operators-named d.version d.names q d.things counts))
 
--- another block than an operator's is closed
-end-other : (d : Declared) (line : ℕ) (kind : BlockKind) (tables : List WrittenTable) → AreInRange (record d { block = Some (record { line = line; kind = kind }) })
+-- a building's block is closed
+end-building : (d : Declared) (line : ℕ) → AreInRange (record d { block = Some (record { line = line; kind = of_building }) })
     → OperatorsInRange d.version d.names (own_problem d) d.things None → IfSome d.things (λ things. list_any is_robot things ≡ true)
-    → AreInRange (record d { schemas = d.schemas ++ []; tables = tables; block = None; own_domain = d.own_domain || false; begun = true })
-end-other d line kind tables r operators has_robot =
-    let closed = record d { tables = tables; block = None; own_domain = d.own_domain || false; begun = true } in
-    subst (λ schemas. AreInRange (record closed { schemas = schemas })) (sym (append-nil d.schemas))
+    → AreInRange (record d { schemas = d.schemas ++ []; saved = d.saved ++ []; block = None; own_domain = d.own_domain || false; begun = true })
+end-building d line r operators has_robot =
+    let closed = record d { block = None; own_domain = d.own_domain || false; begun = true } in
+    subst (λ schemas. AreInRange (record closed { schemas = schemas; saved = d.saved ++ [] })) (sym (append-nil d.schemas))
+    (subst (λ saved. AreInRange (record closed { saved = saved })) (sym (append-nil d.saved))
     (assumption (
-      still-none (record d { block = Some (record { line = line; kind = kind }) }) r,
-      in-version (record d { block = Some (record { line = line; kind = kind }) }) r,
-    ))
+      still-none (record d { block = Some (record { line = line; kind = of_building }) }) r,
+      in-version (record d { block = Some (record { line = line; kind = of_building }) }) r,
+    )))
 
 -- ---- buildings
 
 small-arities : (version : ℕ) → All (λ n. n ≤ greatest version limit.arity) predicate_arities
 small-arities version = each-fails (λ n. nat_lt 6 n) (λ n. n ≤ 6) (λ n e. at-most 6 n e) predicate_arities refl
+
+-- Where there is no predicate no table stands in the script: its goal has an atom.
+no-table : (p : Problem) (t : Table) {version : ℕ} {A : Type 0} → p.arities ≡ [] → IsSavedTable version p t → A
+no-table p t none is = let of = (tables_are_decided p t).0 is.is_one in let some = is.some in
+    let there = of.in_range.goal 0 no_atom (omega (arith, some)) in
+    absurd (omega (arith, there.0.0, ap (λ (l : List ℕ). length l) none))
 
 -- A building begins where no names are declared, but results.
 module _ (n : ℕ) (d : Declared) where
@@ -126,11 +148,20 @@ module _ (n : ℕ) (d : Declared) where
   building-begun early r = let no_names = record d.names { objects = []; predicates = []; operators = [] } in
       let e = record d { names = no_names; arities = []; things = None; block = None } in
       let q : Problem = record (own_problem e) { objects = 1; object_sorts = filled_up 1 d.object_sorts; arities = predicate_arities } in
-      let more : Grows (own_problem e) q =
-      record { objects = omega arith; arities = λ k below. absurd (omega (arith, below)) } in
+      let more_objects = more-objects (own_problem e) 1 d.object_sorts (omega arith) r.sorts.count refl in
+      let more : growth.Grows (own_problem e) q = record {
+        objects = omega arith;
+        arities = (predicate_arities, refl);
+        axioms = more_objects.axioms;
+        schemas = more_objects.schemas;
+        sorts = omega arith;
+        object_sorts = more_objects.object_sorts;
+      } in
+      let none_saved : All (λ one. IsSavedTable d.version (problem_of q (Some [])) one.1) d.saved =
+      λ k one below. no-table (own_problem e) _ refl (r.saved k one below) in
       let still = still-sorted d.version 0 1 d.sorts d.object_sorts (omega arith) r.sorts in
       let sorts = sorts-filled q 1 d.object_sorts still.count r.sorts.numbers (omega arith) in
-      let one : 1 ≤ greatest d.version limit.objects = by_test (d.version == 2) (λ two. rw two (omega arith)) (λ old. rw old (omega arith)) in
+      let one : 1 ≤ greatest d.version limit.objects = by_test (nat_le d.version 1) (λ two. rw two (omega arith)) (λ old. rw old (omega arith)) in
       let few_predicates : length predicate_names ≤ 64 = omega arith in let few_operators : length operator_names ≤ 32 = omega arith in
       let short : length predicate_arities < u32_max = omega arith in let standing : AreStanding [] = search (All-nil, leb-true) in
       let objects_are = names-more d.version [] (robot_name ∷ []) r.names.objects refl refl in
@@ -145,7 +176,7 @@ module _ (n : ℕ) (d : Declared) where
         operators_are,
         small,
         sorts,
-        carried e q (Some []) r more (omega arith) early,
+        carried e q (Some []) r more none_saved early,
         roles,
         none,
         still,
@@ -193,8 +224,7 @@ module _ (n : ℕ) (d : Declared) (line : ℕ) (things : List Thing) where
       let objects = d.names.objects ++ name ∷ [] in
       let q : Problem = record (own_problem d) { objects = length objects; object_sorts = filled_up (length objects) d.object_sorts } in
       let count = length-append d.names.objects (name ∷ []) in
-      let more : Grows (own_problem d) q =
-      record { objects = omega (arith, count); arities = λ k below. (below, refl) } in
+      let more = more-objects (own_problem d) (length objects) d.object_sorts (omega (arith, count)) r.sorts.count refl in
       let few : length objects ≤ greatest d.version limit.objects = rw length-append (at-most _ _ full) in let is = r.building in
       let still = still-sorted d.version _ (length objects) d.sorts d.object_sorts more.objects r.sorts in
       let sorts = sorts-filled q (length objects) d.object_sorts still.count r.sorts.numbers (few-objects d.version (length objects) few) in
@@ -203,7 +233,7 @@ module _ (n : ℕ) (d : Declared) (line : ℕ) (things : List Thing) where
       (get_or-append d.names.objects (name ∷ []) [] 0 (omega (arith, is.objects_are)) ∙ is.robot_first) in
       let none = no-own (things ++ t ∷ []) (d.own_domain || false) (record d.names { objects = objects }) d.arities d.version d.facts in
       let names = names-more d.version d.names.objects (name ∷ []) r.names.objects single short in
-      assumption (names, carried b q (Some (things ++ t ∷ [])) r more (omega arith) early, begun, sorts, none, still, in-version b r)
+      assumption (names, carried b q (Some (things ++ t ∷ [])) r more (saved-kept b q (Some (things ++ t ∷ [])) refl r more) early, begun, sorts, none, still, in-version b r)
 
   -- a name of a room
   room-at : AreInRange b → (name : List ℕ) → has_name name d.roles.rooms ≡ true
@@ -255,10 +285,11 @@ module _ (n : ℕ) (d : Declared) (line : ℕ) (things : List Thing) where
       let roles = roles-kept d.names.objects [] d.names.objects things (things ++ t ∷ []) (standings (t ∷ [])) d.roles
       (sym (append-nil d.names.objects)) (standings-more things t) r.roles in
       let none = no-own (things ++ t ∷ []) (d.own_domain || false) d.names d.arities d.version d.facts in
+      let more = same-lists p p refl refl refl refl (omega arith) refl in
       assumption (
         begun,
         roles,
-        carried b p (Some (things ++ t ∷ [])) r (alike p p refl refl) (omega arith) f.order.after,
+        carried b p (Some (things ++ t ∷ [])) r more (saved-kept b p (Some (things ++ t ∷ [])) refl r more) f.order.after,
         none,
         in-version b r,
       )
@@ -278,6 +309,28 @@ module _ (n : ℕ) (d : Declared) (s : Statement) where
       by_kind : (line : ℕ) (kind : BlockKind) → same_block (kind_of_block kind) operator_block ≡ true
           → IsKept (Some (record { line = line; kind = kind })) d.things
       by_kind line (of_operator o) stands = kept line o
+      by_kind line _ stands = cc
+
+  inside-steps : ((line : ℕ) (t : WrittenTable) → IsKept (Some (record { line = line; kind = of_table_steps t })) d.things)
+      → (block : Option OpenBlock) → may_stand (option_map (λ b. kind_of_block b.kind) block) (inside table_steps) ≡ true
+      → IsKept block d.things
+  inside-steps kept None stands = cc
+  inside-steps kept (Some block) stands = by_kind block.line block.kind stands
+    where
+      by_kind : (line : ℕ) (kind : BlockKind) → same_block (kind_of_block kind) table_steps ≡ true
+          → IsKept (Some (record { line = line; kind = kind })) d.things
+      by_kind line (of_table_steps t) stands = kept line t
+      by_kind line _ stands = cc
+
+  inside-rows : ((line : ℕ) (t : WrittenTable) → IsKept (Some (record { line = line; kind = of_table_rows t })) d.things)
+      → (block : Option OpenBlock) → may_stand (option_map (λ b. kind_of_block b.kind) block) (inside table_rows) ≡ true
+      → IsKept block d.things
+  inside-rows kept None stands = cc
+  inside-rows kept (Some block) stands = by_kind block.line block.kind stands
+    where
+      by_kind : (line : ℕ) (kind : BlockKind) → same_block (kind_of_block kind) table_rows ≡ true
+          → IsKept (Some (record { line = line; kind = kind })) d.things
+      by_kind line (of_table_rows t) stands = kept line t
       by_kind line _ stands = cc
 
   inside-building : ((line : ℕ) (things : List Thing) → IsKept (Some (record { line = line; kind = of_building })) (Some things))
@@ -300,10 +353,10 @@ end-kept n d (Some block) things = by_kind block.line block.kind things
         → IsKept n d end (Some (record { line = line; kind = kind })) things
     by_kind line (of_operator o) things = end-operator n (record d { things = things }) line o
     by_kind line of_building (Some things) =
-        λ r f. end-other (record d { things = Some things }) line of_building (d.tables ++ []) r tt (not-false _ f.order.robot)
+        λ r f. end-building (record d { things = Some things }) line r tt (not-false _ f.order.robot)
     by_kind line of_building None = λ r f. let no = r.block in cc
-    by_kind line kind things = λ r f.
-        end-other (record d { things = things }) line kind (d.tables ++ table_closed (table_in kind)) r r.operators r.block
+    by_kind line (of_table_steps t) things = λ r f. let no = f.no_bad_table in cc
+    by_kind line (of_table_rows t) things = end-table n (record d { things = things }) line t
 
 -- ---- all lines
 
@@ -347,11 +400,14 @@ module _ (n : ℕ) (d : Declared) where
   line-kept r (robot in_room) w = λ f. inside-building n d _ (λ line things. robot-kept n d line things in_room) d.block f.order.stands r f
   line-kept r end w = end-kept n d d.block d.things r
   line-kept r (height most) w = outside _ (λ b. refl) d.block d.things (λ r f. let v = r.problem.valid in settings-kept n d r
-      (Some most) d.nodes d.shapes f.order.after (in-bounds of_height most f.limits.0) r.problem.nodes v.shapes) r
+      (Some most) d.nodes d.shapes d.weight f.order.after (in-bounds of_height most f.limits.0) r.problem.nodes v.shapes r.problem.weight) r
   line-kept r (nodes most) w = outside _ (λ b. refl) d.block d.things (λ r f. let v = r.problem.valid in settings-kept n d r
-      d.height (Some most) d.shapes f.order.after v.height (in-bounds of_nodes most f.limits.0) v.shapes) r
+      d.height (Some most) d.shapes d.weight f.order.after v.height (in-bounds (of_nodes d.version) most f.limits.0) v.shapes
+      r.problem.weight) r
   line-kept r (shapes most) w = outside _ (λ b. refl) d.block d.things (λ r f. let v = r.problem.valid in settings-kept n d r
-      d.height d.nodes (Some most) f.order.after v.height r.problem.nodes (in-bounds of_shapes most f.limits.0)) r
+      d.height d.nodes (Some most) d.weight f.order.after v.height r.problem.nodes (in-bounds of_shapes most f.limits.0) r.problem.weight) r
+  line-kept r (weight most) w = outside _ (λ b. refl) d.block d.things (λ r f. let v = r.problem.valid in settings-kept n d r
+      d.height d.nodes d.shapes (Some most) f.order.after v.height r.problem.nodes v.shapes (in-bounds (of_weight d.version) most f.limits.0)) r
   line-kept r (plan name xs) w = outside _ (λ b. refl) d.block d.things (λ r. plan-kept n d r name xs w.filled) r
   line-kept r (learn name source) w = outside _ (λ b. refl) d.block d.things (λ r. learn-kept n d r name source) r
   line-kept r (show name) w = outside _ (λ b. refl) d.block d.things (λ r. show-kept n d r name) r
@@ -364,12 +420,12 @@ module _ (n : ℕ) (d : Declared) where
   line-kept r (edit name source prefix ps) w =
       outside _ (λ b. refl) d.block d.things (λ r. edit-kept n d r name source prefix ps w.filled) r
   line-kept r facts w = outside _ (λ b. refl) d.block d.things (λ r. facts-kept n d r) r
-  line-kept r (table name parameters) w = λ f. let no = f.has_come in cc
-  line-kept r (step o ts) w = λ f. let no = f.has_come in cc
-  line-kept r (goal xs) w = λ f. let no = f.has_come in cc
-  line-kept r (proof parts) w = λ f. let no = f.has_come in cc
-  line-kept r (save name) w = λ f. let no = f.has_come in cc
-  line-kept r (certify name) w = λ f. let no = f.has_come in cc
+  line-kept r (table name parameters) w = outside _ (λ b. refl) d.block d.things (λ r. table-kept n d r name parameters) r
+  line-kept r (step o ts) w = λ f. inside-steps n d (step o ts) (λ line t r. step-kept n d line t r o ts) d.block f.order.stands r f
+  line-kept r (goal xs) w = λ f. inside-steps n d (goal xs) (λ line t r. goal-kept n d line t r xs w.filled) d.block f.order.stands r f
+  line-kept r (proof parts) w = λ f. inside-rows n d (proof parts) (λ line t r. proof-kept n d line t r parts) d.block f.order.stands r f
+  line-kept r (save name) w = outside _ (λ b. refl) d.block d.things (λ r. save-kept n d r name) r
+  line-kept r (certify name) w = outside _ (λ b. refl) d.block d.things (λ r. certify-kept n d r name) r
   line-kept r (pursue name xs) w = λ f. let no = f.has_come in cc
 
 -- what a line without a fault keeps, all lines keep
@@ -409,25 +465,38 @@ start-in-range =
     search (no_names, All-nil, no-index, leb-true) depth 8
 
 module _ (d : Declared) where
+  -- no block of a table is open
+  plain-blocks : {problem : Problem} {building : Option (List Thing)}
+      → CommandsInRange d.version problem building (map (λ one. one.0) d.saved ++ []) (length d.names.results) d.commands
+      → CommandsInRange d.version problem building (map (λ one. one.0) d.saved) (length d.names.results) d.commands
+  plain-blocks {problem} {building} is = subst (λ first. CommandsInRange d.version problem building first (length d.names.results) d.commands)
+      (append-nil (map (λ one. one.0) d.saved)) is
+
+  few-left : length (map (λ (one : ℕ × Table). one.0) d.saved ++ []) ≤ greatest d.version limit.tables
+      → length d.saved ≤ greatest d.version limit.tables
+  few-left few = let same = ap (λ (l : List ℕ). length l) (append-nil (map (λ (one : ℕ × Table). one.0) d.saved)) in
+      let count = length-map d.saved (λ (one : ℕ × Table). one.0) in omega (arith, few, same, count)
+
   -- without a building, and with one
   closed-in-range : (block : Option OpenBlock) (things : Option (List Thing)) → block ≡ None
       → AreInRange (record d { block = block; things = things }) → IsInRange (content_of (record d { block = block; things = things }))
   closed-in-range (Some block) things closed r = cc
-  closed-in-range None None closed r = let within = in-version (record d { block = None; things = None }) r in assumption within
+  closed-in-range None None closed r = let within = in-version (record d { block = None; things = None }) r in
+      assumption (within, few-left r.few_saved, plain-blocks r.commands)
   closed-in-range None (Some things) closed r = let is = r.building in
       let of_things = is-building things is.standing (robots-some things r.block) in let p : Problem = own_problem d in
-      let q : Problem = building_problem p.objects p.height p.nodes p.shapes in let rules = building_rules (first_state things) in
+      let q : Problem = building_with p.objects p.height p.nodes p.shapes p.weight in let rules = building_rules (first_state things) in
       let facts_are = facts-are-atoms (first_state things) of_things.1 in let l = r.problem.valid in
       let some : 1 ≤ p.objects = omega (arith, is.objects_are) in
       let few_objects = few-objects d.version p.objects r.names.few_objects in
-      let valid =
-      buildings_are_valid p.objects p.height p.nodes p.shapes (some, few_objects) l.height l.nodes l.shapes in
+      let light = buildings_are_valid p.objects p.height p.nodes p.shapes (some, few_objects) l.height l.nodes l.shapes in
+      let valid : IsValid q = heavier _ p.weight l.weight light in
       let laws = All-from_recursion (λ clause. AreNumbered clause.vars (map (λ lit. lit.atom) clause.lits)) (both_ways ∷ []) (refl, tt) in
       let schemas = All-from_recursion (HasShortLists d.version) room_schemas (search leb-true depth 20) in
       let count = sym (ap length is.predicates_are) in let operators = ap length is.operators_are in
       let few = (no-own things true d.names [] d.version (rendering (first_state things))).1 in
       let atoms = atoms-kept rules q (alike rules q (sym is.objects_are) refl) 0 (rendering (first_state things)) facts_are.1 in
-      let moved = commands-moved d.version p q things _ refl (alike p q refl is.arities_are) d.commands r.commands in
+      let moved = commands-moved d.version p q things _ _ refl (alike p q refl is.arities_are) d.commands r.commands in
       let small = small-arities d.version in
       let no_sorts : 0 ≤ greatest d.version limit.sorts = omega arith in
       let within = in-version (record d { block = None; things = Some things }) r in
@@ -439,7 +508,8 @@ module _ (d : Declared) where
         operators,
         few,
         atoms,
-        moved,
+        plain-blocks moved,
+        few-left r.few_saved,
         small,
         facts_are.0,
         is.standing.earlier,

@@ -1,23 +1,23 @@
 -- Each line of a domain, each setting and each command keeps what was declared in range.
 use Rattle.std.proofs.lemmas.List.Kept.{AllPairs-cons}
 use Rattle.px_base.specs.Bounds.{u32_max}
-use Rattle.px_script.proofs.Common.{fold-append, flat_map-append, IsClause, no_schema, ◌≡◌, ◌≢◌, ℕ, suc, ◌+◌, ◌<◌, ◌≤◌, Bool, true, false, not, ◌&&◌, ◌||◌, ◌==◌, List, [], ◌∷◌, ◌++◌, map, length, refl, sym, ap, ◌∙◌, subst, arith, leb-true, length-append, nat_lt, Option, None, Some, is_some, unwrap_or, All, AllPairs, AllByRecursion, slice_index_or, list_any, list_all, flat_map, filter, range_with_len, append_assoc, get_or-append, get_or-map, and_parts, or_parts, or_right, nat_tests, length-map, All-append, All-cons, All-map, All-nil, All-push, both_answers, All-at, All-each, set_of-is_sorted, set_of-members, has_name, IsBoxAt, IsDoorAt, IsRoomAt, first_state, standings, Clause, Problem, atom_set, atom_cmp, atom_cmp-total, atom_cmp-same, IsAtomOf, Thing, EachIndex, NameLists, IsAxiomOf, append-nil, IsSchemaOf, Standing, Atom, Named, SignedAtom, Sign, WrittenRoomEdit, Binding, bare, robot_to, box_to, door_to, is_empty, is_parameter_number, wanted_by_edit, an_object, plain, literals, goals, atom_changes, line_of, script, object, predicate, «axiom», operator, fact, plan, learn, disturb_atoms, disturb_rooms, run, Statement, show, sort, filled_up, of_version, Bounds, greatest, of_height, of_nodes, of_shapes, of_turn, facts, Command, Plan, Learn, DisturbAtoms, DisturbRooms, Run, Facts, Show, Declared, Roles, operator_here, parameters_here, parameters_of, names_here, number_in, variable_names_of, atom_of, literal_of, clause_of, atom_edit_of, edit_by, room_edit_of, binding_of, after_line, own_problem, is_long, repeats, disturbance_limits, AreNumbered, AreRoomEditsOf, CommandsInRange, HasTurn, IsAmong, IsBindingOf, IsCommandOf, IsEditOf, IsWithin, NamesEarlier, disturbs_after, plan_given, result_given, AreNamesOf, all_disturbs, duo, Duo, edit, Edit, of_executor, outside}
-use Rattle.std.specs.Prelude.{replicate, ◌-◌}
+use Rattle.px_script.proofs.Common.{table_given, IsTableBefore, IsSavedTable, problem_of, problem_here, replicate-append-replicate, replicate, ◌-◌, fold-append, flat_map-append, IsClause, no_schema, ◌≡◌, ◌≢◌, ℕ, suc, ◌+◌, ◌<◌, ◌≤◌, Bool, true, false, not, ◌&&◌, ◌||◌, ◌==◌, List, [], ◌∷◌, ◌++◌, map, length, refl, sym, ap, ◌∙◌, subst, arith, leb-true, length-append, nat_lt, nat_le, Option, None, Some, is_some, unwrap_or, All, AllPairs, AllByRecursion, slice_index_or, list_any, list_all, flat_map, filter, range_with_len, append_assoc, get_or-map, and_parts, or_parts, or_right, nat_tests, length-map, All-append, All-cons, All-map, All-nil, All-push, both_answers, All-at, All-each, set_of-is_sorted, set_of-members, has_name, IsBoxAt, IsDoorAt, IsRoomAt, first_state, standings, Clause, Schema, Problem, atom_set, atom_cmp, atom_cmp-total, atom_cmp-same, IsAtomOf, Thing, EachIndex, NameLists, IsAxiomOf, append-nil, IsSchemaOf, Standing, Atom, Named, SignedAtom, Sign, WrittenRoomEdit, Binding, bare, robot_to, box_to, door_to, is_empty, is_parameter_number, wanted_by_edit, an_object, plain, literals, goals, atom_changes, line_of, script, object, predicate, «axiom», operator, fact, plan, learn, disturb_atoms, disturb_rooms, run, Statement, show, save, certify, Save, Certify, sort, filled_up, of_version, Bounds, greatest, of_height, of_nodes, of_shapes, of_turn, facts, Command, Plan, Learn, DisturbAtoms, DisturbRooms, Run, Facts, Show, Declared, Roles, operator_here, parameters_here, parameters_of, names_here, number_in, variable_names_of, atom_of, literal_of, clause_of, atom_edit_of, edit_by, room_edit_of, binding_of, after_line, own_problem, is_long, repeats, disturbance_limits, AreNumbered, AreRoomEditsOf, CommandsInRange, HasTurn, IsAmong, IsBindingOf, IsCommandOf, IsEditOf, IsWithin, NamesEarlier, disturbs_after, plan_given, result_given, AreNamesOf, all_disturbs, duo, Duo, edit, Edit, of_executor, outside}
 use Rattle.px_script.specs.Items.{last_parameter}
 use Rattle.px_rooms.specs.Changes.{IsAdmitted}
-use Rattle.px_terms.specs.Limits.{most_nodes}
+use Rattle.px_terms.specs.Limits.{most_nodes, most_weight}
 use Rattle.px_terms.specs.SortLaws.{no_sorts-are}
 use Rattle.px_terms.specs.Validity.{AreSortsOf, IsShort}
 use Rattle.std.proofs.lemmas.List.{get_or-replicate, length-replicate}
-use Rattle.px_script.specs.Limits.{default_height, default_nodes, default_shapes, last_number}
+use Rattle.px_script.specs.Limits.{default_height, default_nodes, default_shapes, default_weight, from_three, of_weight, last_number}
 use Rattle.px_script.specs.Limits as limit
 use Rattle.px_script.proofs.Atoms.{HasAtoms, numbered, atoms-right, atoms-with, atoms-open, no-variables, empty-length}
 use Rattle.px_script.proofs.Buildings.{roles-kept, AreOfKind}
-use Rattle.px_script.proofs.Commands.{one-more-result, among-given, among-still, among-last, more-results, scan-more}
+use Rattle.px_script.proofs.Commands.{one-more-result, among-still, among-last, more-results, scan-more}
 use Rattle.px_script.proofs.Faultless.{IsFaultless}
 use Rattle.px_script.proofs.Lists.{by_test, at-most, not-below, each-fails, number-below, number-kept, number-new, known-still, known-last, at-name, is-new, each-more, all-parts, none-filtered}
-use Rattle.px_script.proofs.Problems.{Grows, alike, schema-kept, names-more, of-axiom-kept, atoms-kept, axiom-clause}
-use Rattle.px_script.proofs.States.{AreInRange, AreRolesOf, HasNoDomain, IsVersionAfter, OperatorsInRange, SortsInRange}
+use Rattle.px_table.specs.GrowthLaws as growth
+use Rattle.px_script.proofs.Problems.{less, saved-grows, here-grows, same-lists, alike, schema-kept, names-more, of-axiom-kept, atoms-kept, axiom-clause}
+use Rattle.px_script.proofs.States.{from_blocks, ResultsInRange, AreInRange, AreRolesOf, HasNoDomain, IsVersionAfter, OperatorsInRange, SortsInRange}
 use Rattle.px_script.specs.Limits.{by_version}
 use Rattle.px_script.specs.RangeLaws.{version-most}
 
@@ -53,7 +53,23 @@ unbegun d r = told d.begun d.version r.version
 -- what may be in version 1 may be in each
 version-more : (old version n a b : ℕ) → old ≡ 1 → a ≤ b → n ≤ by_version old a b → n ≤ by_version version a b
 version-more old version n a b is more few = let least : n ≤ a = subst (λ v. n ≤ by_version v a b) is few in
-    by_test (version == 2) (λ two. rw two (omega (arith, least, more))) (λ one. rw one least)
+    by_test (nat_le version 1) (λ one. rw one least) (λ two. rw two (omega (arith, least, more)))
+
+-- and so may what may be in the versions before 3
+three-more : (old version n a b : ℕ) → old ≡ 1 → a ≤ b → n ≤ from_three old a b → n ≤ from_three version a b
+three-more old version n a b is more few = let least : n ≤ a = subst (λ v. n ≤ from_three v a b) is few in
+    by_test (nat_le version 2) (λ one. rw one least) (λ two. rw two (omega (arith, least, more)))
+
+-- what may be in some version may be in the last
+three-most : (version n a b : ℕ) → a ≤ b → n ≤ from_three version a b → n ≤ b
+three-most version n a b more few = by_test (nat_le version 2) (λ one. let least : n ≤ a = rw one at few in omega (arith, least, more))
+    (λ two. rw two at few)
+
+-- where no line says it, what is chosen may be chosen
+defaults-in : (version least a b most_a most_b : ℕ) → least ≤ a → least ≤ b → a ≤ most_a → b ≤ most_b
+    → (least ≤ from_three version a b) × (from_three version a b ≤ from_three version most_a most_b)
+defaults-in version least a b most_a most_b least_a least_b few_a few_b =
+    by_test (nat_le version 2) (λ one. rw one (least_a, few_a)) (λ two. rw two (least_b, few_b))
 
 -- ---- sorts
 
@@ -94,24 +110,61 @@ pub no-own : (things : List Thing) (own : Bool) (names : NameLists) (arities : L
     → (own ≡ false → Some things ≡ None → HasNoDomain names arities) × (Some things ≡ None → length atoms ≤ greatest version limit.facts)
 no-own things own names arities version atoms = ((λ is none. cc), λ none. cc)
 
+-- ---- a problem that grows
+
+-- the sorts of more objects are those of fewer, and then none
+filled-more : (n m : ℕ) (sorts : List ℕ) → length sorts ≤ n → n ≤ m → filled_up m sorts ≡ filled_up n sorts ++ replicate (m - n) 0
+filled-more n m sorts few more = let split : (n - length sorts) + (m - n) ≡ m - length sorts = omega (arith, few, more) in
+    sym (append_assoc sorts (replicate (n - length sorts) 0) (replicate (m - n) 0)
+    ∙ ap (λ t. sorts ++ t) (replicate-append-replicate (n - length sorts) (m - n) 0 ∙ ap (λ k. replicate k 0) split))
+
+-- more objects without sorts
+pub more-objects : (p : Problem) (n : ℕ) (sorts : List ℕ) → p.objects ≤ n → length sorts ≤ p.objects
+    → p.object_sorts ≡ filled_up p.objects sorts → growth.Grows p (record p { objects = n; object_sorts = filled_up n sorts })
+more-objects p n sorts more few are = record {
+  objects = more;
+  arities = ([], sym (append-nil p.arities));
+  axioms = ([], sym (append-nil p.axioms));
+  schemas = ([], sym (append-nil p.schemas));
+  sorts = omega arith;
+  object_sorts = (
+    replicate (n - p.objects) 0,
+    filled-more p.objects n sorts few more ∙ ap (λ t. t ++ replicate (n - p.objects) 0) (sym are),
+  );
+}
+
+-- the problem of the lines has a sort for each object
+sorts-count : (d : Declared) → AreInRange d → (things : Option (List Thing))
+    → length (problem_of (own_problem d) things).object_sorts ≡ (problem_of (own_problem d) things).objects
+sorts-count d r None = r.problem.valid.sorts.0
+sorts-count d r (Some things) = length-replicate (length d.names.objects) 0
+
+-- the tables of the script stay tables
+pub saved-kept : (d : Declared) (q : Problem) (things : Option (List Thing)) → is_some d.things ≡ is_some things → AreInRange d
+    → growth.Grows (own_problem d) q → All (λ one. IsSavedTable d.version (problem_of q things) one.1) d.saved
+saved-kept d q things same r more = λ k one below. saved-grows (problem_here d) (problem_of q things)
+    (here-grows (own_problem d) q d.things things same more) d.version _ (sorts-count d r d.things) (r.saved k one below)
+
 -- What a line before all commands leaves as it is, where the problem grows.
 pub record IsCarried (d : Declared) (q : Problem) (things : Option (List Thing)) : Type 0 where
   pub schemas : EachIndex d.schemas (λ k. IsSchemaOf q k (slice_index_or d.schemas k no_schema))
   pub axioms : All (IsAxiomOf q) d.axioms
   pub no_objects : q.objects ≡ 0 → All (λ schema. schema.params ≡ 0) d.schemas × All (λ clause. clause.vars ≡ 0) d.axioms
   pub facts : All (IsAtomOf q 0) d.facts
-  pub commands : CommandsInRange d.version q things (length d.names.results) d.commands
+  pub saved : All (λ one. IsSavedTable d.version (problem_of q things) one.1) d.saved
+  pub commands : CommandsInRange d.version q things (from_blocks d) (length d.names.results) d.commands
 
-pub carried : (d : Declared) (q : Problem) (things : Option (List Thing)) → AreInRange d → Grows (own_problem d) q
-    → length d.sorts ≤ q.sorts → not (is_empty d.commands) ≡ false → IsCarried d q things
-carried d q things r more more_sorts early = let p = own_problem d in
+pub carried : (d : Declared) (q : Problem) (things : Option (List Thing)) → AreInRange d → growth.Grows (own_problem d) q
+    → All (λ one. IsSavedTable d.version (problem_of q things) one.1) d.saved → not (is_empty d.commands) ≡ false → IsCarried d q things
+carried d q things r grows saved early = let p = own_problem d in let more = less p q grows in
     let each : All (IsCommandOf d.version q things (length d.names.results)) d.commands =
     λ k c below. absurd (omega (arith, below, no-commands d.commands early)) in
     record {
-      schemas = λ k below. schema-kept p q more more_sorts k _ (r.problem.valid.schemas k below);
+      schemas = λ k below. schema-kept p q more grows.sorts k _ (r.problem.valid.schemas k below);
       axioms = λ k c below. of-axiom-kept p q more _ (r.problem.valid.axioms k c below);
       no_objects = λ none. r.problem.valid.no_objects (omega (arith, more.objects, none));
       facts = atoms-kept p q more 0 d.facts r.facts.atoms;
+      saved = saved;
       commands = assumption;
     }
 
@@ -144,10 +197,8 @@ module _ (n : ℕ) (d : Declared) where
     pub object-kept : (ns : List (List ℕ)) → Keeps n alone (object ns)
     object-kept ns f = let all = d.names.objects ++ ns in
         let q : Problem = record p { objects = length all; object_sorts = filled_up (length all) d.object_sorts } in
-        let more : Grows p q = record {
-          objects = omega (arith, length-append d.names.objects ns);
-          arities = λ k below. (below, refl);
-        } in
+        let count = length-append d.names.objects ns in
+        let more : growth.Grows p q = more-objects p (length all) d.object_sorts (omega (arith, count)) r.sorts.count refl in
         let few : length all ≤ greatest d.version limit.objects = rw length-append (at-most _ _ f.limits.0) in
         let names = names-more d.version d.names.objects ns r.names.objects f.single.0 f.short.0 in
         let roles = roles-kept d.names.objects ns all [] [] [] d.roles refl refl r.roles in
@@ -155,7 +206,7 @@ module _ (n : ℕ) (d : Declared) where
         let sorts = sorts-filled q (length all) d.object_sorts still.count r.sorts.numbers (few-objects d.version (length all) few) in
         assumption (
           names,
-          carried alone q None r more (omega arith) f.order.after,
+          carried alone q None r more (saved-kept alone q None refl r more) f.order.after,
           roles,
           sorts,
           still,
@@ -173,7 +224,17 @@ module _ (n : ℕ) (d : Declared) where
           object_sorts = filled_up (length all) object_sorts;
         } in
         let count = length-append d.names.objects ns in let sort_count = length-append d.sorts (name ∷ []) in
-        let more : Grows p q = record { objects = omega (arith, count); arities = λ k below. (below, refl) } in
+        let more : growth.Grows p q = record {
+          objects = omega (arith, count);
+          arities = ([], sym (append-nil d.arities));
+          axioms = ([], sym (append-nil d.axioms));
+          schemas = ([], sym (append-nil d.schemas));
+          sorts = omega (arith, sort_count);
+          object_sorts = (
+            new ++ replicate (length all - length object_sorts) 0,
+            append_assoc (filled_up (length d.names.objects) d.object_sorts) new (replicate (length all - length object_sorts) 0),
+          );
+        } in
         let few : length all ≤ greatest d.version limit.objects = rw length-append (at-most _ _ f.limits.0) in
         let few_sorts : length sorts ≤ greatest d.version limit.sorts = rw length-append (at-most _ _ f.limits.1.0) in
         let few_now = few-objects d.version (length d.names.objects) r.names.few_objects in
@@ -193,7 +254,7 @@ module _ (n : ℕ) (d : Declared) where
         let filled = sorts-filled q (length all) object_sorts are.count are.numbers (few-objects d.version (length all) few) in
         assumption (
           names,
-          carried alone q None r more (omega (arith, sort_count)) f.order.after,
+          carried alone q None r more (saved-kept alone q None refl r more) f.order.after,
           roles,
           filled,
           are,
@@ -205,16 +266,20 @@ module _ (n : ℕ) (d : Declared) where
     pub predicate-kept : (name : List ℕ) (arity : ℕ) → Keeps n alone (predicate name arity)
     predicate-kept name arity f = let all = d.names.predicates ++ name ∷ [] in let arities = d.arities ++ arity ∷ [] in
         let q : Problem = record p { arities = arities } in let count = length-append d.arities (arity ∷ []) in
-        let more : Grows p q = record {
+        let more : growth.Grows p q = record {
           objects = omega arith;
-          arities = λ k below. (omega (arith, below, count), get_or-append d.arities (arity ∷ []) 0 k below);
+          arities = (arity ∷ [], refl);
+          axioms = ([], sym (append-nil d.axioms));
+          schemas = ([], sym (append-nil d.schemas));
+          sorts = omega arith;
+          object_sorts = ([], sym (append-nil p.object_sorts));
         } in
         let few : length all ≤ 64 = rw length-append (at-most _ _ f.limits.0) in
         let same : length arities ≡ length all = omega (arith, count, length-append d.names.predicates (name ∷ []), r.problem.predicates) in
         let short : length arities < u32_max = omega (arith, same, few) in
         let names = names-more d.version d.names.predicates (name ∷ []) r.names.predicates f.single.0 f.short.0 in
         let small = All-push (λ k. k ≤ greatest d.version limit.arity) d.arities arity r.problem.arities (at-most _ _ f.limits.1.0) in
-        assumption (names, carried alone q None r more (omega arith) f.order.after, small, in-version alone r, owned (record d.names { predicates = all }) arities)
+        assumption (names, carried alone q None r more (saved-kept alone q None refl r more) f.order.after, small, in-version alone r, owned (record d.names { predicates = all }) arities)
 
     pub axiom-kept : (xs : List SignedAtom) → (not (is_empty xs) && true) ≡ true → Keeps n alone («axiom» xs)
     axiom-kept xs filled f = let has : HasAtoms (line_of («axiom» xs)) xs = record { atoms = refl; arguments = refl } in
@@ -223,12 +288,20 @@ module _ (n : ℕ) (d : Declared) where
         let most : length xs ≤ 6 = at-most _ _ f.limits.1.0 in
         let atoms = atoms-open alone r xs refl literals refl (atoms-right alone («axiom» xs) xs has f.right) in
         let all = d.axioms ++ c ∷ [] in let q : Problem = record p { axioms = all } in let more = alike p q refl refl in
+        let grows : growth.Grows p q = record {
+          objects = omega arith;
+          arities = ([], sym (append-nil d.arities));
+          axioms = (c ∷ [], refl);
+          schemas = ([], sym (append-nil d.schemas));
+          sorts = omega arith;
+          object_sorts = ([], sym (append-nil p.object_sorts));
+        } in
         let few : length all ≤ 64 = rw length-append (at-most _ _ f.limits.0) in
         let lits = All-map (λ lit. IsAtomOf p (length vars) lit.atom) (literal_of alone vars) xs
         (unmap (atom_of alone vars) (IsAtomOf p (length vars)) xs atoms) in
         let is : IsAxiomOf p c = record { vars = at-most _ _ f.limits.1.1.0; lits = lits } in
         let N : Clause → Type 0 = λ clause. AreNumbered clause.vars (map (λ lit. lit.atom) clause.lits) in
-        let old = carried alone q None r more (omega arith) f.order.after in
+        let old = carried alone q None r grows (saved-kept alone q None refl r grows) f.order.after in
         let none : q.objects ≡ 0 → All (λ schema. schema.params ≡ 0) d.schemas × All (λ clause. clause.vars ≡ 0) all = λ empty.
         let no = old.no_objects empty in let new = no-variables alone (line_of («axiom» xs)) xs has f.order.early empty in
         (no.0, All-push (λ clause. clause.vars ≡ 0) d.axioms c no.1 new) in
@@ -274,42 +347,93 @@ module _ (n : ℕ) (d : Declared) where
   -- ---- settings and commands, which stand in no block
 
   module _ (r : AreInRange top) where
-    pub settings-kept : (tall many wide : Option ℕ) → not (is_empty d.commands) ≡ false
-        → IsWithin of_height (unwrap_or tall default_height) → IsWithin of_nodes (unwrap_or many default_nodes)
+    pub settings-kept : (tall many wide heavy : Option ℕ) → not (is_empty d.commands) ≡ false
+        → IsWithin of_height (unwrap_or tall default_height) → IsWithin (of_nodes d.version) (unwrap_or many (default_nodes d.version))
         → IsWithin of_shapes (unwrap_or wide default_shapes)
-        → AreInRange (record top { height = tall; nodes = many; shapes = wide; own_domain = d.own_domain || false; begun = true })
-    settings-kept tall many wide early in_height in_nodes in_shapes =
+        → IsWithin (of_weight d.version) (unwrap_or heavy (default_weight d.version)) → AreInRange (record top {
+          height = tall;
+          nodes = many;
+          shapes = wide;
+          weight = heavy;
+          own_domain = d.own_domain || false;
+          begun = true;
+        })
+    settings-kept tall many wide heavy early in_height in_nodes in_shapes in_weight =
         let q : Problem = record p {
           height = unwrap_or tall default_height;
-          nodes = unwrap_or many default_nodes;
+          nodes = unwrap_or many (default_nodes d.version);
           shapes = unwrap_or wide default_shapes;
+          weight = unwrap_or heavy (default_weight d.version);
         } in
-        let most : q.nodes ≤ most_nodes = omega (arith, in_nodes.1) in
+        let most : q.nodes ≤ most_nodes = three-most d.version q.nodes 50000 most_nodes (omega arith) in_nodes.1 in
+        let most_heavy : q.weight ≤ most_weight = three-most d.version q.weight 0 most_weight (omega arith) in_weight.1 in
+        let more = same-lists p q refl refl refl refl (omega arith) refl in
         assumption (
           still-none top r,
           in_height,
           in_nodes,
           most,
           in_shapes,
-          carried top q d.things r (alike p q refl refl) (omega arith) early,
+          in_weight,
+          most_heavy,
+          carried top q d.things r more (saved-kept top q d.things refl r more) early,
           in-version top r,
         )
 
-    operators-there : (version : ℕ) (things : Option (List Thing)) → OperatorsInRange d.version d.names p things None
-        → OperatorsInRange version d.names p things None
-    operators-there version None is = is
-    operators-there version (Some things) is = is
+    operators-there : (version : ℕ) (q : Problem) → q.schemas ≡ p.schemas → (things : Option (List Thing))
+        → OperatorsInRange d.version d.names p things None → OperatorsInRange version d.names q things None
+    operators-there version q same None is = is ∙ sym (ap (λ (l : List Schema). length l) same)
+    operators-there version q same (Some things) is = is
 
     -- The version, which stands before all else.
     pub script-kept : (version : ℕ) → Keeps n top (script version)
     script-kept version f = let first = unbegun top r f.order.late in let is = in-bounds of_version version f.limits.0 in
+        let q : Problem = record p {
+          nodes = unwrap_or d.nodes (default_nodes version);
+          weight = unwrap_or d.weight (default_weight version);
+        } in
+        let more = same-lists p q refl refl refl refl (omega arith) refl in
+        let grown = carried top q d.things r more (saved-kept top q d.things refl r more) f.order.after in
+        let in_nodes = nodes-in version first d.nodes r.problem.nodes in let in_weight = weight-in version first d.weight r.problem.weight in
+        let most : q.nodes ≤ most_nodes = three-most version q.nodes 50000 most_nodes (omega arith) in_nodes.1 in
+        let most_heavy : q.weight ≤ most_weight = three-most version q.weight 0 most_weight (omega arith) in_weight.1 in
         let few_objects = version-more d.version version _ 256 1024 first (omega arith) r.names.few_objects in
         let few_facts : d.things ≡ None → length d.facts ≤ greatest version limit.facts =
         λ none. version-more d.version version _ 512 1024 first (omega arith) (r.facts.few none) in
         let few_commands = version-more d.version version _ 512 1024 first (omega arith) r.commands.few in
-        let each : All (IsCommandOf version p d.things results) d.commands =
+        let each : All (IsCommandOf version q d.things results) d.commands =
         λ k c below. absurd (omega (arith, below, no-commands d.commands f.order.after)) in
-        assumption (is, few_objects, few_facts, few_commands, each, still-none top r, operators-there version d.things r.operators)
+        assumption (
+          is,
+          in_nodes,
+          in_weight,
+          most,
+          most_heavy,
+          grown,
+          few_objects,
+          few_facts,
+          few_commands,
+          each,
+          still-none top r,
+          operators-there version q refl d.things r.operators,
+          all-there version q grown.saved,
+        )
+      where
+        -- the limits of tables are those of each version
+        all-there : (version : ℕ) (q : Problem) → All (λ one. IsSavedTable d.version (problem_of q d.things) one.1) d.saved
+            → All (λ one. IsSavedTable version (problem_of q d.things) one.1) d.saved
+        all-there version q saved = λ k one below. let is = saved k one below in assumption
+
+        -- what a script may ask for in version 1 it may ask for in each
+        nodes-in : (version : ℕ) → d.version ≡ 1 → (o : Option ℕ) → IsWithin (of_nodes d.version) (unwrap_or o (default_nodes d.version))
+            → IsWithin (of_nodes version) (unwrap_or o (default_nodes version))
+        nodes-in version first None is = defaults-in version 1 10000 100000 50000 most_nodes (omega arith) (omega arith) (omega arith) (omega arith)
+        nodes-in version first (Some n) is = (is.0, three-more d.version version n 50000 most_nodes first (omega arith) is.1)
+
+        weight-in : (version : ℕ) → d.version ≡ 1 → (o : Option ℕ) → IsWithin (of_weight d.version) (unwrap_or o (default_weight d.version))
+            → IsWithin (of_weight version) (unwrap_or o (default_weight version))
+        weight-in version first None is = defaults-in version 0 0 16 0 most_weight (omega arith) (omega arith) (omega arith) (omega arith)
+        weight-in version first (Some n) is = (is.0, three-more d.version version n 0 most_weight first (omega arith) is.1)
 
     -- what is declared after a command, with the results and the roles after it
     abbrev given : Command → List (List ℕ) → Roles → Declared
@@ -322,18 +446,28 @@ module _ (n : ℕ) (d : Declared) where
       begun = true;
     }
 
+    -- what the script's blocks give
+    abbrev first : List ℕ
+    first = from_blocks top
+
+    -- what the names of plans, and those of tables, keep: each is a result's, and of one that was given
+    pub record AreGiven (gives : Command → List ℕ) (before : List ℕ) (commands : List Command) (names all : List (List ℕ)) : Type 0 where
+      pub known : All (λ m. has_name m all ≡ true) names
+      pub given : All (λ m. IsAmong (before ++ flat_map gives commands) (number_in m all)) names
+
     -- A command, with the results and the roles after it.
     command-kept : (c : Command) (names : List (List ℕ)) (roles : Roles) → disturbs_after d.disturbs c ≤ greatest d.version limit.disturbs
         → nat_lt (greatest d.version limit.commands) (length d.commands + 1) ≡ false
         → AreNamesOf d.version names → range_with_len 0 results ++ result_given c ≡ range_with_len 0 (length names)
         → results ≤ length names → length names ≤ results + 1
-        → IsCommandOf d.version p d.things (length names) c → NamesEarlier d.commands c
-        → AreRolesOf d.names.objects roles (unwrap_or d.things []) → roles.tables ≡ names → All (λ m. has_name m names ≡ true) roles.plans
-        → All (λ m. IsAmong (flat_map plan_given (d.commands ++ c ∷ [])) (number_in m names)) roles.plans → AreInRange (given c names roles)
-    command-kept c names roles often full names_are given least most is_command earlier roles_are tables known plans =
+        → IsCommandOf d.version p d.things (length names) c → NamesEarlier first d.commands c
+        → AreRolesOf d.names.objects roles (unwrap_or d.things [])
+        → AreGiven plan_given [] (d.commands ++ c ∷ []) roles.plans names
+        → AreGiven table_given first (d.commands ++ c ∷ []) roles.tables names → AreInRange (given c names roles)
+    command-kept c names roles often full names_are given least most is_command earlier roles_are plans tables =
         let all = d.commands ++ c ∷ [] in let count = length-append d.commands (c ∷ []) in
         let few : length all ≤ greatest d.version limit.commands = rw length-append (at-most _ _ full) in
-        let few_results : length names ≤ length all = omega (arith, count, most, r.results.few) in
+        let few_results : length names ≤ length first + length all = omega (arith, count, most, r.results.few) in
         let counts = ap (λ t. disturbs_after t c) r.results.disturbs in
         let since = counts ∙ sym (fold-append disturbs_after 0 d.commands (c ∷ [])) in
         let each = All-push (IsCommandOf d.version p d.things (length names)) d.commands c
@@ -341,31 +475,63 @@ module _ (n : ℕ) (d : Declared) where
         let N : ℕ → Type 0 = λ m. m ≤ greatest d.version limit.disturbs in
         let few_disturbs : All N (all_disturbs all) = subst (All N) (sym (scan-more 0 d.commands c))
         (All-push N (all_disturbs d.commands) _ r.commands.few_disturbs (subst N counts often)) in
-        let gives : flat_map result_given all ≡ range_with_len 0 (length names) = flat_map-append result_given d.commands (c ∷ [])
-        ∙ ap (λ t. flat_map result_given d.commands ++ t) (append-nil (result_given c)) ∙ ap (λ t. t ++ result_given c) r.commands.given
+        let gives : first ++ flat_map result_given all ≡ range_with_len 0 (length names) =
+        ap (λ t. first ++ t) (flat_map-append result_given d.commands (c ∷ [])
+        ∙ ap (λ t. flat_map result_given d.commands ++ t) (append-nil (result_given c)))
+        ∙ sym (append_assoc first (flat_map result_given d.commands) (result_given c)) ∙ ap (λ t. t ++ result_given c) r.commands.given
         ∙ given in
         let none : (d.own_domain || false) ≡ false → d.things ≡ None → HasNoDomain (record d.names { results = names }) d.arities =
         λ own none. let old = still-none top r own none in assumption in
-        assumption (in-version top r, each-more NamesEarlier d.commands c Facts r.commands.earlier earlier)
+        let now : ResultsInRange first names roles all (disturbs_after d.disturbs c) = record {
+          plan_names = plans.known;
+          plans = plans.given;
+          table_names = tables.known;
+          tables = tables.given;
+          few = few_results;
+          disturbs = since;
+        } in
+        assumption (in-version top r, now, each-more (NamesEarlier first) d.commands c Facts r.commands.earlier earlier)
+
+    -- the plans so far, and the tables
+    old-plans : (c : Command) → AreGiven plan_given [] (d.commands ++ c ∷ []) d.roles.plans d.names.results
+    old-plans c = record {
+      known = r.results.plan_names;
+      given = λ k x below. among-still plan_given [] d.commands c _ (r.results.plans k x below);
+    }
+
+    old-tables : (c : Command) → AreGiven table_given first (d.commands ++ c ∷ []) d.roles.tables d.names.results
+    old-tables c = record {
+      known = r.results.table_names;
+      given = λ k x below. among-still table_given first d.commands c _ (r.results.tables k x below);
+    }
 
     -- a command that gives no result
     plain-kept : (c : Command) → result_given c ≡ [] → nat_lt (greatest d.version limit.commands) (length d.commands + 1) ≡ false
         → disturbs_after d.disturbs c ≤ greatest d.version limit.disturbs → IsCommandOf d.version p d.things results c
-        → NamesEarlier d.commands c → AreInRange (given c d.names.results d.roles)
+        → NamesEarlier first d.commands c → AreInRange (given c d.names.results d.roles)
     plain-kept c no_result full often is_command earlier = command-kept c d.names.results d.roles often full r.names.results
         (ap (λ t. range_with_len 0 results ++ t) no_result ∙ append-nil (range_with_len 0 results)) (omega arith) (omega arith) is_command
-        earlier r.roles r.results.tables r.results.plan_names (λ k x below. among-still d.commands c _ (r.results.plans k x below))
+        earlier r.roles (old-plans c) (old-tables c)
 
-    -- a result's number is that of an earlier command
+    -- a table's number is that of a block or of an earlier command
     known-result : (name : List ℕ) → has_name name d.roles.tables ≡ true → number_in name d.names.results < results
-    known-result name known = number-below name d.names.results (ap (has_name name) (sym r.results.tables) ∙ known)
+    known-result name known = number-below name d.names.results
+        (at-name (λ m. has_name m d.names.results ≡ true) d.roles.tables name r.results.table_names known)
 
-    named-earlier : (name : List ℕ) → has_name name d.roles.tables ≡ true
-        → IsAmong (flat_map result_given d.commands) (number_in name d.names.results)
-    named-earlier name known = among-given d.commands results _ r.commands.given (known-result name known)
+    named-earlier : (name : List ℕ) → has_name name d.roles.tables ≡ true → IsTableBefore first d.commands (number_in name d.names.results)
+    named-earlier name known =
+        at-name (λ m. IsTableBefore first d.commands (number_in m d.names.results)) d.roles.tables name r.results.tables known
 
     pub show-kept : (name : List ℕ) → Keeps n top (show name)
     show-kept name f = plain-kept (Show (number_in name d.names.results)) refl f.limits.0 r.few_disturbs
+        (known-result name f.known.0) (named-earlier name f.known.0)
+
+    pub save-kept : (name : List ℕ) → Keeps n top (save name)
+    save-kept name f = plain-kept (Save (number_in name d.names.results)) refl f.limits.0 r.few_disturbs
+        (known-result name f.known.0) (named-earlier name f.known.0)
+
+    pub certify-kept : (name : List ℕ) → Keeps n top (certify name)
+    certify-kept name f = plain-kept (Certify (number_in name d.names.results)) refl f.limits.0 r.few_disturbs
         (known-result name f.known.0) (named-earlier name f.known.0)
 
     pub facts-kept : Keeps n top facts
@@ -481,39 +647,62 @@ module _ (n : ℕ) (d : Declared) where
         plain-kept (Run (number_in name d.names.results) (map (binding_of top) bs)) refl f.limits.0 (omega arith)
         (known-result name f.known.0, are, bound-once bs once) (named-earlier name f.known.0)
 
-    -- commands that give a result: their names, what plans keep, and what a new plan has
+    -- commands that give a result: what plans and tables keep, and what a new one has
 
     module _ (name : List ℕ) (c : Command) where
       abbrev named : List (List ℕ)
       named = d.names.results ++ name ∷ []
 
-      abbrev IsPlanAfter : List ℕ → Type 0
-      IsPlanAfter m = IsAmong (flat_map plan_given (d.commands ++ c ∷ [])) (number_in m named)
+      abbrev AreGivenAfter : (Command → List ℕ) → List ℕ → List (List ℕ) → Type 0
+      AreGivenAfter gives before names = AreGiven gives before (d.commands ++ c ∷ []) names named
 
-      abbrev IsNamed : List ℕ → Type 0
-      IsNamed m = has_name m named ≡ true
+      still-given : (gives : Command → List ℕ) (before : List ℕ) (names : List (List ℕ))
+          → AreGiven gives before (d.commands ++ c ∷ []) names d.names.results → AreGivenAfter gives before names
+      still-given gives before names old = record {
+        known = λ k e below. known-still _ d.names.results (name ∷ []) (old.known k e below);
+        given = λ k e below. subst (IsAmong (before ++ flat_map gives (d.commands ++ c ∷ [])))
+            (sym (number-kept (slice_index_or names k e) d.names.results (name ∷ []) (old.known k e below))) (old.given k e below);
+      }
 
-      plans-kept : All IsPlanAfter d.roles.plans
-      plans-kept = λ k e below. let m = slice_index_or d.roles.plans k e in subst (IsAmong (flat_map plan_given (d.commands ++ c ∷ [])))
-          (sym (number-kept m d.names.results (name ∷ []) (r.results.plan_names k e below)))
-          (among-still d.commands c _ (r.results.plans k e below))
+      new-given : (gives : Command → List ℕ) (before : List ℕ) (names : List (List ℕ)) → gives c ≡ results ∷ []
+          → repeats d.names.results (name ∷ []) ≡ false → AreGivenAfter gives before names → AreGivenAfter gives before (names ++ name ∷ [])
+      new-given gives before names gives_it single old =
+          let number : results ≡ number_in name named = sym (number-new name d.names.results [] (is-new d.names.results name single)) in
+          record {
+            known = All-push (λ m. has_name m named ≡ true) names name old.known (known-last name d.names.results []);
+            given = All-push (λ m. IsAmong (before ++ flat_map gives (d.commands ++ c ∷ [])) (number_in m named)) names name old.given
+                (subst (IsAmong (before ++ flat_map gives (d.commands ++ c ∷ []))) number
+                (among-last gives before d.commands c results gives_it));
+          }
 
-      names-kept : All IsNamed d.roles.plans
-      names-kept = λ k e below. known-still _ d.names.results (name ∷ []) (r.results.plan_names k e below)
+      plans-now : AreGivenAfter plan_given [] d.roles.plans
+      plans-now = still-given plan_given [] d.roles.plans (old-plans c)
 
-      result-kept : (plans : List (List ℕ)) → result_given c ≡ results ∷ [] → disturbs_after d.disturbs c ≡ d.disturbs
+      tables-now : AreGivenAfter table_given first d.roles.tables
+      tables-now = still-given table_given first d.roles.tables (old-tables c)
+
+      result-kept : (plans tables : List (List ℕ)) → result_given c ≡ results ∷ [] → disturbs_after d.disturbs c ≡ d.disturbs
           → repeats d.names.results (name ∷ []) ≡ false → list_any (is_long d.version) (name ∷ []) ≡ false
           → nat_lt (greatest d.version limit.commands) (length d.commands + 1) ≡ false
-          → IsCommandOf d.version p d.things (length named) c → NamesEarlier d.commands c → All IsNamed plans → All IsPlanAfter plans
-          → AreInRange (given c named (record d.roles { plans = plans; tables = d.roles.tables ++ name ∷ [] }))
-      result-kept plans gives disturbs single short full is_command earlier known numbers =
+          → IsCommandOf d.version p d.things (length named) c → NamesEarlier first d.commands c → AreGivenAfter plan_given [] plans
+          → AreGivenAfter table_given first tables → AreInRange (given c named (record d.roles { plans = plans; tables = tables }))
+      result-kept plans tables gives disturbs single short full is_command earlier plans_are tables_are =
           let count = length-append d.names.results (name ∷ []) in
-          command-kept c named (record d.roles { plans = plans; tables = d.roles.tables ++ name ∷ [] })
+          command-kept c named (record d.roles { plans = plans; tables = tables })
           (omega (arith, disturbs, r.few_disturbs)) full
           (names-more d.version d.names.results (name ∷ []) r.names.results single short)
           (ap (λ t. range_with_len 0 results ++ t) gives ∙ one-more-result results ∙ ap (range_with_len 0) (sym count))
-          (omega (arith, count)) (omega (arith, count)) is_command earlier (assumption r.roles) (ap (λ t. t ++ name ∷ []) r.results.tables)
-          known numbers
+          (omega (arith, count)) (omega (arith, count)) is_command earlier (assumption r.roles) plans_are tables_are
+
+      -- a command that gives a table
+      given-kept : result_given c ≡ results ∷ [] → disturbs_after d.disturbs c ≡ d.disturbs → table_given c ≡ results ∷ []
+          → repeats d.names.results (name ∷ []) ≡ false → list_any (is_long d.version) (name ∷ []) ≡ false
+          → nat_lt (greatest d.version limit.commands) (length d.commands + 1) ≡ false
+          → IsCommandOf d.version p d.things (length named) c → NamesEarlier first d.commands c
+          → AreInRange (given c named (record d.roles { tables = d.roles.tables ++ name ∷ [] }))
+      given-kept gives disturbs gives_table single short full is_command earlier =
+          result-kept d.roles.plans (d.roles.tables ++ name ∷ []) gives disturbs single short full is_command earlier plans-now
+          (new-given table_given first d.roles.tables gives_table single tables-now)
 
     pub learn-kept : (name source : List ℕ) → Keeps n top (learn name source)
     learn-kept name source f = let count = length-append d.names.results (name ∷ []) in
@@ -522,8 +711,7 @@ module _ (n : ℕ) (d : Declared) where
         r.results.plans f.known.0 in
         let known = at-name (λ m. has_name m d.names.results ≡ true) d.roles.plans source r.results.plan_names f.known.0 in
         let below = number-below source d.names.results known in
-        result-kept name c d.roles.plans refl refl f.single.0 f.short.0 f.limits.0 (omega (arith, count), omega (arith, count, below)) among
-        (names-kept name c) (plans-kept name c)
+        given-kept name c refl refl refl f.single.0 f.short.0 f.limits.0 (omega (arith, count), omega (arith, count, below)) among
 
     -- pairs of numbers of which none is too great
     abbrev AreSmall : ℕ × ℕ → Type 0
@@ -539,12 +727,12 @@ module _ (n : ℕ) (d : Declared) where
     edit-kept name source prefix ps filled f = let count = length-append d.names.results (name ∷ []) in
         let c = Edit results (number_in source d.names.results) prefix ps in let below = known-result source f.known.0 in
         let great = or_parts (nat_lt last_number prefix) _ f.limits.1.0 in
-        result-kept name c d.roles.plans refl refl f.single.0 f.short.0 f.limits.0 (
+        given-kept name c refl refl refl f.single.0 f.short.0 f.limits.0 (
           omega (arith, count),
           omega (arith, count, below),
           at-most _ _ great.0,
           record { some = some-items ps filled; few = at-most _ _ f.limits.1.1.0; numbers = small-pairs ps great.1 },
-        ) (named-earlier source f.known.0) (names-kept name c) (plans-kept name c)
+        ) (named-earlier source f.known.0)
 
     pub plan-kept : (name : List ℕ) (xs : List SignedAtom) → (not (is_empty xs) && true) ≡ true → Keeps n top (plan name xs)
     plan-kept name xs filled f = let has : HasAtoms (line_of (plan name xs)) xs = record { atoms = refl; arguments = refl } in
@@ -552,9 +740,7 @@ module _ (n : ℕ) (d : Declared) where
         let size : length goal ≡ length xs = length-map xs (atom_of top variables) in let least = some-items xs filled in
         let most : length xs ≤ greatest d.version limit.goal_atoms = at-most _ _ f.limits.1.0 in
         let count = length-append d.names.results (name ∷ []) in let c = Plan results goal (length variables) in
-        let number : results ≡ number_in name (d.names.results ++ name ∷ []) = sym
-        (number-new name d.names.results [] (is-new d.names.results name f.single.0)) in
-        result-kept name c (d.roles.plans ++ name ∷ []) refl refl f.single.0 f.short.0 f.limits.1.1.0 (
+        result-kept name c (d.roles.plans ++ name ∷ []) (d.roles.tables ++ name ∷ []) refl refl f.single.0 f.short.0 f.limits.1.1.0 (
           omega (arith, count),
           record {
             some = omega (arith, size, least);
@@ -564,6 +750,5 @@ module _ (n : ℕ) (d : Declared) where
             atoms = atoms-open top r xs refl goals refl (atoms-right top (plan name xs) xs has f.right);
             numbered = numbered top xs refl;
           },
-        ) tt (All-push (IsNamed name c) d.roles.plans name (names-kept name c) (known-last name d.names.results []))
-        (All-push (IsPlanAfter name c) d.roles.plans name (plans-kept name c)
-        (subst (IsAmong (flat_map plan_given (d.commands ++ c ∷ []))) number (among-last d.commands results c refl)))
+        ) tt (new-given name c plan_given [] d.roles.plans refl f.single.0 (plans-now name c))
+        (new-given name c table_given first d.roles.tables refl f.single.0 (tables-now name c))

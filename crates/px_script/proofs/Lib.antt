@@ -19,6 +19,7 @@ pub mod Commands
 pub mod Buildings
 pub mod Atoms
 pub mod KeptLines
+pub mod KeptTables
 pub mod Kept
 -- the law of one reading
 pub mod Law

@@ -59,7 +59,7 @@ each-more P xs x d each last = each-pushed (λ k y. P (take k (xs ++ x ∷ [])) 
 
 -- ---- places
 
-within : {A : Type 0} (p : A → Bool) (xs : List A) → nat_lt (prefix_len (λ x. not (p x)) xs) (length xs) ≡ list_any p xs
+pub within : {A : Type 0} (p : A → Bool) (xs : List A) → nat_lt (prefix_len (λ x. not (p x)) xs) (length xs) ≡ list_any p xs
 within p [] = refl
 within p (x ∷ xs) = by_test (p x) (λ e. rw e (grind (arith, nat_tests)))
     (λ e. rw e (later (prefix_len (λ y. not (p y)) xs) (length xs) ∙ within p xs))
@@ -85,7 +85,7 @@ module _ {A : Type 0} (p : A → Bool) where
       let both = or_parts (p x) (list_any p xs) none in let rest = place-after xs ys both.1 in rw both.0 (omega (arith, rest))
 
 -- a name that is there has its place as its number, and one that isn't has 0
-number-known : (n : List ℕ) (names : List (List ℕ)) → has_name n names ≡ true → number_in n names ≡ position_or_len (bytes_eq n) names
+pub number-known : (n : List ℕ) (names : List (List ℕ)) → has_name n names ≡ true → number_in n names ≡ position_or_len (bytes_eq n) names
 number-known n names known = rw (within (bytes_eq n) names, known) refl
 
 pub number-unknown : (n : List ℕ) (names : List (List ℕ)) → has_name n names ≡ false → number_in n names ≡ 0
@@ -116,6 +116,14 @@ pub number-new : (n : List ℕ) (names more : List (List ℕ)) → has_name n na
 number-new n names more unknown = let first : position_or_len (bytes_eq n) (n ∷ more) ≡ 0 = rw (bytes_eq-itself n) refl in
     let all = number-known n (names ++ n ∷ more) (known-last n names more) ∙ place-after (bytes_eq n) names (n ∷ more) unknown in
     omega (arith, all, first)
+
+-- a name that only the later names have
+pub number-after : (n : List ℕ) (names more : List (List ℕ)) → has_name n names ≡ false → has_name n more ≡ true
+    → number_in n (names ++ more) ≡ length names + number_in n more
+number-after n names more unknown known = let all : has_name n (names ++ more) ≡ true = list_any-append (bytes_eq n) names more
+    ∙ ap (λ b. b || has_name n more) unknown ∙ known in
+    let there = number-known n (names ++ more) all ∙ place-after (bytes_eq n) names more unknown in
+    let here = number-known n more known in omega (arith, there, here)
 
 -- names with one number are one name
 pub same-number : (m n : List ℕ) (names : List (List ℕ)) → has_name m names ≡ true → has_name n names ≡ true

@@ -1,5 +1,5 @@
 -- The reader by the table reads exactly the forms of lines: each spelling back, and nothing else.
-use Rattle.px_script.proofs.Common.{◌≡◌, ℕ, Bool, true, false, List, [], ◌∷◌, ◌++◌, map, length, drop, refl, sym, ap, ◌∙◌, subst, append_assoc, append-nil, flat_map-append, Option, None, Some, is_some, codes, AllByRecursion, list_any, flat_map, option_map, option_and_then, IfSome, bytes_eq, if◌then◌else◌, ◌||◌, ◌==◌, not-true, and_parts, Lexeme, name, number, SignedAtom, spell, spell_atom, spell_binding, spell_room_edit, open_word, time_word, is_word, Line, line_of, spelling, Declared, has_building, Forms, is_formed, Statement, inside, plain, goals, atom_changes, operator_block, building_block, script, «axiom», pre, delete, add, building, door, end, fact, height, nodes, shapes, disturb_atoms, disturb_rooms, run, facts, duo, spell_pair, save, certify, edit, table, step, goal, proof, spell_part, table_terms, table_goals, table_steps, table_rows}
+use Rattle.px_script.proofs.Common.{◌≡◌, ℕ, Bool, true, false, List, [], ◌∷◌, ◌++◌, map, length, drop, refl, sym, ap, ◌∙◌, subst, append_assoc, append-nil, flat_map-append, Option, None, Some, is_some, codes, AllByRecursion, list_any, flat_map, option_map, option_and_then, IfSome, bytes_eq, if◌then◌else◌, ◌||◌, not-true, and_parts, Lexeme, name, number, SignedAtom, spell, spell_atom, spell_binding, spell_room_edit, open_word, time_word, is_word, Line, line_of, spelling, Declared, has_building, Forms, is_formed, Statement, inside, plain, goals, atom_changes, operator_block, building_block, script, «axiom», pre, delete, add, building, door, end, fact, height, nodes, shapes, disturb_atoms, disturb_rooms, run, facts, duo, spell_pair, save, certify, edit, step, goal, proof, spell_part, table_terms, table_steps, table_rows, not, ◌&&◌, nat_le, weight, words_of_all, words_of_two, words_of_three, list_any-append, nat_tests, arith, ◌<◌, ◌≤◌}
 use Rattle.px_script.specs.Items.{Item, the, amount, amounts, new, declared, listed, known, wanted, atoms, bindings, room_edits, an_object, a_predicate, an_operator, a_parameter, a_sort, a_room as room_name, a_door as door_name, a_box as box_name, a_plan, a_table, pairs, a_result, arguments, proofs}
 use Rattle.px_script.specs.Statements.{room_changes, line, spelling_of, domain, opens, command}
 use Rattle.px_script.specs.declared.kinds.One.{One}
@@ -8,7 +8,7 @@ use Rattle.px_script.specs.declared.kinds.Last.{Last}
 use Rattle.px_script.specs.declared.kinds.Last.TheVariants as last
 use Rattle.px_script.proofs.Lists.{by_test}
 use Rattle.px_script.proofs.Parsing.{names_of, names_at, at_end, all_of, atom_at, binding_at, room_edit_at, which, numbers_of, pair_at, items_at, argument_of, part_at}
-use Rattle.px_script.proofs.Rows.{Row, Entry, chosen, one_of, ones_at, last_at, row_items, entries, entries_of_all, entries_of_two, is_of, entry_among, entry_of, row_of, filled, make_number, make_object, make_predicate, make_operator, make_atoms, make_nothing, make_room, make_door, make_box, make_robot, make_plan, make_learn, make_show, make_disturb, make_run, make_sort, make_param, line_by, line_at, formed_only, formed_line, statement_of, parse, disturb_row, make_duo, make_of_table, make_edit, make_pursue, make_table, make_step, make_proof}
+use Rattle.px_script.proofs.Rows.{Row, Entry, chosen, one_of, ones_at, last_at, row_items, entries, entries_of_all, entries_of_two, entries_of_three, is_of, entry_among, entry_of, row_of, filled, make_number, make_object, make_predicate, make_operator, make_atoms, make_nothing, make_room, make_door, make_box, make_robot, make_plan, make_learn, make_show, make_disturb, make_run, make_sort, make_param, line_by, line_at, formed_only, formed_line, statement_of, parse, disturb_row, make_duo, make_of_table, make_edit, make_pursue, make_table, make_step, make_proof}
 use Rattle.px_script.proofs.Forms.{IsWellFormed, well-formed, then-there, map-there, if-there, same_word, there, all-sound, names-again, names-sound, names-at-sound, parameters-again, which-sound, atoms-again, edits-again, bindings-again, atom-sound, binding-sound, room-edit-sound, numbers-again, numbers-sound, pairs-again, pair-sound, part-sound, parts-again, arguments-all-sound, arguments-all-again}
 
 -- ---- what is read by a row is spelled so: once for all words
@@ -92,36 +92,55 @@ has_word version (Some r) = is_of version r
 abbrev among : ℕ → List ℕ → List Entry → Bool
 among version w es = has_word version (option_map (λ e. e.row) (entry_among w es))
 
-or-true : (b : Bool) → (b || true) ≡ true
-or-true true = refl
-or-true false = refl
+abbrev word_in : List ℕ → List Entry → Bool
+word_in w es = list_any (bytes_eq w) (map (λ (e : Entry). e.row.word) es)
 
-all-new : (version : ℕ) (w : List ℕ) (es : List Entry) → (version == 2) ≡ true → among version w es
-    ≡ is_some (option_map (λ e. e.row) (entry_among w es))
-all-new version w es two = told (entry_among w es)
-  where
-    told : (o : Option Entry) → has_word version (option_map (λ (e : Entry). e.row) o) ≡ is_some (option_map (λ (e : Entry). e.row) o)
-    told None = refl
-    told (Some e) = ap (λ b. (e.row.since == 1) || b) two ∙ or-true (e.row.since == 1)
+-- among words that the version has, and among others
+all-of : (version : ℕ) (w : List ℕ) (es more : List Entry) → AllByRecursion (λ (e : Entry). is_of version e.row ≡ true) es
+    → among version w (es ++ more) ≡ (word_in w es || among version w more)
+all-of version w [] more are = refl
+all-of version w (e ∷ es) more are = by_test (bytes_eq w e.row.word) (λ same. rw (same, are.0) refl)
+    (λ other. rw other (all-of version w es more are.1))
 
-none-old : (version : ℕ) (w : List ℕ) (es : List Entry) → (version == 2) ≡ false
-    → AllByRecursion (λ (e : Entry). (e.row.since == 1) ≡ false) es → among version w es ≡ false
-none-old version w [] old new = refl
-none-old version w (e ∷ more) old new = by_test (bytes_eq w e.row.word) (λ same. rw (same, new.0, old) refl)
-    (λ other. rw other (none-old version w more old new.1))
+none-of : (version : ℕ) (w : List ℕ) (es more : List Entry) → AllByRecursion (λ (e : Entry). is_of version e.row ≡ false) es
+    → among version w (es ++ more) ≡ (not (word_in w es) && among version w more)
+none-of version w [] more are = refl
+none-of version w (e ∷ es) more are = by_test (bytes_eq w e.row.word) (λ same. rw (same, are.0) refl)
+    (λ other. rw other (none-of version w es more are.1))
 
-all-old : (version : ℕ) (w : List ℕ) (es more : List Entry) → (version == 2) ≡ false
-    → AllByRecursion (λ (e : Entry). (e.row.since == 1) ≡ true) es → AllByRecursion (λ (e : Entry). (e.row.since == 1) ≡ false) more
-    → among version w (es ++ more) ≡ list_any (bytes_eq w) (map (λ (e : Entry). e.row.word) es)
-all-old version w [] more old first new = none-old version w more old new
-all-old version w (e ∷ es) more old first new = by_test (bytes_eq w e.row.word) (λ same. rw (same, first.0) refl)
-    (λ other. rw other (all-old version w es more old first.1 new))
+and-false : (b : Bool) → (b && false) ≡ false
+and-false true = refl
+and-false false = refl
+
+or-false : (b : Bool) → (b || false) ≡ b
+or-false true = refl
+or-false false = refl
 
 -- the words of a version are those of the table that it has
 pub row-is_word : (version : ℕ) (b : Bool) (w : List ℕ) → has_word version (row_of b w) ≡ is_word version w
-row-is_word version b w = by_test (version == 2)
-    (λ two. all-new version w (entries b) two ∙ some-among w (entries b) ∙ rw two refl)
-    (λ old. all-old version w (entries_of_all b) entries_of_two old (search depth 60) (search depth 6) ∙ rw old refl)
+row-is_word version b w = all-of version w (entries_of_all b) (entries_of_two ++ entries_of_three) (search depth 60)
+    ∙ ap (λ c. word_in w (entries_of_all b) || c) (newer-words (nat_le 2 version) (nat_le 3 version) refl refl)
+    ∙ sym (list_any-append (bytes_eq w) words_of_all _)
+  where
+    newer-words : (two three : Bool) → nat_le 2 version ≡ two → nat_le 3 version ≡ three
+        → among version w (entries_of_two ++ entries_of_three)
+        ≡ list_any (bytes_eq w) ((if two then words_of_two else []) ++ (if three then words_of_three else []))
+    newer-words true true two three = all-of version w entries_of_two entries_of_three (search depth 20)
+        ∙ ap (λ c. word_in w entries_of_two || c) (all-of version w entries_of_three [] (search depth 6))
+        ∙ ap (λ c. word_in w entries_of_two || c) (or-false (word_in w entries_of_three))
+        ∙ sym (list_any-append (bytes_eq w) words_of_two words_of_three)
+    newer-words true false two three = all-of version w entries_of_two entries_of_three (search depth 20)
+        ∙ ap (λ c. word_in w entries_of_two || c) (none-of version w entries_of_three [] (search depth 6) ∙ and-false (not (word_in w entries_of_three)))
+        ∙ sym (list_any-append (bytes_eq w) words_of_two [])
+    newer-words false false two three = none-of version w entries_of_two entries_of_three (search depth 20)
+        ∙ ap (λ c. not (word_in w entries_of_two) && c)
+        (none-of version w entries_of_three [] (search depth 6) ∙ and-false (not (word_in w entries_of_three)))
+        ∙ and-false (not (word_in w entries_of_two))
+    newer-words false true two three = absurd (impossible two three)
+      where
+        impossible : nat_le 2 version ≡ false → nat_le 3 version ≡ true → ⊥
+        impossible two three = let most : 3 ≤ version = grind (arith, nat_tests, three) in
+            let least : version < 2 = grind (arith, nat_tests, two) in omega (arith, most, least)
 
 -- the line of a row is told by its items
 abbrev pub IsMade : Entry → Type 0
@@ -256,7 +275,7 @@ all-made b = also (made-number script _ (λ n. refl)) (also made-object (also ma
     (made-number shapes _ (λ n. refl)) (also made-plan (also made-learn (also made-show (also (made-disturb b) (also made-run (also
     (made-nothing facts _ refl) (also made-sort (also made-param (also made-table (also made-step
     (also (made-atoms goal _ (λ xs. refl)) (also made-proof (also (made-of-table save _ (λ n. refl)) (also (made-of-table certify _ (λ n. refl))
-    (also made-edit (also made-duo (also made-pursue tt))))))))))))))))))))))))))))))))))
+    (also made-edit (also made-duo (also made-pursue (also (made-number weight _ (λ n. refl)) tt)))))))))))))))))))))))))))))))))))
 
 -- the row of a word is the row of its own word
 pub has-row : (b : Bool) (w : List ℕ) → IfSome (row_of b w) (λ r. row_of b r.word ≡ Some r)

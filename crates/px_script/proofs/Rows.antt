@@ -1,5 +1,5 @@
 -- The table of the words: what each line has in which order; a plain reader by the table, and the statement that items are.
-use Rattle.px_script.proofs.Common.{SignedAtom, ℕ, Bool, true, false, List, [], ◌∷◌, ◌++◌, length, drop, Option, None, Some, codes, if◌then◌else◌, ◌||◌, ◌==◌, bytes_eq, option_map, option_and_then, Lexeme, name, number, Manner, Place, Line, Declared, has_building, is_formed, Statement, inside, plain, patterns, literals, goals, atom_changes, operator_block, building_block, script, object, predicate, «axiom», operator, pre, delete, add, building, room, door, box, robot, end, fact, height, nodes, shapes, plan, learn, show, disturb_atoms, disturb_rooms, run, facts, sort, param, duo, save, certify, edit, pursue, table, step, goal, proof, table_terms, table_goals, table_steps, table_rows}
+use Rattle.px_script.proofs.Common.{SignedAtom, ℕ, Bool, true, false, List, [], ◌∷◌, ◌++◌, length, drop, Option, None, Some, codes, if◌then◌else◌, ◌||◌, ◌==◌, nat_le, bytes_eq, option_map, option_and_then, Lexeme, name, number, Manner, Place, Line, Declared, has_building, is_formed, Statement, inside, plain, patterns, literals, goals, atom_changes, operator_block, building_block, script, object, predicate, «axiom», operator, pre, delete, add, building, room, door, box, robot, end, fact, height, nodes, shapes, weight, plan, learn, show, disturb_atoms, disturb_rooms, run, facts, sort, param, duo, save, certify, edit, pursue, table, step, goal, proof, table_terms, table_goals, table_steps, table_rows}
 use Rattle.px_script.specs.Items.{Item, the, amount, amounts, new, declared, listed, known, wanted, atoms, bindings, room_edits, an_object, a_predicate, an_operator, a_parameter, a_sort, a_room as room_name, a_door as door_name, a_box as box_name, a_plan, a_table, pairs, a_result, arguments, proofs}
 use Rattle.px_script.specs.Statements.{room_changes, line, first, domain, setting, opens, closes, command}
 use Rattle.px_script.specs.declared.kinds.Choice.{Choice}
@@ -22,13 +22,13 @@ pub record Row : Type 0 where
 abbrev pub row : List ℕ → Place → Manner → List One → Last → Row
 row word place manner ones last = record { word = word; since = 1; place = place; manner = manner; ones = ones; last = last }
 
--- the row as one that version 2 is the first to have
-abbrev pub newer : Row → Row
-newer r = record r { since = 2 }
+-- the row as one that this version is the first to have
+abbrev pub newer : ℕ → Row → Row
+newer version r = record r { since = version }
 
 -- the version has the row's word
 abbrev pub is_of : ℕ → Row → Bool
-is_of version r = (r.since == 1) || (version == 2)
+is_of version r = (r.since == 1) || nat_le r.since version
 
 -- ---- reading by a row
 
@@ -222,24 +222,36 @@ entries_of_all b =
     ∷ entry (row (codes "facts") command plain [] last.Nothing) (make_nothing facts)
     ∷ []
 
--- those that only version 2 has
-abbrev pub entries_of_two : List Entry
-entries_of_two = entry (newer (row (codes "sort") domain plain (one.New a_sort ∷ []) (last.New an_object))) make_sort
-    ∷ entry (newer (row (codes "param") (inside operator_block) plain (one.Known a_sort ∷ []) (last.Known a_parameter))) make_param
-    ∷ entry (newer (row (codes "table") (opens table_steps) plain (one.New a_table ∷ one.Number ∷ []) last.Nothing)) make_table
-    ∷ entry (newer (row (codes "step") (inside table_steps) table_terms (one.Known an_operator ∷ []) last.Arguments)) make_step
-    ∷ entry (newer (row (codes "goal") (inside table_steps) table_goals [] last.Atoms)) (make_atoms goal)
-    ∷ entry (newer (row (codes "proof") (inside table_rows) table_terms [] last.Proofs)) make_proof
-    ∷ entry (newer (row (codes "save") command plain (one.Known a_table ∷ []) last.Nothing)) (make_of_table save)
-    ∷ entry (newer (row (codes "certify") command plain (one.Known a_table ∷ []) last.Nothing)) (make_of_table certify)
-    ∷ entry (newer (row (codes "edit") command plain
-    (one.New a_table ∷ one.Word choice.Source ∷ one.Known a_table ∷ one.Number ∷ []) last.Pairs)) make_edit
-    ∷ entry (newer (row (codes "duo") command plain (one.Known a_table ∷ one.Known a_table ∷ []) last.Numbers)) make_duo
-    ∷ entry (newer (row (codes "pursue") command goals (one.New a_result ∷ []) last.Atoms)) make_pursue
+-- those of a table's block
+abbrev pub entries_of_tables : List Entry
+entries_of_tables = entry (newer 2 (row (codes "table") (opens table_steps) plain (one.New a_table ∷ one.Number ∷ []) last.Nothing)) make_table
+    ∷ entry (newer 2 (row (codes "step") (inside table_steps) table_terms (one.Known an_operator ∷ []) last.Arguments)) make_step
+    ∷ entry (newer 2 (row (codes "goal") (inside table_steps) table_goals [] last.Atoms)) (make_atoms goal)
+    ∷ entry (newer 2 (row (codes "proof") (inside table_rows) table_terms [] last.Proofs)) make_proof
     ∷ []
 
+-- the commands of version 2
+abbrev pub entries_of_commands : List Entry
+entries_of_commands = entry (newer 2 (row (codes "save") command plain (one.Known a_table ∷ []) last.Nothing)) (make_of_table save)
+    ∷ entry (newer 2 (row (codes "certify") command plain (one.Known a_table ∷ []) last.Nothing)) (make_of_table certify)
+    ∷ entry (newer 2 (row (codes "edit") command plain
+    (one.New a_table ∷ one.Word choice.Source ∷ one.Known a_table ∷ one.Number ∷ []) last.Pairs)) make_edit
+    ∷ entry (newer 2 (row (codes "duo") command plain (one.Known a_table ∷ one.Known a_table ∷ []) last.Numbers)) make_duo
+    ∷ entry (newer 2 (row (codes "pursue") command goals (one.New a_result ∷ []) last.Atoms)) make_pursue
+    ∷ []
+
+-- those that version 2 is the first to have
+abbrev pub entries_of_two : List Entry
+entries_of_two = entry (newer 2 (row (codes "sort") domain plain (one.New a_sort ∷ []) (last.New an_object))) make_sort
+    ∷ entry (newer 2 (row (codes "param") (inside operator_block) plain (one.Known a_sort ∷ []) (last.Known a_parameter))) make_param
+    ∷ (entries_of_tables ++ entries_of_commands)
+
+-- those that version 3 is the first to have
+abbrev pub entries_of_three : List Entry
+entries_of_three = entry (newer 3 (row (codes "weight") setting plain (one.Number ∷ []) last.Nothing)) (make_number weight) ∷ []
+
 abbrev pub entries : Bool → List Entry
-entries b = entries_of_all b ++ entries_of_two
+entries b = entries_of_all b ++ (entries_of_two ++ entries_of_three)
 
 abbrev pub entry_among : List ℕ → List Entry → Option Entry
 entry_among w [] = None

@@ -1,6 +1,6 @@
 -- What the lines so far keep: that what they have declared is in range. No part of what a script is, but of how that is shown.
 use Rattle.px_script.specs.Limits as limit
-use Rattle.px_script.proofs.Common.{greatest, Bool, IsWithin, of_version, AreNamesOf, ◌≡◌, ◌≤◌, ◌+◌, ℕ, true, false, List, [], length, take, Option, None, Some, All, IfSome, EachIndex, is_some, fold, slice_index_or, unwrap_or, flat_map, list_any, NameLists, has_name, IsBoxAt, IsDoorAt, IsRoomAt, StandsRight, robot_rooms, standings, IsSchemaOf, Problem, Thing, Command, Declared, OpenOperator, Roles, operator_here, number_in, block_here, predicate_names, predicate_arities, operator_names, Block, building_block, is_robot, own_problem, NamesInRange, ProblemInRange, FactsInRange, CommandsInRange, HasShortLists, IsAmong, IsThingAfter, plan_given, disturbs_after, robot_name}
+use Rattle.px_script.proofs.Common.{problem_here, WrittenTable, BlockKind, OpenBlock, of_table_steps, of_table_rows, IsSavedTable, IsTableBefore, goal_place, last_number, height_of, HasNoOpenPlace, max, map, ◌∷◌, ◌++◌, greatest, Bool, IsWithin, of_version, AreNamesOf, ◌≡◌, ◌≤◌, ◌+◌, ℕ, true, false, List, [], length, take, Option, None, Some, All, IfSome, EachIndex, is_some, fold, slice_index_or, unwrap_or, flat_map, list_any, NameLists, has_name, IsBoxAt, IsDoorAt, IsRoomAt, StandsRight, robot_rooms, standings, IsSchemaOf, Problem, Thing, Command, Declared, OpenOperator, Roles, operator_here, number_in, block_here, predicate_names, predicate_arities, operator_names, Block, building_block, is_robot, own_problem, NamesInRange, ProblemInRange, FactsInRange, CommandsInRange, HasShortLists, IsAmong, IsThingAfter, plan_given, disturbs_after, robot_name}
 use Rattle.px_world.specs.declared.thing.Thing.TheVariants.{Room}
 
 -- The operator is in range, and has the number that its schema will have.
@@ -39,13 +39,49 @@ pub record IsBegun (objects predicates operators : List (List ℕ)) (arities : L
   pub operators_are : operators ≡ operator_names
   pub arities_are : arities ≡ predicate_arities
 
--- Plans and tables are results of commands.
-pub record ResultsInRange (results : List (List ℕ)) (roles : Roles) (commands : List Command) (since_run : ℕ) : Type 0 where
+-- Plans are results of commands, and tables those of blocks and of commands.
+pub record ResultsInRange (from_blocks : List ℕ) (results : List (List ℕ)) (roles : Roles) (commands : List Command) (since_run : ℕ)
+    : Type 0 where
   pub plan_names : All (λ n. has_name n results ≡ true) roles.plans
   pub plans : All (λ n. IsAmong (flat_map plan_given commands) (number_in n results)) roles.plans
-  pub tables : roles.tables ≡ results
-  pub few : length results ≤ length commands
+  pub table_names : All (λ n. has_name n results ≡ true) roles.tables
+  pub tables : All (λ n. IsTableBefore from_blocks commands (number_in n results)) roles.tables
+  pub few : length results ≤ length from_blocks + length commands
   pub disturbs : since_run ≡ fold disturbs_after 0 commands
+
+-- What the lines of a table's block keep: the table is within the limits, its proofs have no open place, and from its goal on that has an
+-- atom, its last variable occurs, and it has no arguments where there are no objects.
+pub record IsTableBegun (version : ℕ) (t : WrittenTable) : Type 0 where
+  pub short : length t.steps ≤ greatest version limit.table_steps
+  pub few_parameters : t.parameters ≤ last_number
+  pub low : All (All (λ d. height_of d ≤ greatest version limit.proof_height)) t.rows
+  pub closed : All (All HasNoOpenPlace) t.rows
+
+pub record IsTableAimed (version objects : ℕ) (t : WrittenTable) : Type 0 where
+  pub begun : IsTableBegun version t
+  pub some : 1 ≤ length t.goal
+  pub few_atoms : length t.goal ≤ greatest version limit.goal_atoms
+  pub few_variables : t.goal_vars ≤ greatest version limit.variables
+  pub last_occurs : t.goal_vars ≡ fold max 0 (map (goal_place t.parameters) (flat_map (λ atom. atom.args) t.goal))
+  pub no_objects : objects ≡ 0 → flat_map (λ atom. atom.args) t.goal ≡ []
+
+abbrev pub IsBlockInRange : ℕ → ℕ → BlockKind → Type 0
+IsBlockInRange version objects (of_table_steps t) = IsTableBegun version t
+IsBlockInRange version objects (of_table_rows t) = IsTableAimed version objects t
+IsBlockInRange version objects kind = Unit {0}
+
+-- the results that blocks of tables give: those that are closed, then that which is open
+abbrev pub open_result : BlockKind → List ℕ
+open_result (of_table_steps t) = t.name ∷ []
+open_result (of_table_rows t) = t.name ∷ []
+open_result kind = []
+
+abbrev pub open_result_here : Option OpenBlock → List ℕ
+open_result_here None = []
+open_result_here (Some block) = open_result block.kind
+
+abbrev pub from_blocks : Declared → List ℕ
+from_blocks d = map (λ one. one.0) d.saved ++ open_result_here d.block
 
 -- nothing of a domain
 pub record HasNoDomain (names : NameLists) (all_arities : List ℕ) : Type 0 where
@@ -81,6 +117,9 @@ pub record AreInRange (d : Declared) : Type 0 where
   pub roles : AreRolesOf d.names.objects d.roles (unwrap_or d.things [])
   pub block : SuitsBlock (block_here d) d.things
   pub own_domain : d.own_domain ≡ false → d.things ≡ None → HasNoDomain d.names d.arities
-  pub commands : CommandsInRange d.version (own_problem d) d.things (length d.names.results) d.commands
-  pub results : ResultsInRange d.names.results d.roles d.commands d.disturbs
+  pub saved : All (λ one. IsSavedTable d.version (problem_here d) one.1) d.saved
+  pub few_saved : length (from_blocks d) ≤ greatest d.version limit.tables
+  pub table_block : IfSome d.block (λ block. IsBlockInRange d.version (length d.names.objects) block.kind)
+  pub commands : CommandsInRange d.version (own_problem d) d.things (from_blocks d) (length d.names.results) d.commands
+  pub results : ResultsInRange (from_blocks d) d.names.results d.roles d.commands d.disturbs
   pub few_disturbs : d.disturbs ≤ greatest d.version limit.disturbs

@@ -5,25 +5,29 @@ use Rattle.std.specs.List.{flat_map, range_with_len}
 use Rattle.std.specs.Option.{option_map}
 use Rattle.std.specs.Str.{bytes_eq}
 use Rattle.px_terms.specs.Problems.{schema_without_sorts}
-use Rattle.px_script.specs.Common.{Clause, NameLists, no_names, has_name, RoomOperator, RoomPredicate, robot_name, room_operators, room_predicates, Atom, Lit, Schema, Term, Obj, Var, Any, atom_set, AtomEdit, RoomEdit, Thing, OpInst}
+use Rattle.px_script.specs.Common.{building_problem, Clause, NameLists, Problem, no_names, has_name, RoomOperator, RoomPredicate, robot_name, room_operators, room_predicates, Atom, Lit, Schema, Term, Obj, Var, Any, atom_set, AtomEdit, RoomEdit, Thing, OpInst}
 use Rattle.px_proof.specs.Derivation as derivation
+use Rattle.px_proof.specs.LayerLaws.{proof_of}
+use Rattle.px_table.specs.declared.table.Table.{Table}
+use Rattle.px_table.specs.Tables.{table_of_rows}
+use Rattle.px_table.specs.WellSorted.{sorts_by_places}
 use Rattle.px_proof.specs.Derivation.{Derivation, derivations}
 use Rattle.px_world.specs.declared.edits.AtomEdit.TheVariants as atom_edit
 use Rattle.px_world.specs.declared.edits.RoomEdit.TheVariants as room_edit
 use Rattle.px_world.specs.declared.thing.Thing.TheVariants as thing
 use Rattle.px_script.specs.Items.{Named, Argument, SignedAtom, Sign, WrittenRoomEdit, Binding, named, open_variable, anything, bare, added, robot_to, box_to, door_to, declared_in, an_object, a_predicate, an_operator, a_result, a_parameter, a_sort, a_room, a_door, a_box, a_plan, a_table, Part, a_fact, an_ancestor, an_axiom}
-use Rattle.px_script.specs.Statements.{Statement, Line, Place, Block, line_of, domain, opens, operator_block, building_block, table_steps, table_rows, script, object, predicate, «axiom», operator, pre, delete, add, building, room, door, box, robot, end, fact, height, nodes, shapes, plan, learn, show, disturb_atoms, disturb_rooms, run, facts, sort, param, duo, save, certify, edit, pursue, table, step, goal, proof}
+use Rattle.px_script.specs.Statements.{Statement, Line, Place, Block, line_of, domain, opens, operator_block, building_block, table_steps, table_rows, script, object, predicate, «axiom», operator, pre, delete, add, building, room, door, box, robot, end, fact, height, nodes, shapes, weight, plan, learn, show, disturb_atoms, disturb_rooms, run, facts, sort, param, duo, save, certify, edit, pursue, table, step, goal, proof}
 use Rattle.px_script.specs.Limits as limit
-use Rattle.px_script.specs.Limits.{greatest}
-use Rattle.px_script.specs.Commands.{Command, Plan, Learn, Show, DisturbAtoms, DisturbRooms, Run, Facts, Duo, Edit}
+use Rattle.px_script.specs.Limits.{greatest, default_height, default_nodes, default_shapes, default_weight}
+use Rattle.px_script.specs.Commands.{Command, Plan, Learn, Show, Save, Certify, DisturbAtoms, DisturbRooms, Run, Facts, Duo, Edit}
 
 -- the operator whose block is open: its parameters' names, and its schema so far
 pub record OpenOperator : Type 0 where
   pub parameters : List (List ℕ)
   pub schema : Schema
 
--- a table of the script, as far as its lines stood: the number of its name, how many parameters it has, its steps, its goal with the
--- greatest number of a variable of it, and the proofs of its rows
+-- a table of the script whose block is open, as far as its lines stood: the number of its name, how many parameters it has, its steps, its
+-- goal with the greatest number of a variable of it, and the proofs of its rows
 pub record WrittenTable : Type 0 where
   pub name : ℕ
   pub parameters : ℕ
@@ -68,8 +72,9 @@ pub record Declared : Type 0 where
   pub height : Option ℕ
   pub nodes : Option ℕ
   pub shapes : Option ℕ
-  -- the tables of the blocks that are closed
-  pub tables : List WrittenTable
+  pub weight : Option ℕ
+  -- the tables whose blocks are closed, each with the number of its name
+  pub saved : List (ℕ × Table)
   pub commands : List Command
   -- how many lines `disturb` stood since the last `run`
   pub disturbs : ℕ
@@ -94,7 +99,8 @@ nothing_declared = record {
   height = None;
   nodes = None;
   shapes = None;
-  tables = [];
+  weight = None;
+  saved = [];
   commands = [];
   disturbs = 0;
   block = None;
@@ -258,22 +264,6 @@ abbrev pub table_here : Option OpenBlock → Option WrittenTable
 table_here None = None
 table_here (Some block) = table_in block.kind
 
--- the block closed: from its `end` on an operator's schema is the script's, and a table
-abbrev pub schema_closed : Option OpenOperator → List Schema
-schema_closed None = []
-schema_closed (Some o) = o.schema ∷ []
-
-abbrev pub table_closed : Option WrittenTable → List WrittenTable
-table_closed None = []
-table_closed (Some t) = t ∷ []
-
-abbrev pub close_block : Declared → Declared
-close_block d = record d {
-  schemas = d.schemas ++ schema_closed (operator_here d.block);
-  tables = d.tables ++ table_closed (table_here d.block);
-  block = None;
-}
-
 abbrev pub open_block : ℕ → BlockKind → Declared → Declared
 open_block n kind d = record d { block = Some (record { line = n; kind = kind }) }
 
@@ -284,6 +274,63 @@ filled_up n sorts = sorts ++ replicate (n - length sorts) 0
 -- the sort of each object
 abbrev pub object_sorts_here : Declared → List ℕ
 object_sorts_here d = filled_up (length d.names.objects) d.object_sorts
+
+-- ---- the problem that the lines so far give
+
+-- the problem with these parts, whose objects have these sorts up to the last that has one
+abbrev pub problem_with : ℕ → List ℕ → List Clause → List Schema → ℕ → ℕ → ℕ → ℕ → List ℕ → ℕ → Problem
+problem_with objects arities axioms schemas tall many wide sorts object_sorts heavy = record {
+  objects = objects;
+  arities = arities;
+  axioms = axioms;
+  schemas = schemas;
+  height = tall;
+  nodes = many;
+  shapes = wide;
+  sorts = sorts;
+  object_sorts = filled_up objects object_sorts;
+  weight = heavy;
+}
+
+-- the problem by the script's own sorts, axioms and operators, with the limits that its lines leave at their defaults
+abbrev pub own_problem : Declared → Problem
+own_problem d = problem_with (length d.names.objects) d.arities d.axioms d.schemas
+    (unwrap_or d.height default_height) (unwrap_or d.nodes (default_nodes d.version)) (unwrap_or d.shapes default_shapes)
+    (length d.sorts) d.object_sorts (unwrap_or d.weight (default_weight d.version))
+
+-- A building has the axiom and the operators of every building (`px_rooms`), with the script's limits.
+abbrev pub building_with : ℕ → ℕ → ℕ → ℕ → ℕ → Problem
+building_with objects tall many wide heavy = record (building_problem objects tall many wide) { weight = heavy }
+
+abbrev pub problem_of : Problem → Option (List Thing) → Problem
+problem_of own None = own
+problem_of own (Some things) = building_with own.objects own.height own.nodes own.shapes own.weight
+
+abbrev pub problem_here : Declared → Problem
+problem_here d = problem_of (own_problem d) d.things
+
+-- ---- the ends of blocks
+
+-- the table that these parts make, with the sorts of its parameters by their places, and with the marks of its rows
+abbrev pub table_made : Problem → WrittenTable → Table
+table_made problem t =
+    table_of_rows t.parameters (sorts_by_places problem t.steps t.parameters) t.steps t.goal t.goal_vars (map (map proof_of) t.rows)
+
+-- the block closed: from its `end` on an operator's schema is the script's, and so is a table
+abbrev pub schema_closed : Option OpenOperator → List Schema
+schema_closed None = []
+schema_closed (Some o) = o.schema ∷ []
+
+abbrev pub table_closed : Problem → Option WrittenTable → List (ℕ × Table)
+table_closed problem None = []
+table_closed problem (Some t) = (t.name, table_made problem t) ∷ []
+
+abbrev pub close_block : Declared → Declared
+close_block d = record d {
+  schemas = d.schemas ++ schema_closed (operator_here d.block);
+  saved = d.saved ++ table_closed (problem_here d) (table_here d.block);
+  block = None;
+}
 
 -- the sorts of the parameters of these names, where some of them get this one
 abbrev pub with_sort : ℕ → List (List ℕ) → List (List ℕ) → List ℕ → List ℕ
@@ -389,6 +436,7 @@ declares n d (fact xs) = record d { facts = atom_set (map (atom_of d []) xs ++ d
 declares n d (height limit) = record d { height = Some limit }
 declares n d (nodes limit) = record d { nodes = Some limit }
 declares n d (shapes limit) = record d { shapes = Some limit }
+declares n d (weight limit) = record d { weight = Some limit }
 declares n d (plan m xs) =
     with_command (Plan (length d.names.results) (map (atom_of d (variable_names_of xs)) xs) (length (variable_names_of xs))) d
 declares n d (learn m source) = with_command (Learn (length d.names.results) (number_in source d.names.results)) d
@@ -412,8 +460,8 @@ declares n d (step o ts) = in_block (change_table (λ t. record t { steps = t.st
 declares n d (goal xs) = in_block (λ kind. after_goal (change_table
     (λ t. record t { goal = map (atom_of d (table_variables d)) xs; goal_vars = goal_variables d xs }) kind)) d
 declares n d (proof parts) = in_block (change_table (λ t. record t { rows = t.rows ++ proofs_read d parts ∷ [] })) d
-declares n d (save m) = d
-declares n d (certify m) = d
+declares n d (save m) = with_command (Save (number_in m d.names.results)) d
+declares n d (certify m) = with_command (Certify (number_in m d.names.results)) d
 declares n d (pursue m xs) = d
 declares n d (param m ps) =
     record d { block = option_map {T = OpenBlock} (λ block. record block { kind = give_sort (number_in m d.sorts + 1) ps block.kind }) d.block }

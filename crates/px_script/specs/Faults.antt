@@ -4,11 +4,10 @@ use Rattle.std.specs.List.{list_any, filter, flat_map}
 use Rattle.std.specs.Str.{bytes_eq}
 use Rattle.px_script.specs.Common.{Schema, atom_set, Problem}
 use Rattle.px_script.specs.Items.{SignedAtom, Binding, Part, a_fact, an_ancestor, an_axiom}
-use Rattle.px_script.specs.Statements.{Statement, line_of, script, object, predicate, «axiom», operator, pre, delete, add, building, room, door, box, robot, end, fact, height, nodes, shapes, plan, learn, show, disturb_atoms, disturb_rooms, run, facts, sort, param, duo, save, certify, edit, pursue, table, step, goal, proof}
+use Rattle.px_script.specs.Statements.{Statement, line_of, script, object, predicate, «axiom», operator, pre, delete, add, building, room, door, box, robot, end, fact, height, nodes, shapes, weight, plan, learn, show, disturb_atoms, disturb_rooms, run, facts, sort, param, duo, save, certify, edit, pursue, table, step, goal, proof}
 use Rattle.px_script.specs.Limits as limit
-use Rattle.px_script.specs.Limits.{Limit, Bounds, greatest, number_of, number_of_numbers, of_version, of_height, of_nodes, of_shapes, of_turn, of_executor, last_number}
-use Rattle.px_script.specs.Declarations.{Declared, OpenOperator, operator_here, has_building, number_in, variable_names_of, atom_of, WrittenTable, BlockKind, of_table_steps, of_table_rows, table_here, OpenBlock}
-use Rattle.px_script.specs.Content.{own_problem, problem_of}
+use Rattle.px_script.specs.Limits.{Limit, Bounds, greatest, number_of, number_of_numbers, of_version, of_height, of_nodes, of_shapes, of_weight, of_turn, of_executor, last_number}
+use Rattle.px_script.specs.Declarations.{Declared, OpenOperator, operator_here, has_building, number_in, variable_names_of, atom_of, BlockKind, of_table_steps, of_table_rows, table_here, OpenBlock, problem_here}
 use Rattle.px_table.specs.Deciding.{rows_are_table}
 use Rattle.px_table.specs.WellSorted.{sorts_by_places}
 use Rattle.px_script.specs.Stages.{Stage, whole_language, is_unbuilt}
@@ -39,6 +38,7 @@ repeats_itself d (robot r) = has_robot d
 repeats_itself d (height limit) = is_some d.height
 repeats_itself d (nodes limit) = is_some d.nodes
 repeats_itself d (shapes limit) = is_some d.shapes
+repeats_itself d (weight limit) = is_some d.weight
 repeats_itself d (run n bs) = binds_twice bs
 repeats_itself d (param n ps) = sorts_twice d ps
 repeats_itself d _ = false
@@ -112,8 +112,9 @@ own_limits d (door n one other is_open) = one_more_object d ∷ []
 own_limits d (box b r) = one_more_object d ∷ []
 own_limits d (fact xs) = over d limit.facts (length (atom_set (map (atom_of d []) xs ++ d.facts))) ∷ []
 own_limits d (height n) = outside of_height n ∷ []
-own_limits d (nodes n) = outside of_nodes n ∷ []
+own_limits d (nodes n) = outside (of_nodes d.version) n ∷ []
 own_limits d (shapes n) = outside of_shapes n ∷ []
+own_limits d (weight n) = outside (of_weight d.version) n ∷ []
 own_limits d (plan n xs) =
     over d limit.variables (length (variable_names_of xs)) ∷ over d limit.goal_atoms (length xs) ∷ one_more_command d ∷ []
 own_limits d (learn n source) = one_more_command d ∷ []
@@ -125,7 +126,7 @@ own_limits d (duo one other ns) = one_more_command d ∷ any_outside of_executor
 own_limits d facts = one_more_command d ∷ []
 own_limits d (sort n ns) = over d limit.objects (length d.names.objects + length ns) ∷ over d limit.sorts (length d.sorts + 1) ∷ []
 own_limits d (param n ps) = []
-own_limits d (table n parameters) = has_great_number (parameters ∷ []) ∷ over d limit.tables (length d.tables + 1) ∷ []
+own_limits d (table n parameters) = has_great_number (parameters ∷ []) ∷ over d limit.tables (length d.saved + 1) ∷ []
 own_limits d (step o ts) = over d limit.table_steps (steps_here d.block + 1) ∷ []
 own_limits d (goal xs) = over d limit.goal_atoms (length xs) ∷ []
 own_limits d (proof parts) = has_great_number (flat_map numbers_of_part parts) ∷ over d limit.proof_height (highest (heights_of parts)) ∷ []
@@ -149,10 +150,6 @@ abbrev pub passed : Bool × ℕ → Bool × Refusal
 passed test = (test.0, record { code = 8; limit = test.1 })
 
 -- ---- a table's block that is no table's
-
--- the problem that the lines so far give
-abbrev pub problem_here : Declared → Problem
-problem_here d = problem_of (own_problem d) d.things
 
 -- The block is a table's, and has no goal, or its parts make no table of the problem with the sorts that their places have.
 abbrev pub is_bad_block : Problem → BlockKind → Bool

@@ -19,6 +19,8 @@ pub mod ScriptParts
 pub mod ReadScripts
 -- what it says of small lines
 pub mod WorkedLines
+pub mod WorkedTables
+pub mod WorkedThree
 pub mod WorkedLater
 pub mod Worked
 -- what a script keeps

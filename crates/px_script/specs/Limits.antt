@@ -1,15 +1,15 @@
 -- The words of a version, and the limits of its scripts.
-use Rattle.std.specs.Prelude.{ℕ, Bool, List, [], ◌∷◌, ◌++◌, codes, if◌then◌else◌, ◌==◌}
+use Rattle.std.specs.Prelude.{ℕ, Bool, List, [], ◌∷◌, ◌++◌, codes, if◌then◌else◌, nat_le}
 use Rattle.std.specs.List.{list_any}
 use Rattle.std.specs.Str.{bytes_eq}
-use Rattle.px_terms.specs.Limits.{most_arguments, most_clauses, most_formula_variables, most_height, most_literals, most_parameters, most_shapes}
-use Rattle.px_script.specs.declared.limits.TheConstants.{NAME_BYTES, OBJECTS, OBJECTS_OF_TWO, PREDICATES, OPERATORS, OPERATOR_ATOMS, FACTS, FACTS_OF_TWO, GOAL_ATOMS, COMMANDS, COMMANDS_OF_TWO, DISTURBS, EDITS, SORTS, LAST_VERSION, EVENTS, PAIRS, TABLES, TABLE_STEPS, PROOF_HEIGHT}
--- what a script has limits of; the number of the limit of numbers, those that a script may give; the most nodes that a script may ask for,
--- which are fewer than a problem may, the last turn that a disturbance may name, the greatest number of a table's block and of an edit, and how many executors share a world; the height, the nodes
--- and the shapes of a script whose lines give none
+use Rattle.px_terms.specs.Limits.{most_arguments, most_clauses, most_formula_variables, most_height, most_literals, most_nodes, most_parameters, most_shapes, most_weight}
+use Rattle.px_script.specs.declared.limits.TheConstants.{NAME_BYTES, OBJECTS, OBJECTS_OF_TWO, PREDICATES, OPERATORS, OPERATOR_ATOMS, FACTS, FACTS_OF_TWO, GOAL_ATOMS, COMMANDS, COMMANDS_OF_TWO, DISTURBS, EDITS, SORTS, LAST_VERSION, EVENTS, PAIRS, TABLES, TABLE_STEPS, PROOF_HEIGHT, MOST_OLD_NODES, DEFAULT_OLD_NODES, DEFAULT_NODES, DEFAULT_WEIGHT}
+-- what a script has limits of; the number of the limit of numbers, those that a script may give; the last turn that a disturbance may name,
+-- the greatest number of a table's block and of an edit, and how many executors share a world; the height and the shapes of a script whose
+-- lines give none
 pub use Rattle.px_script.specs.declared.limits.Limit.{Limit}
 pub use Rattle.px_script.specs.declared.limits.Limit.TheVariants.{NameBytes as name_bytes, Objects as objects, Predicates as predicates, Arity as arity, Axioms as axioms, Literals as literals, Variables as variables, Operators as operators, Parameters as parameters, OperatorAtoms as operator_atoms, Facts as facts, GoalAtoms as goal_atoms, Commands as commands, Disturbs as disturbs, Edits as edits, Sorts as sorts, Tables as tables, TableSteps as table_steps, ProofHeight as proof_height, Pairs as pairs, Events as events}
-pub use Rattle.px_script.specs.declared.limits.TheConstants.{NUMBER_OF_NUMBERS as number_of_numbers, MOST_SCRIPT_NODES as most_script_nodes, LAST_TURN as last_turn, LAST_NUMBER as last_number, DEFAULT_HEIGHT as default_height, DEFAULT_NODES as default_nodes, DEFAULT_SHAPES as default_shapes, EXECUTORS as executors}
+pub use Rattle.px_script.specs.declared.limits.TheConstants.{NUMBER_OF_NUMBERS as number_of_numbers, LAST_TURN as last_turn, LAST_NUMBER as last_number, DEFAULT_HEIGHT as default_height, DEFAULT_SHAPES as default_shapes, EXECUTORS as executors}
 
 -- the words that may begin a line in every version
 abbrev pub words_of_all : List (List ℕ)
@@ -19,14 +19,19 @@ words_of_all =
     ∷ codes "height" ∷ codes "nodes" ∷ codes "shapes"
     ∷ codes "plan" ∷ codes "learn" ∷ codes "show" ∷ codes "disturb" ∷ codes "run" ∷ codes "facts" ∷ []
 
--- those that only version 2 has
+-- those that version 2 is the first to have
 abbrev pub words_of_two : List (List ℕ)
 words_of_two = codes "sort" ∷ codes "param" ∷ codes "table" ∷ codes "step" ∷ codes "goal" ∷ codes "proof"
     ∷ codes "save" ∷ codes "certify" ∷ codes "edit" ∷ codes "duo" ∷ codes "pursue" ∷ []
 
+-- those that version 3 is the first to have
+abbrev pub words_of_three : List (List ℕ)
+words_of_three = codes "weight" ∷ []
+
 -- every word that may begin a line of a script of a version
 abbrev pub words : ℕ → List (List ℕ)
-words version = if version == 2 then words_of_all ++ words_of_two else words_of_all
+words version =
+    words_of_all ++ ((if nat_le 2 version then words_of_two else []) ++ (if nat_le 3 version then words_of_three else []))
 
 abbrev pub is_word : ℕ → List ℕ → Bool
 is_word version w = list_any (bytes_eq w) (words version)
@@ -54,9 +59,13 @@ number_of proof_height = 20
 number_of pairs = 21
 number_of events = 22
 
--- the number of a version
+-- the number of a version: of version 1, and of those from 2 on
 abbrev pub by_version : ℕ → ℕ → ℕ → ℕ
-by_version version one two = if version == 2 then two else one
+by_version version one two = if nat_le version 1 then one else two
+
+-- likewise of the versions before 3, and of those from 3 on
+abbrev pub from_three : ℕ → ℕ → ℕ → ℕ
+from_three version old three = if nat_le version 2 then old else three
 
 -- how many there may be in a script of a version
 abbrev pub greatest : ℕ → Limit → ℕ
@@ -95,8 +104,25 @@ of_version = bounds 1 LAST_VERSION
 abbrev pub of_height : Bounds
 of_height = bounds 1 most_height
 
-abbrev pub of_nodes : Bounds
-of_nodes = bounds 1 most_script_nodes
+-- how many nodes a script of a version may ask for, and how many it asks for where no line says it
+abbrev pub most_script_nodes : ℕ → ℕ
+most_script_nodes version = from_three version MOST_OLD_NODES most_nodes
+
+abbrev pub default_nodes : ℕ → ℕ
+default_nodes version = from_three version DEFAULT_OLD_NODES DEFAULT_NODES
+
+abbrev pub of_nodes : ℕ → Bounds
+of_nodes version = bounds 1 (most_script_nodes version)
+
+-- the greatest weight of a search in a script of a version, and the weight where no line says it
+abbrev pub most_script_weight : ℕ → ℕ
+most_script_weight version = from_three version 0 most_weight
+
+abbrev pub default_weight : ℕ → ℕ
+default_weight version = from_three version 0 DEFAULT_WEIGHT
+
+abbrev pub of_weight : ℕ → Bounds
+of_weight version = bounds 0 (most_script_weight version)
 
 abbrev pub of_shapes : Bounds
 of_shapes = bounds 2 most_shapes

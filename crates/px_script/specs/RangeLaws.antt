@@ -1,6 +1,6 @@
 -- For what is read, being in range is a fact with one proof at most, so that a type can keep it. What may be in a version.
 use Rattle.std.proofs.Common.{ap, subst, arith}
-use Rattle.std.specs.Prelude.{◌≡◌, ◌≤◌, ◌==◌, ℕ, Bool, true, false, List, Option, None, Some, if◌then◌else◌}
+use Rattle.std.specs.Prelude.{◌≡◌, ◌≤◌, nat_le, ℕ, Bool, true, false, List, Option, None, Some, if◌then◌else◌}
 use Rattle.std.proofs.Props.{props}
 use mathlib.Core.Sum.{⊎_set}
 use Rattle.px_rooms.specs.declared.standing.Standing.{Standing}
@@ -17,11 +17,11 @@ use Rattle.px_script.specs.Ranges.{IsEditOf, IsThingAfter, AreRoomEditsOf, IsCom
 
 -- what may be in some version may be in the last
 pub version-most : (version n a b : ℕ) → a ≤ b → n ≤ by_version version a b → n ≤ b
-version-most version n a b more few = told (version == 2) few
+version-most version n a b more few = told (nat_le version 1) few
   where
-    told : (two : Bool) → n ≤ (if two then b else a) → n ≤ b
-    told true few = few
-    told false few = omega (arith, few, more)
+    told : (one : Bool) → n ≤ (if one then a else b) → n ≤ b
+    told true few = omega (arith, few, more)
+    told false few = few
 
 ruleset sums = (⊎_set, props)
 
@@ -108,9 +108,9 @@ IsCommandOf-prop : (version : ℕ) (problem : Problem) (building : Option (List 
 IsCommandOf-prop version problem building results (DisturbRooms turn between edits) = Prim.hlevel (AreRoomEditsOf-prop, parts)
 IsCommandOf-prop version problem building results _ = Prim.hlevel parts
 
-NamesEarlier-prop : (before : List Command) (command : Command) → IsProp (NamesEarlier before command)
-NamesEarlier-prop before (Plan name goal vars) = Prim.hlevel props
-NamesEarlier-prop before _ = Prim.hlevel props
+NamesEarlier-prop : (given : List ℕ) (before : List Command) (command : Command) → IsProp (NamesEarlier given before command)
+NamesEarlier-prop given before (Plan name goal vars) = Prim.hlevel props
+NamesEarlier-prop given before _ = Prim.hlevel props
 
 pub IsInRange-prop : (script : ScriptValue) → IsProp (IsInRange script)
 IsInRange-prop script = Prim.hlevel (IsCommandOf-prop, NamesEarlier-prop, IsValid-prop, Term-set, parts)

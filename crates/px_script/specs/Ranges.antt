@@ -1,14 +1,19 @@
 -- The numbers of a script are in range, by subject.
-use Rattle.std.specs.Prelude.{◌≡◌, ◌≢◌, ◌<◌, ◌≤◌, ℕ, ◌+◌, true, false, List, [], ◌∷◌, map, length, take, Option, None, Some, is_some, All, AllPairs, IfSome, slice_index_or, EachIndex, ◌==◌, not, codes}
+use Rattle.std.specs.Prelude.{◌≡◌, ◌≢◌, ◌<◌, ◌≤◌, ℕ, ◌+◌, ◌-◌, max, fold, true, false, List, [], ◌∷◌, ◌++◌, map, length, take, Option, None, Some, is_some, All, AllPairs, IfSome, slice_index_or, EachIndex, ◌==◌, not, codes}
 use Rattle.std.specs.List.{flat_map, filter, filter_map, list_any, range_with_len, scan}
-use Rattle.px_script.specs.Common.{NameLists, AreDistinct, IsAdmitted, building_problem, robot_name, IsBuilding, IsRoomAt, first_state, rendering, standings, IsAtomSet, IsValid, IsAtomOf, Atom, Problem, Schema, Term, Var, AtomEdit, RoomEdit, Thing}
+use Rattle.px_script.specs.Common.{NameLists, AreDistinct, IsAdmitted, robot_name, IsBuilding, IsRoomAt, first_state, rendering, standings, IsAtomSet, IsValid, IsAtomOf, Atom, Problem, Schema, Term, Var, AtomEdit, RoomEdit, Thing}
+use Rattle.px_proof.specs.Derivation.{height}
+use Rattle.px_table.specs.declared.table.Table.{Table}
+use Rattle.px_table.specs.Deciding.{is_table}
+use Rattle.px_table.specs.Tables.{rows_of}
+use Rattle.px_table.specs.WellSorted.{sorts_by_places}
 use Rattle.px_world.specs.declared.edits.AtomEdit.TheVariants as atom_edit
 use Rattle.px_world.specs.declared.thing.Thing.TheVariants.{Room, Door, Box, Robot}
 use Rattle.px_script.specs.Items.{last_parameter}
 use Rattle.px_script.specs.Limits as limit
-use Rattle.px_script.specs.Limits.{Bounds, greatest, of_nodes, of_turn, of_version, of_executor, last_number}
-use Rattle.px_script.specs.Commands.{Command, Plan, Learn, Show, DisturbAtoms, DisturbRooms, Run, Facts, Duo, Edit}
-use Rattle.px_script.specs.Declarations.{operator_names, predicate_names}
+use Rattle.px_script.specs.Limits.{Bounds, greatest, of_nodes, of_weight, of_turn, of_version, of_executor, last_number}
+use Rattle.px_script.specs.Commands.{Command, Plan, Learn, Show, Save, Certify, DisturbAtoms, DisturbRooms, Run, Facts, Duo, Edit}
+use Rattle.px_script.specs.Declarations.{building_with, operator_names, predicate_names}
 use Rattle.px_script.specs.Content.{ScriptValue}
 use Rattle.px_script.specs.Stages.{Stage, is_built}
 
@@ -51,11 +56,12 @@ HasShortLists version schema =
     (length schema.pre ≤ greatest version limit.operator_atoms) × (length schema.del ≤ greatest version limit.operator_atoms)
     × (length schema.add ≤ greatest version limit.operator_atoms)
 
--- The problem is valid, with no more nodes than a script may ask for, and its objects and predicates have names. Variables of axioms are
+-- The problem is valid, with no more nodes and no more weight than a script of the version may ask for, and its objects and predicates have names. Variables of axioms are
 -- numbered as they occur.
 pub record ProblemInRange (version : ℕ) (names : NameLists) (problem : Problem) : Type 0 where
   pub valid : IsValid problem
-  pub nodes : IsWithin of_nodes problem.nodes
+  pub nodes : IsWithin (of_nodes version) problem.nodes
+  pub weight : IsWithin (of_weight version) problem.weight
   pub objects : problem.objects ≡ length names.objects
   pub predicates : length problem.arities ≡ length names.predicates
   pub arities : All (λ n. n ≤ greatest version limit.arity) problem.arities
@@ -85,8 +91,34 @@ pub record IsBuildingOf (names : NameLists) (problem : Problem) (facts : List At
   pub robot_first : slice_index_or names.objects 0 [] ≡ robot_name
   pub predicates : names.predicates ≡ predicate_names
   pub operators : names.operators ≡ operator_names
-  pub of_building : problem ≡ building_problem (length names.objects) problem.height problem.nodes problem.shapes
+  pub of_building : problem ≡ building_with (length names.objects) problem.height problem.nodes problem.shapes problem.weight
   pub rendered : facts ≡ rendering (first_state things)
+
+-- tables that stand in the script
+
+-- the number of a goal's variable, counted from 1, where the parameters come first; 0 for what is none
+abbrev pub goal_place : ℕ → Term → ℕ
+goal_place params (Var v) = v + 1 - params
+goal_place params _ = 0
+
+-- the last of the goal's variables that occurs
+abbrev pub last_goal_variable : Table → ℕ
+last_goal_variable table = fold max 0 (map (goal_place table.params) (flat_map (λ atom. atom.args) table.goal))
+
+-- It is a table of the problem (by the test that decides it, since a type can keep that), within the limits of a table's block: what its
+-- lines say is all of it. Its parameters have the sorts of their places, its last goal variable occurs, and without objects its goal has no
+-- arguments, since before any object no line has a variable.
+pub record IsSavedTable (version : ℕ) (problem : Problem) (table : Table) : Type 0 where
+  pub is_one : is_table problem table ≡ true
+  pub short : length table.steps ≤ greatest version limit.table_steps
+  pub low : All (All (λ d. height d ≤ greatest version limit.proof_height)) (rows_of table.proofs)
+  pub few_parameters : table.params ≤ last_number
+  pub some : 1 ≤ length table.goal
+  pub few_atoms : length table.goal ≤ greatest version limit.goal_atoms
+  pub few_variables : table.goal_vars ≤ greatest version limit.variables
+  pub last_occurs : table.goal_vars ≡ last_goal_variable table
+  pub sorts : table.param_sorts ≡ sorts_by_places problem table.steps table.params
+  pub no_objects : problem.objects ≡ 0 → flat_map (λ atom. atom.args) table.goal ≡ []
 
 -- commands
 
@@ -133,6 +165,8 @@ abbrev pub IsCommandOf : ℕ → Problem → Option (List Thing) → ℕ → Com
 IsCommandOf version problem building results (Plan name goal vars) = (name < results) × IsGoalOf version problem goal vars
 IsCommandOf version problem building results (Learn name source) = (name < results) × (source < results)
 IsCommandOf version problem building results (Show name) = name < results
+IsCommandOf version problem building results (Save name) = name < results
+IsCommandOf version problem building results (Certify name) = name < results
 IsCommandOf version problem building results (DisturbAtoms turn between edits) =
     HasTurn version turn (length edits) × (is_some building ≡ false) × All (IsEditOf problem) edits
 IsCommandOf version problem building results (DisturbRooms turn between edits) =
@@ -156,18 +190,27 @@ abbrev pub plan_given : Command → List ℕ
 plan_given (Plan name goal vars) = name ∷ []
 plan_given _ = []
 
+-- the result that a command gives, if it is a table
+abbrev pub table_given : Command → List ℕ
+table_given command = result_given command
+
 abbrev pub IsAmong : List ℕ → ℕ → Type 0
 IsAmong results n = list_any (λ given. given == n) results ≡ true
 
--- what the command names was given by a command before it, and what it learns from was given by a plan
-abbrev pub NamesEarlier : List Command → Command → Type 0
-NamesEarlier before (Learn name source) = IsAmong (flat_map plan_given before) source
-NamesEarlier before (Show name) = IsAmong (flat_map result_given before) name
-NamesEarlier before (Run name bindings) = IsAmong (flat_map result_given before) name
-NamesEarlier before (Duo first second events) =
-    IsAmong (flat_map result_given before) first × IsAmong (flat_map result_given before) second
-NamesEarlier before (Edit name source prefix wanted) = IsAmong (flat_map result_given before) source
-NamesEarlier before _ = Unit {0}
+-- the table is one of those that the script's blocks have given, or one that a command before gave
+abbrev pub IsTableBefore : List ℕ → List Command → ℕ → Type 0
+IsTableBefore given before name = IsAmong (given ++ flat_map table_given before) name
+
+-- What the command names was given by a block or by a command before it, and what it learns from was given by a plan.
+abbrev pub NamesEarlier : List ℕ → List Command → Command → Type 0
+NamesEarlier given before (Learn name source) = IsAmong (flat_map plan_given before) source
+NamesEarlier given before (Show name) = IsTableBefore given before name
+NamesEarlier given before (Save name) = IsTableBefore given before name
+NamesEarlier given before (Certify name) = IsTableBefore given before name
+NamesEarlier given before (Run name bindings) = IsTableBefore given before name
+NamesEarlier given before (Duo first second events) = IsTableBefore given before first × IsTableBefore given before second
+NamesEarlier given before (Edit name source prefix wanted) = IsTableBefore given before source
+NamesEarlier given before _ = Unit {0}
 
 -- the disturbances since the last run
 abbrev pub disturbs_after : ℕ → Command → ℕ
@@ -180,17 +223,17 @@ disturbs_after n _ = n
 abbrev pub all_disturbs : List Command → List ℕ
 all_disturbs commands = scan disturbs_after disturbs_after 0 commands
 
--- Each result is given once, in the order of the commands, and named only by later ones.
-pub record CommandsInRange (version : ℕ) (problem : Problem) (building : Option (List Thing)) (results : ℕ) (commands : List Command)
-    : Type 0 where
+-- Each result is given once, first by the blocks of tables and then in the order of the commands, and named only by later ones.
+pub record CommandsInRange (version : ℕ) (problem : Problem) (building : Option (List Thing)) (from_blocks : List ℕ) (results : ℕ)
+    (commands : List Command) : Type 0 where
   pub each : All (IsCommandOf version problem building results) commands
   pub few : length commands ≤ greatest version limit.commands
   pub few_disturbs : All (λ n. n ≤ greatest version limit.disturbs) (all_disturbs commands)
-  pub given : flat_map result_given commands ≡ range_with_len 0 results
-  pub earlier : EachIndex commands (λ k. NamesEarlier (take k commands) (slice_index_or commands k Facts))
+  pub given : from_blocks ++ flat_map result_given commands ≡ range_with_len 0 results
+  pub earlier : EachIndex commands (λ k. NamesEarlier from_blocks (take k commands) (slice_index_or commands k Facts))
 
--- The problem is valid, each of its numbers has a name, and the facts and commands are over the problem's numbers. All is within the
--- limits. That each name is a name by `IsName` is no part of this: `Names` of px_names keeps that.
+-- The problem is valid, each of its numbers has a name, the facts and commands are over the problem's numbers, and the tables are tables of
+-- it. All is within the limits. That each name is a name by `IsName` is no part of this: `Names` of px_names keeps that.
 pub record IsInRange (script : ScriptValue) : Type 0 where
   pub version : IsWithin of_version script.version
   pub names : NamesInRange script.version script.names
@@ -198,13 +241,18 @@ pub record IsInRange (script : ScriptValue) : Type 0 where
   pub operators : length script.names.operators ≡ length script.problem.schemas
   pub facts : FactsInRange script.version script.problem script.building script.facts
   pub building : IfSome script.building (IsBuildingOf script.names script.problem script.facts)
-  pub commands : CommandsInRange script.version script.problem script.building (length script.names.results) script.commands
+  pub saved : All (λ one. IsSavedTable script.version script.problem one.1) script.saved
+  pub few_saved : length script.saved ≤ greatest script.version limit.tables
+  pub commands : CommandsInRange script.version script.problem script.building (map (λ one. one.0) script.saved)
+      (length script.names.results) script.commands
 
 -- the word of a command
 abbrev pub word_of : Command → List ℕ
 word_of (Plan name goal vars) = codes "plan"
 word_of (Learn name source) = codes "learn"
 word_of (Show name) = codes "show"
+word_of (Save name) = codes "save"
+word_of (Certify name) = codes "certify"
 word_of (Run name bindings) = codes "run"
 word_of (Duo first second events) = codes "duo"
 word_of (Edit name source prefix wanted) = codes "edit"

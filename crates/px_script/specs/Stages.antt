@@ -10,15 +10,17 @@ Stage = List (List ℕ)
 
 -- the whole of it, as far as it is described
 abbrev pub whole_language : Stage
-whole_language = words 2
+whole_language = words 3
 
--- what is built now: the whole of version 1, sorts, two executors in one world, and edited tables
+-- what is built now: the whole of version 1; of version 2 sorts, tables, what saves, certifies and edits them, and two executors in one
+-- world; and the weight of version 3
 abbrev pub stage_now : Stage
-stage_now = words_of_all ++ codes "sort" ∷ codes "param" ∷ codes "duo" ∷ codes "edit" ∷ []
+stage_now = words_of_all ++ codes "sort" ∷ codes "param" ∷ codes "table" ∷ codes "step" ∷ codes "goal" ∷ codes "proof"
+    ∷ codes "save" ∷ codes "certify" ∷ codes "edit" ∷ codes "duo" ∷ codes "weight" ∷ []
 
--- the words of tables in scripts and of commands that there aren't yet: they aren't built, whatever the stage
+-- the word of the command that there isn't yet: it isn't built, whatever the stage
 abbrev pub words_to_come : List (List ℕ)
-words_to_come = codes "table" ∷ codes "step" ∷ codes "goal" ∷ codes "proof" ∷ codes "save" ∷ codes "certify" ∷ codes "pursue" ∷ []
+words_to_come = codes "pursue" ∷ []
 
 abbrev pub is_built : Stage → List ℕ → Bool
 is_built stage word = not (has_name word words_to_come) && has_name word stage

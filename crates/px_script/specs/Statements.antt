@@ -14,6 +14,8 @@ pub use Rattle.px_script.specs.declared.kinds.Manner.TheVariants.{Plain as plain
 -- What a line says, by its form. Names are their bytes.
 pub data Statement : Type 0 where
   script height nodes shapes : ℕ → Statement
+  -- how much the search goes by what its nodes lack, from version 3 on
+  weight : ℕ → Statement
   object : List (List ℕ) → Statement
   predicate : List ℕ → ℕ → Statement
   «axiom» : List SignedAtom → Statement
@@ -33,19 +35,17 @@ pub data Statement : Type 0 where
   disturb_rooms : ℕ → Bool → List WrittenRoomEdit → Statement
   run : List ℕ → List Binding → Statement
   facts : Statement
-  -- These stand only in version 2: a sort and its objects; a sort and the parameters that have it.
+  -- These stand only from version 2 on: a sort and its objects; a sort and the parameters that have it.
   sort param : List ℕ → List (List ℕ) → Statement
   -- two tables, and the numbers of whoever is next
   duo : List ℕ → List ℕ → List ℕ → Statement
-  -- The block of a table isn't built yet: its name and how many parameters it has; an operator and what it is done to; the goal; the proofs
-  -- of one row.
+  -- The block of a table: its name and how many parameters it has; an operator and what it is done to; the goal; the proofs of one row.
   table : List ℕ → ℕ → Statement
   step : List ℕ → List Argument → Statement
   goal : List SignedAtom → Statement
   proof : List Part → Statement
-  -- No command serves these yet: a table that is printed so that it can be read again, or as a certificate; the name of an edited table,
-  -- the table that it is made from, how many of its steps, and the wanted adds as pairs of a step and a place; a name, and a goal that is
-  -- pursued
+  -- a table that is printed so that it can be read again, or as a certificate; the name of an edited table, the table that it is made from,
+  -- how many of its steps, and the wanted adds as pairs of a step and a place; a name, and a goal that is pursued
   save certify : List ℕ → Statement
   edit : List ℕ → List ℕ → ℕ → List (ℕ × ℕ) → Statement
   pursue : List ℕ → List SignedAtom → Statement
@@ -83,6 +83,7 @@ line_of (fact xs) = line (codes "fact") domain plain (atoms xs ∷ [])
 line_of (height limit) = line (codes "height") setting plain (amount limit ∷ [])
 line_of (nodes limit) = line (codes "nodes") setting plain (amount limit ∷ [])
 line_of (shapes limit) = line (codes "shapes") setting plain (amount limit ∷ [])
+line_of (weight limit) = line (codes "weight") setting plain (amount limit ∷ [])
 line_of (plan n xs) = line (codes "plan") command goals (new a_plan n ∷ atoms xs ∷ [])
 line_of (learn n source) = line (codes "learn") command plain (new a_table n ∷ the (codes "from") ∷ known a_plan source ∷ [])
 line_of (show n) = line (codes "show") command plain (known a_table n ∷ [])

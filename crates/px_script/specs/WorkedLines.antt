@@ -94,13 +94,13 @@ abbrev pub in_operator : List ℕ
 in_operator = small ++ codes "\noperator O(x)"
 
 -- an object, and a predicate of six arguments; atoms of twelve variables, and of thirteen
-abbrev of_six : List ℕ
+abbrev pub of_six : List ℕ
 of_six = codes "object a\npredicate P 6"
 
-abbrev twelve : List ℕ
+abbrev pub twelve : List ℕ
 twelve = codes " P(?a,?b,?c,?d,?e,?f) P(?g,?h,?i,?j,?k,?l)"
 
-abbrev thirteen : List ℕ
+abbrev pub thirteen : List ℕ
 thirteen = twelve ++ codes " P(?m,?a,?b,?c,?d,?e)"
 
 pub record WorkedDomains : Type 0 where
@@ -150,7 +150,7 @@ pub record WorkedDomains : Type 0 where
         in_operator ++ times 10 (codes "\npre Q\ndelete Q\nadd Q"),
         codes "pre Q Q Q Q Q Q Q\ndelete Q Q Q Q Q Q Q\nadd Q Q Q Q Q Q Q",
       )
-      ∷ (16, [], codes "script 3\nscript 0\nheight 0\nheight 9\nnodes 0\nnodes 50001\nshapes 1\nshapes 70001") ∷ [])
+      ∷ (16, [], codes "script 4\nscript 0\nheight 0\nheight 9\nnodes 0\nnodes 50001\nshapes 1\nshapes 70001") ∷ [])
 
 -- ---- lines of a building
 abbrev one_room : List ℕ

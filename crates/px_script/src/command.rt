@@ -57,6 +57,14 @@ pub enum Command {
     Show {
         name: u32,
     },
+    /// Answer a table as a block that a script can have.
+    Save {
+        name: u32,
+    },
+    /// Answer a table with its whole problem, as a certificate.
+    Certify {
+        name: u32,
+    },
     /// Change facts from outside at a turn of the next run, between sensing and acting, or before both.
     DisturbAtoms {
         turn: u32,

@@ -8,7 +8,8 @@
 //! 2. `Items` and `Statements`: what may stand in a line after its word, and each line described once (`line_of`): its word, its
 //!    place, what its atoms may be, and its items.
 //! 3. `Limits`: the words and the limits of each version (`greatest`).
-//! 4. `Commands` (those of the code) and `Declarations`: what a line adds to what the lines before it declared (`declares`, `after_line`).
+//! 4. `Commands` (those of the code) and `Declarations`: what a line adds to what the lines before it declared (`declares`, `after_line`),
+//!    the problem that lines so far give (`problem_here`), and the table that the block of a table gives at its end (`table_made`).
 //! 5. `Forms`: which statement the lexemes of a line are.
 //! 6. `Stages`, `Causes` and `Faults`: what is built; the causes to refuse a line that follow from its description alone; and all
 //!    causes in their order (`causes`), of which the first that is there is the fault (`fault_at`).
@@ -31,13 +32,13 @@
 //! - [`only_takes_away`]: where only some words are built, a line is refused as where all are, or as not built, and a
 //!   script is a script of the whole of it.
 //! - [`is_in_range`]: what a script is about is in range, and of the language as far as it is built (`IsOfStage`), so a caller may
-//!   hand its numbers on. What is built is one list of words, `stage_now`: the whole of version 1, sorts, `duo` and `edit`; all
-//!   laws hold of any list.
+//!   hand its numbers on. What is built is one list of words, `stage_now`: all that are described but `pursue`; all laws hold of any
+//!   list.
 //! - [`worked_lines`] and [`worked_texts`]: what the definition says of small lines, and of small texts from their bytes, to be
 //!   compared with what a reader expects.
 //!
-//! The modules of `proofs` that px_lines and px_reader cite (`Scanning`, `Parsing`, `Rows`, `Faultless`, `States` and lemmas) aren't part
-//! of what a script is: of public calls only those of px_lines speak of them.
+//! The modules of `proofs` that px_lines, px_reader and px_saved cite (`Scanning`, `Parsing`, `Rows`, `Faultless`, `States`, `Kept` and
+//! lemmas) aren't part of what a script is: of public calls only those of px_lines speak of them.
 #![tactic(auto)]
 
 ghost use Rattle.std.specs.Prelude.{List, ℕ};
@@ -50,7 +51,9 @@ ghost use Rattle.px_script.specs.Statements.{Statement};
 ghost use Rattle.px_script.specs.Scripts.{ReadsOneWay, IsScript};
 ghost use Rattle.px_script.specs.Worked.{WorkedScripts, WorkedRefusals};
 ghost use Rattle.px_script.specs.WorkedLines.{WorkedBuildings, WorkedCommands, WorkedDomains, WorkedDuos, WorkedEdits, WorkedLimits, WorkedSorts, WorkedSpellings};
-ghost use Rattle.px_script.specs.WorkedLater.{WorkedLater, WorkedTables, WorkedUnbuilt};
+ghost use Rattle.px_script.specs.WorkedTables.{WorkedSaves, WorkedTables};
+ghost use Rattle.px_script.specs.WorkedThree.{WorkedWeights};
+ghost use Rattle.px_script.specs.WorkedLater.{WorkedLater, WorkedUnbuilt};
 
 mod command;
 mod kinds;
@@ -60,8 +63,10 @@ mod script;
 pub use command::{Binding, Command};
 pub use kinds::{Block, Choice, Last, Manner, Named, One, Place, Sign};
 pub use limits::{
-    DEFAULT_HEIGHT, DEFAULT_NODES, DEFAULT_SHAPES, EXECUTORS, LAST_NUMBER, LAST_PARAMETER,
-    LAST_TURN, LAST_VERSION, Limit, MOST_SCRIPT_NODES, NAME_BYTES, NUMBER_OF_NUMBERS, greatest,
+    DEFAULT_HEIGHT, DEFAULT_NODES, DEFAULT_OLD_NODES, DEFAULT_SHAPES, DEFAULT_WEIGHT, EXECUTORS,
+    LAST_NUMBER, LAST_PARAMETER, LAST_TURN, LAST_VERSION, Limit, MOST_OLD_NODES, NAME_BYTES,
+    NUMBER_OF_NUMBERS, default_nodes, default_weight, greatest, most_script_nodes,
+    most_script_weight,
 };
 pub use script::Script;
 
@@ -78,6 +83,8 @@ pub fn worked_lines()
     ensures edits { WorkedEdits }
     ensures unbuilt { WorkedUnbuilt }
     ensures tables { WorkedTables }
+    ensures saves { WorkedSaves }
+    ensures weights { WorkedWeights }
     ensures later { WorkedLater }
 {}
 
@@ -97,9 +104,9 @@ pub fn only_takes_away()
 {}
 
 /// The problem of a script is valid, each of its numbers has a name and no name stands twice in its kind, the facts, the building and
-/// the commands are over its numbers, all is within the limits, and each result is given once and named only by later commands. With a
-/// building the problem is the building's, and the facts are those of its first state. Whatever is built, its commands are of words that
-/// are built, and it has a building only where buildings are built.
+/// the commands are over its numbers, each table that stands in it is a table of the problem, all is within the limits, and each result is
+/// given once and named only by later commands. With a building the problem is the building's, and the facts are those of its first
+/// state. Whatever is built, its commands are of words that are built, and it has a building only where buildings are built.
 pub fn is_in_range()
     ensures range { (stage : Stage) (bytes : List ℕ) (script : ScriptValue) → IsScript stage bytes script → IsInRange script }
     ensures stage { (stage : Stage) (bytes : List ℕ) (script : ScriptValue) → IsScript stage bytes script → IsOfStage stage script }

@@ -1,9 +1,10 @@
 //! The limits of a script: each number stands here, and the definitions cite it.
 ghost use Rattle.std.specs.Prelude.{◌≡◌};
-ghost use Rattle.px_script.specs.Limits.{by_version, greatest, number_of};
+ghost use Rattle.px_script.specs.Limits.{by_version, default_nodes, default_weight, from_three, greatest, most_script_nodes, most_script_weight, number_of};
 
 use px_terms::{
-    MOST_ARGUMENTS, MOST_CLAUSES, MOST_FORMULA_VARIABLES, MOST_LITERALS, MOST_PARAMETERS,
+    MOST_ARGUMENTS, MOST_CLAUSES, MOST_FORMULA_VARIABLES, MOST_LITERALS, MOST_NODES,
+    MOST_PARAMETERS, MOST_WEIGHT,
 };
 
 /// What a script has limits of, in the order of their numbers.
@@ -31,7 +32,7 @@ pub enum Limit {
     Disturbs,
     /// Edits of a disturbance.
     Edits,
-    /// Sorts, which only version 2 has. The number before is that of the limit of numbers.
+    /// Sorts, which version 2 is the first to have. The number before is that of the limit of numbers.
     Sorts = 17,
     /// Tables that stand in the script.
     Tables,
@@ -45,13 +46,14 @@ pub enum Limit {
     Events,
 }
 
-// How many there may be of each, but for what each problem has limits of. Where version 2 allows more, it has a number of its own.
+// How many there may be of each, but for what each problem has limits of. Where the versions from 2 on allow more, they have a number of
+// their own.
 
 /// Bytes of a name that has a number in its kind.
 pub const NAME_BYTES: u32 = 64;
 /// Objects of the script.
 pub const OBJECTS: u32 = 256;
-/// Objects of a script of version 2.
+/// Objects of a script from version 2 on.
 pub const OBJECTS_OF_TWO: u32 = 1024;
 /// Predicates of the script.
 pub const PREDICATES: u32 = 64;
@@ -61,13 +63,13 @@ pub const OPERATORS: u32 = 32;
 pub const OPERATOR_ATOMS: u32 = 16;
 /// Different facts of the script.
 pub const FACTS: u32 = 512;
-/// Different facts of a script of version 2.
+/// Different facts of a script from version 2 on.
 pub const FACTS_OF_TWO: u32 = 1024;
 /// Atoms of a goal.
 pub const GOAL_ATOMS: u32 = 16;
 /// Commands of the script.
 pub const COMMANDS: u32 = 512;
-/// Commands of a script of version 2.
+/// Commands of a script from version 2 on.
 pub const COMMANDS_OF_TWO: u32 = 1024;
 /// Disturbances since the last run.
 pub const DISTURBS: u32 = 64;
@@ -87,11 +89,11 @@ pub const PAIRS: u32 = 16;
 pub const EVENTS: u32 = 256;
 
 /// The last version of the language.
-pub const LAST_VERSION: u32 = 2;
+pub const LAST_VERSION: u32 = 3;
 /// The number of the limit of numbers, those that a script may give.
 pub const NUMBER_OF_NUMBERS: u8 = 16;
-/// The most nodes that a script may ask for, which are fewer than a problem may.
-pub const MOST_SCRIPT_NODES: u32 = 50_000;
+/// The most nodes that a script before version 3 may ask for, which are fewer than a problem may have.
+pub const MOST_OLD_NODES: u32 = 50_000;
 /// The last turn that a disturbance may name.
 pub const LAST_TURN: u32 = 9999;
 /// The greatest number of a table's block, and of an edit of a table.
@@ -102,8 +104,12 @@ pub const EXECUTORS: u32 = 2;
 pub const LAST_PARAMETER: u32 = 9999;
 /// The greatest height of a proof where no line gives it.
 pub const DEFAULT_HEIGHT: u32 = 4;
-/// How many nodes a search may find where no line says it.
-pub const DEFAULT_NODES: u32 = 10_000;
+/// How many nodes a search may find where no line says it, before version 3.
+pub const DEFAULT_OLD_NODES: u32 = 10_000;
+/// How many nodes a search may find where no line says it, from version 3 on.
+pub const DEFAULT_NODES: u32 = 100_000;
+/// The weight of a search where no line says it, from version 3 on.
+pub const DEFAULT_WEIGHT: u32 = 16;
 /// How many shapes a question may meet where no line says it.
 pub const DEFAULT_SHAPES: u32 = 10_000;
 
@@ -145,8 +151,42 @@ pub fn greatest(version: u32, limit: Limit) -> u32
     }
 }
 
+/// Returns how many nodes a script of a version may ask for. Does not allocate.
+pub fn most_script_nodes(version: u32) -> u32
+    ensures { result ≡ most_script_nodes version }
+{
+    from_three(version, MOST_OLD_NODES, MOST_NODES)
+}
+
+/// Returns how many nodes a search may find where no line says it, in a script of a version. Does not allocate.
+pub fn default_nodes(version: u32) -> u32
+    ensures { result ≡ default_nodes version }
+{
+    from_three(version, DEFAULT_OLD_NODES, DEFAULT_NODES)
+}
+
+/// Returns the greatest weight that a search may have in a script of a version. Does not allocate.
+pub fn most_script_weight(version: u32) -> u32
+    ensures { result ≡ most_script_weight version }
+{
+    from_three(version, 0, MOST_WEIGHT)
+}
+
+/// Returns the weight of a search where no line says it, in a script of a version. Does not allocate.
+pub fn default_weight(version: u32) -> u32
+    ensures { result ≡ default_weight version }
+{
+    from_three(version, 0, DEFAULT_WEIGHT)
+}
+
 fn by_version(version: u32, one: u32, two: u32) -> u32
     ensures { result ≡ by_version version one two }
 {
-    if version == 2 { two } else { one }
+    if version <= 1 { one } else { two }
+}
+
+fn from_three(version: u32, old: u32, three: u32) -> u32
+    ensures { result ≡ from_three version old three }
+{
+    if version <= 2 { old } else { three }
 }

@@ -11,17 +11,19 @@ use Rattle.px_proof.specs.declared.shape.Tick.{Tick}
 use Rattle.px_table.specs.declared.entry.Move.{Move}
 use Rattle.px_table.specs.declared.node.Node.{Node}
 use Rattle.px_ends.specs.Order.{move_cmp}
+use Rattle.px_ends.specs.Ends.{node_of}
 use Rattle.px_ends.specs.Tasks.{Task}
 use Rattle.px_ends.proofs.MoveLaws.{move_cmp-total}
 use Rattle.px_numbers.specs.declared.nodes.NodeKey.{NodeKey}
 use Rattle.px_numbers.specs.Numbers.{Kept, IsKeyOf, KeepsAll}
-use Rattle.px_numbers.specs.NumberLaws.{stands-grows}
+use Rattle.px_search.specs.declared.picker.Picker.{Picker}
 use Rattle.px_search.specs.declared.progress.Progress.{Progress}
 use Rattle.px_search.specs.declared.progress.Progress.TheVariants.{Unsolved, Solved, Full}
 use Rattle.px_search.specs.declared.step.Step.{Step}
 use Rattle.px_search.specs.declared.step.Origin.{Origin}
 use Rattle.px_search.specs.Going.{AreFirstOf, AreMovesOf, IsGoneOn, LimitsNode}
-use Rattle.px_search.specs.Looping.{Going, IsProgress, Trying}
+use Rattle.px_search.specs.Looping.{IsProgress, Trying}
+use Rattle.px_search.specs.Searching.{IsMaking}
 use Rattle.px_search.proofs.BeginningLaws.{all-begun}
 use Rattle.px_search.proofs.GoingLaws.{going-grows, same_here}
 use Rattle.px_search.proofs.StepLaws.{steps-count}
@@ -120,25 +122,28 @@ module _ (task : Task) where
       firsts-are_taken firsts whole first.ordered all.ordered (λ m has. (all.all m).0 (first.allowed m has))
       (λ m has. first.others m ((all.all m).1 has))
 
-  module _ (old new : Kept) (keys : List NodeKey) (origins : List Origin) (next : ℕ) (steps : List Step) (is_all : Bool) (from : ℕ)
-      (key : NodeKey) (t : Trying task old keys origins next steps is_all from)
+  module _ (old new : Kept) (keys : List NodeKey) (origins : List Origin) (picker : Picker) (picked : List ℕ) (next : ℕ) (steps : List Step)
+      (is_all : Bool) (from : ℕ) (key : NodeKey) (t : Trying task old keys origins picker picked next steps is_all from)
       (from_is : from ≡ length steps) (at : slice_get keys next ≡ Some key) where
+    abbrev node_here : Node
+    node_here = node_of task t.list
+
     -- none of the questions of the node meets the limit
     pub unlimited-here : (formula : List Atom) (shapes : List (List Tick))
         → ¬ ((node : Node) → IsKeyOf old key node → LimitsNode task node formula shapes)
     unlimited-here formula shapes limits =
-        let l = limits t.node (same_here task old keys origins next steps is_all from key t at) in
+        let l = limits node_here (same_here task old keys origins picker picked next steps is_all from key t at) in
         t.begun.unlimited l.question l.asked formula shapes l.met
 
     module _ (whole : List Step) (gone : (node : Node) → IsKeyOf old key node → IsGoneOn task new node whole) where
-      abbrev all_here : IsGoneOn task new t.node whole
-      all_here = gone t.node (same_here task old keys origins next steps is_all from key t at)
+      abbrev all_here : IsGoneOn task new node_here whole
+      all_here = gone node_here (same_here task old keys origins picker picked next steps is_all from key t at)
 
       from_moves : from ≡ length t.begun.moves
       from_moves = from_is ∙ steps-count old steps t.begun.moves t.begun.steps_are
 
       taken : take (length t.begun.moves) all_here.moves ≡ t.begun.moves
-      taken = firsts-of_all t.node t.begun.moves all_here.moves t.begun.are all_here.are
+      taken = firsts-of_all node_here t.begun.moves all_here.moves t.begun.are all_here.are
 
       pub others-from : from ≤ length whole
       others-from =
@@ -154,14 +159,15 @@ module _ (task : Task) where
       same_tried =
           take_all from t.begun.moves (omega (arith, from_moves)) ∙ sym taken ∙ ap (λ (n : ℕ). take n all_here.moves) (sym from_moves)
 
-      pub trying-others : KeepsAll old new → Trying task new keys origins next whole true from
+      pub trying-others : KeepsAll old new → Trying task new keys origins picker picked next whole true from
       trying-others keeps = record {
-        key = t.key;
-        key_at = t.key_at;
-        node = t.node;
-        stands = stands-grows old new t.key t.node keeps t.stands;
-        begun = all-begun task new t.node whole true all_here;
-        going =
-            going-grows task old new keys origins next (take from all_here.moves) keeps
-            (subst (λ (l : List Move). Going task old keys origins next l) same_tried t.going);
+        list = t.list;
+        begun = all-begun task new node_here whole true all_here;
+        going = going-grows task old new keys origins picker picked next (take from all_here.moves) keeps (record {
+          found = t.going.found;
+          making = subst (λ (l : List Move). IsMaking task t.going.found next picked l) same_tried t.going.making;
+          numbered = t.going.numbered;
+          picking = t.going.picking;
+        });
+        list_at = t.list_at;
       }

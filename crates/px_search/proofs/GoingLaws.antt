@@ -1,7 +1,7 @@
 -- What the search keeps at each turn, by numbers.
-use Rattle.std.proofs.Common.{◌≡◌, ℕ, Bool, true, zero, suc, ◌+◌, ◌<◌, ◌≤◌, List, [], ◌∷◌, ◌++◌, take, length, get_or, refl, sym, ◌∙◌, ap, subst, inl, inr, arith, Some, slice_get, Contains}
+use Rattle.std.proofs.Common.{◌≡◌, ℕ, Bool, true, zero, suc, ◌+◌, ◌<◌, ◌≤◌, List, [], ◌∷◌, ◌++◌, map, take, length, refl, sym, ◌∙◌, ap, subst, inl, inr, arith, Some, slice_get, Contains}
 use Rattle.std.specs.Prelude.{All}
-use Rattle.std.proofs.lemmas.List.{length-append}
+use Rattle.std.proofs.lemmas.List.{length-append, length-map, map-append}
 use Rattle.std.proofs.lemmas.List.Elements.{All-tail, All-cons}
 use Rattle.px_terms.specs.declared.atom.Atom.{Atom}
 use Rattle.px_terms.specs.Operators.{results_of}
@@ -13,23 +13,31 @@ use Rattle.px_table.specs.declared.node.Node.{Node}
 use Rattle.px_entries.specs.Entries.{IsEntry, effect_of}
 use Rattle.px_gaps.specs.declared.known.Tried.TheVariants.{Answered, Unanswered, Limited}
 use Rattle.px_ops.specs.Keeping.{Keeps}
+use Rattle.px_ops.specs.KeepLaws.{place_within, has_at, push-cases}
 use Rattle.px_numbers.specs.declared.nodes.NodeKey.{NodeKey}
 use Rattle.px_numbers.specs.Numbers.{Kept, AreEachOnce, IsKeyOf, KeepsAll, AllStand}
-use Rattle.px_numbers.specs.NumberLaws.{one_at, one_node, node_of_key, seen, unseen, all_stand-grows, all_stand-push, stands-grows}
-use Rattle.px_ops.specs.KeepLaws.{place_within, has_at, push-cases}
+use Rattle.px_numbers.specs.NumberLaws.{one_at, node_of_key, seen, unseen, all_stand-grows, all_stand-push}
+use Rattle.px_order.specs.Places.{at_end, contains_place, place_of, still_there}
+use Rattle.px_order.specs.RunLaws.{behind, made, made-push, node-push}
+use Rattle.px_order.specs.Runs.{IsNew, IsNext}
+use Rattle.px_ends.specs.ByValue.{space_of, IsExhausted, IsFound, IsNodeLimit, IsShapeLimit}
+use Rattle.px_ends.specs.Ends.{AreMoves, node_of}
+use Rattle.px_ends.specs.Moves.{CanMake, reached}
+use Rattle.px_ends.specs.Tasks.{Task, initial_node, IsAllowed, IsSolved, after, goal_question}
+use Rattle.px_search.specs.declared.picker.Picker.{Picker}
 use Rattle.px_search.specs.declared.step.Step.{Step}
 use Rattle.px_search.specs.declared.step.Origin.{Origin}
-use Rattle.px_search.specs.Asking.{IsProvedBelow, IsTriedAt}
-use Rattle.px_ends.specs.Ends.{IsFound, IsExhausted, IsNodeLimit, IsShapeLimit}
+use Rattle.px_search.specs.Asking.{IsTriedAt}
 use Rattle.px_search.specs.Going.{IsAskedAt, IsBegunOn, LimitsNode}
-use Rattle.px_search.specs.Looping.{Going, Trying, Walking}
-use Rattle.px_ends.specs.Moves.{CanMake, reached}
+use Rattle.px_search.specs.Looping.{AreNumbered, Between, Going, Trying}
+use Rattle.px_search.specs.Picking.{AreWithin, IsOnward, IsPickerOf}
+use Rattle.px_search.specs.Searching.{IsBelowLimit, IsMaking, Searching, order_of}
 use Rattle.px_search.specs.Steps.{DescribesMove, AreEarlier, Trace}
-use Rattle.px_ends.specs.Tasks.{Task, initial_node, IsSolved, IsAllowed, after, goal_from}
-use Rattle.px_ends.proofs.Exclusion.{at_end, still_there}
-use Rattle.px_ends.proofs.Frontier.{contains_place}
-use Rattle.px_search.proofs.StepLaws.{step-grows, steps-grow, steps-count}
-use Rattle.px_search.proofs.Walking.{goes, here_in, counted, walking-start, walking-seen, walking-new, walking-next, walk-found, walk-full, walk-exhausted, walk-shape_limit, walk-shape_limit_at_goal, new_list, here}
+use Rattle.px_search.proofs.FirstMoves.{first_new}
+use Rattle.px_search.proofs.PickerLaws.{picker-grows}
+use Rattle.px_search.proofs.StepLaws.{step-grows, steps-grow}
+use Rattle.px_search.proofs.TurnLaws.{between_next, making_found, making_seen, making_start}
+use Rattle.px_search.proofs.ValueEndings.{ends_found, ends_full, ends_limited, ends_limited_there, ends_over, searching_found}
 
 -- ---- the entries on the stacks of nodes that moves reach are entries
 
@@ -120,18 +128,94 @@ earlier_new origins next s earlier below k origin here' = elim (push-cases origi
 ]
 
 module _ (task : Task) where
-  pub going-start : (kept : Kept) (key : NodeKey) → IsKeyOf kept key (initial_node task) → IsTriedAt task (initial_node task) Unanswered
-      → 1 ≤ task.problem.nodes → Going task kept (key ∷ []) [] 0 []
-  going-start kept key stands tried room = record {
+  abbrev pub goes : List Move → Node
+  goes moves = node_of task moves
+
+  -- ---- found lists and their nodes
+
+  there_in : (found : List (List Move)) (k : ℕ) (p : List Move) → slice_get found k ≡ Some p → slice_get (map goes found) k ≡ Some (goes p)
+  there_in [] k p e = absurd (cc)
+  there_in (q ∷ found) zero p e = cc
+  there_in (q ∷ found) (suc k) p e = there_in found k p e
+
+  at_map : (found : List (List Move)) (k : ℕ) (node : Node) → slice_get (map goes found) k ≡ Some node
+      → (p : List Move) × (slice_get found k ≡ Some p) × (goes p ≡ node)
+  at_map [] k node e = absurd (cc)
+  at_map (p ∷ found) zero node e = (p, refl, cc)
+  at_map (p ∷ found) (suc k) node e = at_map found k node e
+
+  from_map : (found : List (List Move)) (node : Node) → Contains (map goes found) node
+      → (q : List Move) × Contains found q × (goes q ≡ node)
+  from_map found node has =
+      let k = place_of (map goes found) node has in let r = at_map found k.0 node k.1 in (r.0, contains_place found k.0 r.0 r.1, r.2)
+
+  to_map : (found : List (List Move)) (q : List Move) → Contains found q → Contains (map goes found) (goes q)
+  to_map found q has = let k = place_of found q has in contains_place (map goes found) k.0 (goes q) (there_in found k.0 q k.1)
+
+  module _ (kept : Kept) (keys : List NodeKey) (origins : List Origin) (found : List (List Move))
+      (n : AreNumbered task kept keys origins found) where
+    pub key_is : (k : ℕ) (key : NodeKey) (p : List Move) → slice_get keys k ≡ Some key → slice_get found k ≡ Some p
+        → IsKeyOf kept key (goes p)
+    key_is k key p at_key at_p = n.stand.each k key (goes p) at_key (there_in found k p at_p)
+
+    pub list_of : (k : ℕ) (key : NodeKey) → slice_get keys k ≡ Some key
+        → (p : List Move) × (slice_get found k ≡ Some p) × IsKeyOf kept key (goes p)
+    list_of k key at =
+        let there = node_of_key kept keys (map goes found) k key n.stand at in
+        let p = at_map found k there.0 there.1 in
+        (p.0, p.1, key_is k key p.0 at p.1)
+
+    pub counted : length found ≡ length keys
+    counted = sym (length-map found goes) ∙ sym n.stand.count
+
+  pub numbered-grows : (old new : Kept) (keys : List NodeKey) (origins : List Origin) (found : List (List Move)) → KeepsAll old new
+      → AreNumbered task old keys origins found → AreNumbered task new keys origins found
+  numbered-grows old new keys origins found keeps n = record {
+    stand = all_stand-grows old new keys (map goes found) keeps n.stand;
+    trace = trace-grows old new origins found keeps n.trace;
+    earlier = n.earlier;
+    one_more = n.one_more;
+  }
+
+  -- the entries on the stack of a node that moves reach are entries
+  pub entries_at : (moves : List Move) → AreMoves task moves → All (IsEntry task.problem task.tables) (goes moves).stack
+  entries_at moves can = stack_entries task task.initial [] moves (no_entries (IsEntry task.problem task.tables)) can
+
+  pub list-made : (found : List (List Move)) (picked asked : List ℕ) → Searching task found picked asked → (k : ℕ) (p : List Move)
+      → slice_get found k ≡ Some p → AreMoves task p
+  list-made found picked asked s k p at =
+      made (space_of task) (order_of task) s.known.0 found picked s.known.1 p (contains_place found k p at)
+
+  -- ---- the start
+
+  pub between-start : (kept : Kept) (key : NodeKey) (picker : Picker) → IsKeyOf kept key (initial_node task)
+      → IsTriedAt task (initial_node task) Unanswered → 1 ≤ task.problem.nodes → IsPickerOf task kept ([] ∷ []) [] picker
+      → Between task kept (key ∷ []) [] picker []
+  between-start kept key picker stands tried room picking = record {
     found = [] ∷ [];
-    nodes = initial_node task ∷ [];
-    walking = walking-start task tried.0 (tried.1 refl) room;
-    stand = record { count = refl; each = λ k key' node' at at'. one k key' node' at at' };
-    trace = record { first = refl; later = λ k origin at. absurd (nothing_at k origin at) };
-    earlier = λ k origin at. absurd (nothing_at k origin at);
-    one_more = refl;
+    between = record {
+      searching = record {
+        known = (0, (refl, refl));
+        room = room;
+        unsolved = λ x has is_solved. tried.0 (subst (λ (y : List Move). IsSolved task (goes y)) (sym (only x has)) is_solved);
+        tested = λ x has empty. subst (λ (y : List Move). IsBelowLimit task (goal_question task (goes y))) (only x has) (tried.1 refl);
+        gone_through = λ k p question has. absurd (omega (arith, has.1));
+      };
+      done = tt;
+    };
+    numbered = record {
+      stand = record { count = refl; each = λ k key' node' at at'. one k key' node' at at' };
+      trace = record { first = refl; later = λ k origin at. absurd (nothing_at k origin at) };
+      earlier = λ k origin at. absurd (nothing_at k origin at);
+      one_more = refl;
+    };
+    picking = picking;
   }
     where
+      only : (x : List Move) → Contains ([] ∷ []) x → [] ≡ x
+      only x (zero, h, e) = e
+      only x (suc k, h, e) = absurd (omega (arith, h))
+
       nothing_at : (k : ℕ) (origin : Origin) → ¬ (slice_get [] k ≡ Some origin)
       nothing_at k origin at = cc
 
@@ -143,59 +227,69 @@ module _ (task : Task) where
           subst (λ (x : NodeKey). IsKeyOf kept x node') same (subst (λ (x : Node). IsKeyOf kept key x) same_node stands)
       one (suc k) key' node' at at' = absurd (cc)
 
-  pub going-grows : (old new : Kept) (keys : List NodeKey) (origins : List Origin) (next : ℕ) (tried : List Move) → KeepsAll old new
-      → Going task old keys origins next tried → Going task new keys origins next tried
-  going-grows old new keys origins next tried keeps g = record {
-    found = g.found;
-    nodes = g.nodes;
-    walking = g.walking;
-    stand = all_stand-grows old new keys g.nodes keeps g.stand;
-    trace = trace-grows old new origins g.found keeps g.trace;
-    earlier = g.earlier;
-    one_more = g.one_more;
+  -- ---- between nodes
+
+  -- a place is picked
+  pub going-start : (kept : Kept) (keys : List NodeKey) (origins : List Origin) (old new : Picker) (picked : List ℕ) (next : ℕ)
+      → (b : Between task kept keys origins old picked) → IsNext (space_of task) (order_of task) b.found picked next
+      → IsPickerOf task kept b.found (next ∷ picked) new → Going task kept keys origins new picked next []
+  going-start kept keys origins old new picked next b is_next picking = record {
+    found = b.found;
+    making = making_start task b.found picked b.between next is_next;
+    numbered = b.numbered;
+    picking = picking;
   }
 
-  -- the node whose moves are to be tried
-  pub here_of : (kept : Kept) (keys : List NodeKey) (origins : List Origin) (next : ℕ) (tried : List Move) (key : NodeKey)
-      → Going task kept keys origins next tried → slice_get keys next ≡ Some key → IsAskedAt task kept key
-  here_of kept keys origins next tried key g at =
-      let there = node_of_key kept keys g.nodes next key g.stand at in
-      let h = here_in task g.found g.nodes next tried there.0 g.walking there.1 in
-      let has = contains_place g.found next h.0 h.1 in
+  -- no place is left
+  pub going-exhausted : (kept : Kept) (keys : List NodeKey) (origins : List Origin) (picker : Picker) (picked : List ℕ)
+      → (b : Between task kept keys origins picker picked)
+      → ((k : ℕ) (moves : List Move) → slice_get b.found k ≡ Some moves → Contains picked k) → IsExhausted task task.problem.weight
+  going-exhausted kept keys origins picker picked b all = ends_over task b.found picked b.between all
+
+  -- ---- at a node
+
+  abbrev pub going-grows : (old new : Kept) (keys : List NodeKey) (origins : List Origin) (picker : Picker) (picked : List ℕ) (next : ℕ)
+      (tried : List Move) → KeepsAll old new → Going task old keys origins picker picked next tried
+      → Going task new keys origins picker picked next tried
+  going-grows old new keys origins picker picked next tried keeps g = record {
+    found = g.found;
+    making = g.making;
+    numbered = numbered-grows old new keys origins g.found keeps g.numbered;
+    picking = picker-grows task old new g.found (next ∷ picked) picker keeps g.picking;
+  }
+
+  -- the node whose moves are to be made
+  pub here_of : (kept : Kept) (keys : List NodeKey) (origins : List Origin) (picker : Picker) (picked : List ℕ) (next : ℕ)
+      (tried : List Move) (key : NodeKey) → Going task kept keys origins picker picked next tried → slice_get keys next ≡ Some key
+      → IsAskedAt task kept key
+  here_of kept keys origins picker picked next tried key g at =
+      let here = list_of kept keys origins g.found g.numbered next key at in
+      let has = contains_place g.found next here.0 here.1 in
       record {
-        node = there.0;
-        stands = there.2;
-        entries = subst (λ (x : Node). All (IsEntry task.problem task.tables) x.stack) h.2
-            (stack_entries task task.initial [] h.0 (no_entries (IsEntry task.problem task.tables))
-            (g.walking.searching.known.can h.0 has));
-        tried = (
-          λ solved. g.walking.searching.unsolved h.0 has (subst (IsSolved task) (sym h.2) solved),
-          λ empty. subst (λ (x : Node). IsProvedBelow task.problem (goal_from task x.model)) h.2
-              (g.walking.searching.tested h.0 has (subst (λ (x : Node). x.stack ≡ []) (sym h.2) empty)),
-        );
+        node = goes here.0;
+        stands = here.2;
+        entries = entries_at here.0 (list-made g.found (next ∷ picked) picked g.making.searching next here.0 here.1);
+        tried = (λ solved. g.making.searching.unsolved here.0 has solved, λ empty. g.making.searching.tested here.0 has empty);
       }
 
-  pub trying-start : (old new : Kept) (keys : List NodeKey) (origins : List Origin) (next : ℕ) (key : NodeKey) (steps : List Step)
-      (is_all : Bool) → KeepsAll old new → Going task old keys origins next [] → slice_get keys next ≡ Some key
-      → ((node : Node) → IsKeyOf old key node → IsBegunOn task new node steps is_all) → Trying task new keys origins next steps is_all 0
-  trying-start old new keys origins next key steps is_all keeps g at begun =
-      let there = node_of_key old keys g.nodes next key g.stand at in
+  pub trying-start : (old new : Kept) (keys : List NodeKey) (origins : List Origin) (picker : Picker) (picked : List ℕ) (next : ℕ)
+      (key : NodeKey) (steps : List Step) (is_all : Bool) → KeepsAll old new → Going task old keys origins picker picked next []
+      → slice_get keys next ≡ Some key → ((node : Node) → IsKeyOf old key node → IsBegunOn task new node steps is_all)
+      → Trying task new keys origins picker picked next steps is_all 0
+  trying-start old new keys origins picker picked next key steps is_all keeps g at begun =
+      let here = list_of old keys origins g.found g.numbered next key at in
       record {
-        key = key;
-        key_at = at;
-        node = there.0;
-        stands = stands-grows old new key there.0 keeps there.2;
-        begun = begun there.0 there.2;
-        going = going-grows old new keys origins next [] keeps g;
+        list = here.0;
+        begun = begun (goes here.0) here.2;
+        going = going-grows old new keys origins picker picked next [] keeps g;
+        list_at = here.1;
       }
 
-  abbrev pub trying-grows : (old new : Kept) (keys : List NodeKey) (origins : List Origin) (next : ℕ) (steps : List Step) (is_all : Bool)
-      (i : ℕ) → KeepsAll old new → Trying task old keys origins next steps is_all i → Trying task new keys origins next steps is_all i
-  trying-grows old new keys origins next steps is_all i keeps t = record {
-    key = t.key;
-    key_at = t.key_at;
-    node = t.node;
-    stands = stands-grows old new t.key t.node keeps t.stands;
+  abbrev pub trying-grows : (old new : Kept) (keys : List NodeKey) (origins : List Origin) (picker : Picker) (picked : List ℕ) (next : ℕ)
+      (steps : List Step) (is_all : Bool) (i : ℕ) → KeepsAll old new → Trying task old keys origins picker picked next steps is_all i
+      → Trying task new keys origins picker picked next steps is_all i
+  trying-grows old new keys origins picker picked next steps is_all i keeps t = record {
+    list = t.list;
     begun =
         record {
           moves = t.begun.moves;
@@ -204,97 +298,95 @@ module _ (task : Task) where
           steps_are = steps-grow old new steps t.begun.moves keeps t.begun.steps_are;
           unlimited = t.begun.unlimited;
         };
-    going = going-grows old new keys origins next (take i t.begun.moves) keeps t.going;
+    going = going-grows old new keys origins picker picked next (take i t.begun.moves) keeps t.going;
+    list_at = t.list_at;
   }
 
-  -- the node is that of the pair at the place
-  pub same_here : (kept : Kept) (keys : List NodeKey) (origins : List Origin) (next : ℕ) (steps : List Step) (is_all : Bool) (i : ℕ)
-      (key : NodeKey) → (t : Trying task kept keys origins next steps is_all i) → slice_get keys next ≡ Some key → IsKeyOf kept key t.node
-  same_here kept keys origins next steps is_all i key t at =
-      subst (λ (k : NodeKey). IsKeyOf kept k t.node) (one_at keys next t.key key t.key_at at) t.stands
+  -- the pair at the place is the node
+  pub same_here : (kept : Kept) (keys : List NodeKey) (origins : List Origin) (picker : Picker) (picked : List ℕ) (next : ℕ)
+      (steps : List Step) (is_all : Bool) (i : ℕ) (key : NodeKey) → (t : Trying task kept keys origins picker picked next steps is_all i)
+      → slice_get keys next ≡ Some key → IsKeyOf kept key (goes t.list)
+  same_here kept keys origins picker picked next steps is_all i key t at =
+      key_is kept keys origins t.going.found t.going.numbered next key t.list at t.list_at
+
+  -- the place is that of a node
+  pub trying-within : (kept : Kept) (keys : List NodeKey) (origins : List Origin) (picker : Picker) (picked : List ℕ) (next : ℕ)
+      (steps : List Step) (is_all : Bool) (i : ℕ) → Trying task kept keys origins picker picked next steps is_all i → next < length keys
+  trying-within kept keys origins picker picked next steps is_all i t =
+      omega (arith, counted kept keys origins t.going.found t.going.numbered, place_within t.going.found next t.list t.list_at)
 
   -- there is room for more, or as many as may be kept
-  pub going-room : (kept : Kept) (keys : List NodeKey) (origins : List Origin) (next : ℕ) (tried : List Move)
-      → Going task kept keys origins next tried → length keys ≤ task.problem.nodes
-  going-room kept keys origins next tried g =
-      omega (arith, g.stand.count, g.walking.searching.room, counted task g.found g.nodes next tried g.walking)
+  pub going-room : (kept : Kept) (keys : List NodeKey) (origins : List Origin) (picker : Picker) (picked : List ℕ) (next : ℕ)
+      (tried : List Move) → Going task kept keys origins picker picked next tried → length keys ≤ task.problem.nodes
+  going-room kept keys origins picker picked next tried g =
+      omega (arith, counted kept keys origins g.found g.numbered, g.making.searching.room)
 
   -- a question of the node meets the limit
-  pub limit-here : (kept : Kept) (keys : List NodeKey) (origins : List Origin) (next : ℕ) (key : NodeKey) (node : Node)
-      (formula : List Atom) (shapes : List (List Tick)) → Going task kept keys origins next [] → slice_get keys next ≡ Some key
-      → IsKeyOf kept key node → LimitsNode task node formula shapes → IsShapeLimit task node formula shapes
-  limit-here kept keys origins next key node formula shapes g at stands limits =
-      let there = node_of_key kept keys g.nodes next key g.stand at in
-      let same : there.0 ≡ node = one_node kept key there.0 node there.2 stands in
-      walk-shape_limit task g.found g.nodes next [] node g.walking
-      (there.1 ∙ ap Some same) limits.question formula shapes limits.asked limits.met
+  pub limit-here : (kept : Kept) (keys : List NodeKey) (origins : List Origin) (picker : Picker) (picked : List ℕ) (next : ℕ)
+      (key : NodeKey) (formula : List Atom) (shapes : List (List Tick)) → (g : Going task kept keys origins picker picked next [])
+      → (at : slice_get keys next ≡ Some key)
+      → LimitsNode task (here_of kept keys origins picker picked next [] key g at).node formula shapes
+      → IsShapeLimit task task.problem.weight (here_of kept keys origins picker picked next [] key g at).node formula shapes
+  unfolding list_of here_of
+  limit-here kept keys origins picker picked next key formula shapes g at limits =
+      let here = list_of kept keys origins g.found g.numbered next key at in
+      ends_limited task g.found next picked picked g.making.searching here.0 limits.question formula shapes here.1 limits.asked limits.met
 
-  pub going-exhausted : (kept : Kept) (keys : List NodeKey) (origins : List Origin) (next : ℕ) → Going task kept keys origins next []
-      → length keys ≤ next → IsExhausted task
-  going-exhausted kept keys origins next g all = walk-exhausted task g.found g.nodes next g.walking (omega (arith, g.stand.count, all))
-
-  pub going-next : (kept : Kept) (keys : List NodeKey) (origins : List Origin) (next : ℕ) (steps : List Step) (is_all : Bool) (i : ℕ)
-      (t : Trying task kept keys origins next steps is_all i) → take i t.begun.moves ≡ t.begun.moves → is_all ≡ true
-      → Going task kept keys origins (next + 1) []
-  going-next kept keys origins next steps is_all i t whole all =
-      let there = node_of_key kept keys t.going.nodes next t.key t.going.stand t.key_at in
-      let same : there.0 ≡ t.node = one_node kept t.key there.0 t.node there.2 t.stands in
-      record {
-        found = t.going.found;
-        nodes = t.going.nodes;
-        walking =
-            walking-next task t.going.found t.going.nodes next t.begun.moves t.node
-            (subst (λ (l : List Move). Walking task t.going.found t.going.nodes next l) whole t.going.walking) (there.1 ∙ ap Some same)
-            (t.begun.every all) t.begun.unlimited;
-        stand = t.going.stand;
-        trace = t.going.trace;
-        earlier = t.going.earlier;
-        one_more = t.going.one_more;
-      }
+  pub going-next : (kept : Kept) (keys : List NodeKey) (origins : List Origin) (picker : Picker) (picked : List ℕ) (next : ℕ)
+      (steps : List Step) (is_all : Bool) (i : ℕ) (t : Trying task kept keys origins picker picked next steps is_all i)
+      → take i t.begun.moves ≡ t.begun.moves → is_all ≡ true → Between task kept keys origins picker (next ∷ picked)
+  going-next kept keys origins picker picked next steps is_all i t whole all = record {
+    found = t.going.found;
+    between = between_next task t.going.found next picked t.list t.list_at t.begun.moves
+        (subst (λ (l : List Move). IsMaking task t.going.found next picked l) whole t.going.making)
+        (t.begun.every all) t.begun.unlimited;
+    numbered = t.going.numbered;
+    picking = t.going.picking;
+  }
 
   -- ---- a move of the node
 
-  module _ (kept : Kept) (once : AreEachOnce kept) (keys : List NodeKey) (origins : List Origin) (next : ℕ) (steps : List Step)
-      (is_all : Bool) (i : ℕ) (s : Step) (t : Trying task kept keys origins next steps is_all i)
-      (inside : i < length steps) (m : Move) (m_is : m ≡ get_or t.begun.moves i m) (step_is : DescribesMove kept s m) (there : NodeKey)
-      (there_stands : IsKeyOf kept there (after task t.node m)) where
-    abbrev pub g : Going task kept keys origins next (take i t.begun.moves)
+  module _ (kept : Kept) (once : AreEachOnce kept) (keys : List NodeKey) (origins : List Origin) (picker : Picker) (picked : List ℕ)
+      (next : ℕ) (steps : List Step) (is_all : Bool) (i : ℕ) (s : Step)
+      (t : Trying task kept keys origins picker picked next steps is_all i) (m : Move) (at_m : slice_get t.begun.moves i ≡ Some m)
+      (step_is : DescribesMove kept s m) (there : NodeKey) (there_stands : IsKeyOf kept there (after task (goes t.list) m)) where
+    abbrev pub g : Going task kept keys origins picker picked next (take i t.begun.moves)
     g = t.going
 
     abbrev pub next_node : Node
-    next_node = after task t.node m
-
-    pub moves_inside : i < length t.begun.moves
-    moves_inside = omega (arith, inside, steps-count kept steps t.begun.moves t.begun.steps_are)
-
-    pub node_here : slice_get g.nodes next ≡ Some t.node
-    node_here =
-        let n = node_of_key kept keys g.nodes next t.key g.stand t.key_at in
-        n.1 ∙ ap Some (one_node kept t.key n.0 t.node n.2 t.stands)
-
-    counts : length g.nodes ≡ length keys
-    counts = sym g.stand.count
-
-    found_counts : length g.found ≡ length origins + 1
-    found_counts = counted task g.found g.nodes next (take i t.begun.moves) g.walking ∙ counts ∙ g.one_more
-
-    abbrev pub list_here : (p : List Move) × (slice_get g.found next ≡ Some p) × (goes task p ≡ t.node)
-    list_here = here task g.found g.nodes next t.begun.moves i t.node m g.walking node_here t.begun.are moves_inside m_is
+    next_node = after task (goes t.list) m
 
     abbrev pub more_moves : List Move
-    more_moves = new_list task g.found g.nodes next t.begun.moves i t.node m g.walking node_here t.begun.are moves_inside m_is
+    more_moves = t.list ++ m ∷ []
+
+    abbrev pub origin : Origin
+    origin = record { parent = next; last = s }
 
     abbrev pub more_origins : List Origin
-    more_origins = origins ++ record { parent = next; last = s } ∷ []
+    more_origins = origins ++ origin ∷ []
 
-    below : next ≤ length origins
-    below = omega (arith, place_within keys next t.key t.key_at, g.one_more)
+    pub new_goes : goes more_moves ≡ next_node
+    new_goes = node-push (space_of task) (order_of task) (initial_node task) t.list m
+
+    new_stands : IsKeyOf kept there (goes more_moves)
+    new_stands = subst (λ (x : Node). IsKeyOf kept there x) (sym new_goes) there_stands
+
+    found_counts : length g.found ≡ length origins + 1
+    found_counts = counted kept keys origins g.found g.numbered ∙ g.numbered.one_more
+
+    key_within : next < length keys
+    key_within = trying-within kept keys origins picker picked next steps is_all i t
+
+    -- the places that were picked are those of found lists
+    pub picked-within : AreWithin g.found (next ∷ picked)
+    picked-within =
+        let known = g.making.searching.known in (behind (space_of task) (order_of task) known.0 g.found (next ∷ picked) known.1).within
 
     pub more_earlier : AreEarlier more_origins
-    more_earlier = earlier_new origins next s g.earlier below
+    more_earlier = earlier_new origins next s g.numbered.earlier (omega (arith, key_within, g.numbered.one_more))
 
     more_trace : Trace kept more_origins (g.found ++ more_moves ∷ [])
-    more_trace = trace_new kept origins g.found next list_here.0 m s g.trace list_here.1 found_counts step_is
+    more_trace = trace_new kept origins g.found next t.list m s g.numbered.trace t.list_at found_counts step_is
 
     pub some_trace : (found : List (List Move)) × Trace kept more_origins found
     some_trace = (g.found ++ more_moves ∷ [], more_trace)
@@ -302,89 +394,121 @@ module _ (task : Task) where
     -- the last of the traced lists is that of the new node
     last_traced : slice_get (g.found ++ more_moves ∷ []) (length more_origins) ≡ Some more_moves
     last_traced =
-        let number : length g.found ≡ length more_origins =
-        omega (arith, found_counts, length-append origins (record { parent = next; last = s } ∷ [])) in
+        let number : length g.found ≡ length more_origins = omega (arith, found_counts, length-append origins (origin ∷ [])) in
         subst (λ (n : ℕ). slice_get (g.found ++ more_moves ∷ []) n ≡ Some more_moves) number (at_end g.found more_moves)
 
-    pub trying-seen : Contains keys there → Trying task kept keys origins next steps is_all (i + 1)
-    trying-seen has = record {
-      key = t.key;
-      key_at = t.key_at;
-      node = t.node;
-      stands = t.stands;
-      begun = t.begun;
-      going = record {
-        found = g.found;
-        nodes = g.nodes;
-        walking =
-            walking-seen task g.found g.nodes next t.begun.moves i t.node m g.walking node_here t.begun.are moves_inside m_is
-            (seen kept keys g.nodes there next_node g.stand there_stands has);
-        stand = g.stand;
-        trace = g.trace;
-        earlier = g.earlier;
-        one_more = g.one_more;
-      };
+    -- one more of the moves was made
+    one_tried : (found : List (List Move)) → IsMaking task found next picked (take (suc i) t.begun.moves)
+        → IsMaking task found next picked (take (i + 1) t.begun.moves)
+    one_tried found making =
+        let number : suc i ≡ i + 1 = omega arith in
+        subst (λ (n : ℕ). IsMaking task found next picked (take n t.begun.moves)) number making
+
+    pub trying-seen : Contains keys there → Trying task kept keys origins picker picked next steps is_all (i + 1)
+    trying-seen has =
+        let reached = from_map g.found next_node (seen kept keys (map goes g.found) there next_node g.numbered.stand there_stands has) in
+        record {
+          list = t.list;
+          begun = t.begun;
+          going = record {
+            found = g.found;
+            making = one_tried g.found (making_seen task g.found next picked t.list t.list_at t.begun.moves i m g.making at_m reached);
+            numbered = g.numbered;
+            picking = g.picking;
+          };
+          list_at = t.list_at;
+        }
+
+    -- the move goes on from the place
+    pub onward : IsOnward task kept g.found origin there more_moves
+    onward = record {
+      parent = t.list;
+      parent_at = t.list_at;
+      m = m;
+      step = step_is;
+      moves_are = refl;
+      stands = new_stands;
+      entries = entries_at more_moves (made-push (space_of task) (order_of task) (initial_node task) t.list m
+          (list-made g.found (next ∷ picked) picked g.making.searching next t.list t.list_at)
+          (t.begun.are.allowed m (contains_place t.begun.moves i m at_m)));
+    }
+
+    pub numbered-more : AreNumbered task kept (keys ++ there ∷ []) more_origins (g.found ++ more_moves ∷ [])
+    numbered-more = record {
+      stand = subst (λ (l : List Node). AllStand kept (keys ++ there ∷ []) l) (sym (map-append goes g.found (more_moves ∷ [])))
+          (all_stand-push kept keys (map goes g.found) there (goes more_moves) g.numbered.stand new_stands);
+      trace = more_trace;
+      earlier = more_earlier;
+      one_more = omega (arith, g.numbered.one_more, length-append keys (there ∷ []), length-append origins (origin ∷ []));
     }
 
     module _ (fresh : ¬ Contains keys there) where
-      not_seen : ¬ Contains g.nodes next_node
-      not_seen = unseen kept once keys g.nodes there next_node g.stand there_stands fresh
+      is_new : IsNew (space_of task) (order_of task) g.found t.list m
+      is_new = first_new task g.found next picked t.list t.list_at t.begun.moves t.begun.are i m g.making at_m
+          (λ r. unseen kept once keys (map goes g.found) there next_node g.numbered.stand there_stands fresh
+          (subst (λ (x : Node). Contains (map goes g.found) x) r.2 (to_map g.found r.0 r.1)))
 
-      pub trying-new : length keys < task.problem.nodes → IsTriedAt task next_node Unanswered
-          → Trying task kept (keys ++ there ∷ []) more_origins next steps is_all (i + 1)
-      trying-new room tried = record {
-        key = t.key;
-        key_at = still_there keys (there ∷ []) next t.key t.key_at;
-        node = t.node;
-        stands = t.stands;
-        begun = t.begun;
-        going = record {
-          found = g.found ++ more_moves ∷ [];
-          nodes = g.nodes ++ next_node ∷ [];
-          walking =
-              walking-new task g.found g.nodes next t.begun.moves i t.node m g.walking node_here t.begun.are moves_inside m_is not_seen
-              (omega (arith, counts, room)) tried.0 tried.1;
-          stand = all_stand-push kept keys g.nodes there next_node g.stand there_stands;
-          trace = more_trace;
-          earlier = more_earlier;
-          one_more =
-              omega (arith, g.one_more, length-append keys (there ∷ []), length-append origins (record { parent = next; last = s } ∷ []));
-        };
-      }
+      room_there : length keys < task.problem.nodes → length g.found < task.problem.nodes
+      room_there room = omega (arith, counted kept keys origins g.found g.numbered, room)
+
+      pub trying-new : (new : Picker) → length keys < task.problem.nodes → IsTriedAt task next_node Unanswered
+          → IsPickerOf task kept (g.found ++ more_moves ∷ []) (next ∷ picked) new
+          → Trying task kept (keys ++ there ∷ []) more_origins new picked next steps is_all (i + 1)
+      trying-new new room tried picking =
+          let t_new = subst (λ (x : Node). IsTriedAt task x Unanswered) (sym new_goes) tried in
+          record {
+            list = t.list;
+            begun = t.begun;
+            going = record {
+              found = g.found ++ more_moves ∷ [];
+              making = one_tried (g.found ++ more_moves ∷ [])
+                  (making_found task g.found next picked t.list t.list_at t.begun.moves i m g.making at_m
+                  (searching_found task g.found next picked g.making.searching t.list t.list_at m is_new (room_there room) t_new.0
+                  t_new.1));
+              numbered = numbered-more;
+              picking = picking;
+            };
+            list_at = still_there g.found (more_moves ∷ []) next t.list t.list_at;
+          }
 
       pub going-found : (moves : List Move) → length keys < task.problem.nodes → IsTriedAt task next_node Answered
           → ((found : List (List Move)) → Trace kept more_origins found → slice_get found (length more_origins) ≡ Some moves)
-          → IsFound task moves
+          → IsFound task task.problem.weight moves
       going-found moves room tried traced =
+          let t_new = subst (λ (x : Node). IsTriedAt task x Answered) (sym new_goes) tried in
           let same : more_moves ≡ moves =
           one_at (g.found ++ more_moves ∷ []) (length more_origins) more_moves moves last_traced
           (traced (g.found ++ more_moves ∷ []) more_trace) in
-          subst (IsFound task) same
-          (walk-found task g.found g.nodes next t.begun.moves i t.node m g.walking node_here t.begun.are moves_inside m_is not_seen
-          (omega (arith, counts, room)) tried.0 t.begun.unlimited tried.1)
+          subst (IsFound task task.problem.weight) same
+          (ends_found task g.found next picked g.making.searching t.list t.list_at m is_new (room_there room) t_new.0 t.begun.unlimited
+          t_new.1)
 
       pub going-limit : (formula : List Atom) (shapes : List (List Tick)) → length keys < task.problem.nodes
-          → IsTriedAt task next_node (Limited formula shapes) → IsShapeLimit task next_node formula shapes
+          → IsTriedAt task next_node (Limited formula shapes) → IsShapeLimit task task.problem.weight next_node formula shapes
       going-limit formula shapes room tried =
-          walk-shape_limit_at_goal task g.found g.nodes next t.begun.moves i t.node m g.walking node_here t.begun.are moves_inside m_is
-          not_seen (omega (arith, counts, room)) tried.0 formula shapes tried.1
+          let t_new = subst (λ (x : Node). IsTriedAt task x (Limited formula shapes)) (sym new_goes) tried in
+          subst (λ (x : Node). IsShapeLimit task task.problem.weight x formula shapes) new_goes
+          (ends_limited_there task g.found next picked g.making.searching t.list t.list_at m is_new (room_there room) t_new.0 formula shapes
+          t_new.1)
 
       pub going-full : (made : List Node) (moves : List Move) → task.problem.nodes ≤ length keys
           → ((nodes : List Node) → AllStand kept (keys ++ there ∷ []) nodes → made ≡ take task.problem.nodes nodes)
           → ((found : List (List Move)) → Trace kept more_origins found → slice_get found (length more_origins) ≡ Some moves)
-          → IsNodeLimit task made (length moves)
+          → IsNodeLimit task task.problem.weight made (length moves)
       going-full made moves enough all traced =
-          let full : length g.nodes ≡ task.problem.nodes =
-          omega (arith, enough, counts, g.walking.searching.room, counted task g.found g.nodes next (take i t.begun.moves) g.walking) in
+          let full : length g.found ≡ task.problem.nodes =
+          omega (arith, enough, counted kept keys origins g.found g.numbered, g.making.searching.room) in
+          let full_nodes : task.problem.nodes ≡ length (map goes g.found) = sym full ∙ sym (length-map g.found goes) in
           let same : more_moves ≡ moves =
           one_at (g.found ++ more_moves ∷ []) (length more_origins) more_moves moves last_traced
           (traced (g.found ++ more_moves ∷ []) more_trace) in
-          let nodes_are : made ≡ g.nodes =
-          all (g.nodes ++ next_node ∷ []) (all_stand-push kept keys g.nodes there next_node g.stand there_stands)
-          ∙ take_kept g.nodes next_node task.problem.nodes (sym full) in
-          subst (λ (l : List Node). IsNodeLimit task l (length moves)) (sym nodes_are)
-          (walk-full task g.found g.nodes next t.begun.moves i t.node m g.walking node_here t.begun.are moves_inside m_is not_seen
-          (length moves) full (ap length (sym same)) t.begun.unlimited)
+          let nodes_are : made ≡ map goes g.found =
+          all (map goes g.found ++ goes more_moves ∷ [])
+          (all_stand-push kept keys (map goes g.found) there (goes more_moves) g.numbered.stand new_stands)
+          ∙ take_kept (map goes g.found) (goes more_moves) task.problem.nodes full_nodes in
+          subst (λ (l : List Move). IsNodeLimit task task.problem.weight made (length l)) same
+          (subst (λ (l : List Node). IsNodeLimit task task.problem.weight l (length more_moves)) (sym nodes_are)
+          (ends_full task g.found next picked g.making.searching t.list t.list_at m is_new full t.begun.unlimited))
         where
           take_kept : {A : Type 0} (xs : List A) (x : A) (n : ℕ) → n ≡ length xs → take n (xs ++ x ∷ []) ≡ xs
           take_kept [] x n long = rw long refl

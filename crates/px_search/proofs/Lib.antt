@@ -3,9 +3,8 @@ pub mod Answering
 pub mod BeginningLaws
 pub mod BegunLaws
 pub mod EffectLaws
-pub mod Endings
+pub mod FirstMoves
 pub mod FromLaws
-pub mod FrontierSteps
 pub mod GoingLaws
 pub mod JoinLaws
 pub mod LoopLaws
@@ -14,9 +13,13 @@ pub mod NoteLaws
 pub mod OfferLaws
 pub mod OriginLemmas
 pub mod Pairs
+pub mod PickLaws
+pub mod PickerLaws
 pub mod SceneLaws
+pub mod StackSums
 pub mod StepLaws
 pub mod Stepping
 pub mod StruckLaws
-pub mod Walking
+pub mod TurnLaws
+pub mod ValueEndings
 pub mod WholeLaws

@@ -5,16 +5,18 @@
 //!
 //! - [`search`] asks for a valid problem, a goal over at most 12 variables, an object where there is a variable, and learned tables
 //!   (`AreLearned` of `px_entries`). What it answers is stated over the task of these (`task_of` of `px_ends`).
-//! - It answers a plan: the moves to the first solved node, by the fewest moves (`IsFound`), the steps that they take, and the rows
-//!   of the table of the moves (`MovesRows`). The rows are a support of the steps, and the initial model carries these to the
-//!   goal (`Supports`, `Carries`): `build` of `px_table` makes the plan's table of them.
+//! - It goes by the problem's weight (`px_ends/specs/ByValue`): the node that is gone through next is the one of the least value, which is
+//!   the number of moves to it and, as many times as the weight says, what it lacks. At weight 0 that is breadth.
+//! - It answers a plan: the moves to the first solved node that is found (`IsFound`), the steps that they take, and the rows of the table
+//!   of the moves (`MovesRows`). The rows are a support of the steps, and the initial model carries these to the goal (`Supports`,
+//!   `Carries`): `build` of `px_table` makes the plan's table of them.
 //! - Or `Exhausted`, where no list of moves reaches a solved node and all nodes fit the limit (`IsExhausted`); `NodeLimit` with the
 //!   first nodes themselves (`IsNodeLimit`); `ShapeLimit` with the node of a question that meets the limit of shapes, the formula
 //!   and its first shapes (`IsShapeLimit`); or `NoMemory`.
 //! - Each of these comes exactly where its definition holds, but for `NoMemory`: where a task has one of the first three ends, this
 //!   is the answer, or memory ran out; and where a question that is asked meets the limit, the answer is some such question.
-//! - Which questions are asked is what the definition says (`IsAsked`): those of each node up to the one from which the stop is
-//!   reached, and the goal at each node with an empty stack before the stop, and at the stop itself if there is room for it.
+//! - Which questions are asked is what the definition says (`IsAsked`): those of each node that is picked up to the one from which the
+//!   stop is reached, and the goal at each node with an empty stack that is found before the stop, and at the stop itself if there is room.
 //!
 //! # Inside
 //!
@@ -29,20 +31,26 @@
 //! Where no question ever meets the limit and a node may push more entries than the node limit has room for, only the first of them are
 //! found, and kept (`begun`). All are asked for (`all_steps`) where the first were gone through and there is room left.
 //!
+//! Which node is gone through next is what the `picker` says: without a weight a counter, and else the agenda of `px_order`, with the value
+//! of each node. What an entry lacks in a model is counted once (`estimates`, by `px_lacks`): a push adds one such number, and after an
+//! application those of the stack are summed in the new model.
+//!
 //! No public clause cites the files of `specs/`: they serve private functions alone.
 #![tactic(auto)]
 
 mod after;
 mod all_steps;
 mod begun;
-mod breadth_first;
+mod best_first;
 mod effects;
 mod ends;
+mod estimates;
 mod merging;
 mod moves;
 mod notes;
 mod offering;
 mod origins;
+mod picker;
 mod picks;
 mod planning;
 mod progress;

@@ -21,7 +21,7 @@ use px_diff::{First, relevance_over_models, relevance_over_stacks, relevant, rel
 use px_gaps::AskErr;
 use px_ops::Model;
 use px_support::Asked;
-use px_terms::{Atom, NoMemory, Sequence};
+use px_terms::{Atom, NoMemory, Problem, Sequence};
 use std::alloc::Global;
 
 /// Returns a copy of what is kept.
@@ -35,6 +35,19 @@ fn copy_of(alloc: Global, offer: &Offer) -> Result<Begun, NoMemory>
         steps,
         is_all: offer.is_all,
     })
+}
+
+/// The most first moves of a node that are found before the others are asked for.
+const MOST_FIRST: u32 = 50_000;
+
+/// Returns how many first moves of a node are found before the others are asked for: as many as there may be room for, and no more than
+/// `MOST_FIRST`.
+fn enough_of(problem: &Problem) -> usize {
+    if problem.nodes < MOST_FIRST {
+        problem.nodes as usize
+    } else {
+        MOST_FIRST as usize
+    }
 }
 
 /// Returns all entries that may be pushed for one of the atoms over the empty stack, in order.
@@ -65,7 +78,7 @@ impl Notes {
             []) }
     {
         if self.is_never_limited {
-            let enough = asked.problem.nodes as usize;
+            let enough = enough_of(asked.problem);
             let first = relevant_first(
                 asked.alloc,
                 asked.problem,
@@ -170,7 +183,7 @@ impl Notes {
                 Ok(begun) => begun,
                 Err(error) => return Err(error),
             };
-            if !begun.is_all || steps.len() >= asked.problem.nodes as usize {
+            if !begun.is_all || steps.len() >= enough_of(asked.problem) {
                 return Ok(None);
             }
             steps = merged(asked.alloc, &self.numbers, &steps, &begun.steps)?;

@@ -13,14 +13,14 @@ ghost use Rattle.px_table.specs.Supports.{Supports};
 ghost use Rattle.px_table.specs.Tables.{AreOfProblem, rows_of};
 ghost use Rattle.px_entries.specs.Learned.{AreLearned};
 ghost use Rattle.px_entries.specs.Unlimited.{IsNeverLimited};
-ghost use Rattle.px_ends.specs.Ends.{IsFound, IsExhausted, IsNodeLimit, IsShapeLimit};
+ghost use Rattle.px_ends.specs.ByValue.{IsFound, IsExhausted, IsNodeLimit, IsShapeLimit};
 ghost use Rattle.px_ends.specs.Made.{MovesRows};
 ghost use Rattle.px_ends.specs.Tasks.{initial_node, steps_of, task_of};
 ghost use Rattle.px_support.specs.Asking.{IsAskable, task_for};
 ghost use Rattle.px_search.specs.Looping.{IsEnd};
 ghost use Rattle.px_search.specs.Planned.{IsPlanned};
 
-use crate::breadth_first::found_by_moves;
+use crate::best_first::found_by_moves;
 use crate::ends::{Found, SearchErr};
 use px_entries::never_limited;
 use px_ops::Model;
@@ -32,7 +32,7 @@ use std::alloc::Global;
 /// Returns the plan of the moves that were found: their steps, and the proofs that carry them.
 fn plan_of(asked: &Asked, moves: Sequence<Move>) -> Result<Found, NoMemory>
     requires asked { IsAskable asked.now }
-    requires found { IsFound (task_for asked.now) moves }
+    requires found { IsFound (task_for asked.now) asked.now.problem.now.weight moves }
     ensures { IfOk result (IsPlanned (task_for asked.now)) }
 {
     let Support { steps, rows } = support_of(asked, moves.as_slice())?;
@@ -75,7 +75,8 @@ pub fn search(
     requires few_variables { vars ≤ most_formula_variables }
     requires some_object { 0 < vars → 0 < problem.now.objects }
     requires tables { AreLearned problem.now tables.now }
-    ensures found { IfOk result (λ plan. IsFound (task_of problem.now tables.now initial.now.atoms goal.now vars) plan.moves) }
+    ensures found { IfOk result (λ plan. IsFound (task_of problem.now tables.now initial.now.atoms goal.now vars) problem.now.weight
+        plan.moves) }
     ensures few { IfOk result (λ plan. length plan.moves < problem.now.nodes) }
     ensures steps { IfOk result (λ plan. plan.steps ≡ steps_of tables.now [] plan.moves) }
     ensures rows { IfOk result (λ plan. MovesRows (task_of problem.now tables.now initial.now.atoms goal.now vars)
@@ -86,21 +87,23 @@ pub fn search(
     ensures fitting { IfOk result (λ plan. All (IsWellSorted problem.now) plan.steps) }
     ensures carries { IfOk result (λ plan. Carries problem.now initial.now.atoms plan.steps vars goal.now) }
     ensures short { IfOk result (λ plan. length plan.steps < u32_max) }
-    ensures exhausted { IsErrOf result SearchErr.Exhausted → IsExhausted (task_of problem.now tables.now initial.now.atoms goal.now vars) }
+    ensures exhausted { IsErrOf result SearchErr.Exhausted
+        → IsExhausted (task_of problem.now tables.now initial.now.atoms goal.now vars) problem.now.weight }
     ensures node_limit { (nodes : List Node) (moves : ℕ) → IsErrOf result (SearchErr.NodeLimit nodes moves)
-        → IsNodeLimit (task_of problem.now tables.now initial.now.atoms goal.now vars) nodes moves }
+        → IsNodeLimit (task_of problem.now tables.now initial.now.atoms goal.now vars) problem.now.weight nodes moves }
     ensures shape_limit { (node : Node) (formula : List Atom) (shapes : List (List Tick))
         → IsErrOf result (SearchErr.ShapeLimit node formula shapes)
-        → IsShapeLimit (task_of problem.now tables.now initial.now.atoms goal.now vars) node formula shapes }
-    ensures always_found { (moves : List Move) → IsFound (task_of problem.now tables.now initial.now.atoms goal.now vars) moves
+        → IsShapeLimit (task_of problem.now tables.now initial.now.atoms goal.now vars) problem.now.weight node formula shapes }
+    ensures always_found { (moves : List Move)
+        → IsFound (task_of problem.now tables.now initial.now.atoms goal.now vars) problem.now.weight moves
         → IfOk result (λ plan. plan.moves ≡ moves) × IfErr result (λ e. e ≡ SearchErr.NoMemory) }
-    ensures always_exhausted { IsExhausted (task_of problem.now tables.now initial.now.atoms goal.now vars)
+    ensures always_exhausted { IsExhausted (task_of problem.now tables.now initial.now.atoms goal.now vars) problem.now.weight
         → IsErrOf result SearchErr.Exhausted ⊎ IsErrOf result SearchErr.NoMemory }
     ensures always_node_limit { (nodes : List Node) (moves : ℕ)
-        → IsNodeLimit (task_of problem.now tables.now initial.now.atoms goal.now vars) nodes moves
+        → IsNodeLimit (task_of problem.now tables.now initial.now.atoms goal.now vars) problem.now.weight nodes moves
         → IsErrOf result (SearchErr.NodeLimit nodes moves) ⊎ IsErrOf result SearchErr.NoMemory }
     ensures always_shape_limit { (node : Node) (formula : List Atom) (shapes : List (List Tick))
-        → IsShapeLimit (task_of problem.now tables.now initial.now.atoms goal.now vars) node formula shapes
+        → IsShapeLimit (task_of problem.now tables.now initial.now.atoms goal.now vars) problem.now.weight node formula shapes
         → ((there : Node) × (kept : List Atom) × (first : List (List Tick)) × IsErrOf result (SearchErr.ShapeLimit there kept first))
         ⊎ IsErrOf result SearchErr.NoMemory }
 {

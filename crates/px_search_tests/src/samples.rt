@@ -22,6 +22,17 @@ pub fn rooms_within(alloc: Global, rt: &impl Abort, limits: (u32, u32)) -> Probl
     problem
 }
 
+/// Returns the problem of the rooms, searched with this weight within this limit of nodes.
+pub fn weighted_rooms(alloc: Global, rt: &impl Abort, weight: u32, nodes: u32) -> Problem
+    ensures { IsValid result }
+{
+    let mut problem = rooms(alloc).expect(rt, "memory");
+    problem.weight = weight;
+    problem.nodes = nodes;
+    assert!(rt; is_valid(&problem));
+    problem
+}
+
 /// Returns the rooms where only the box can be pushed, searched within this limit of nodes.
 pub fn sorted_within(alloc: Global, rt: &impl Abort, nodes: u32) -> Problem
     ensures { IsValid result }

@@ -2,7 +2,7 @@
 ghost use Rattle.px_terms.specs.Validity.{IsValid};
 
 use crate::samples::{
-    learned, rooms_within, sorted_within, spread_apart, spreading, there_and_back,
+    learned, rooms_within, sorted_within, spread_apart, spreading, there_and_back, weighted_rooms,
 };
 use px_entries::are_learned;
 use px_numbers::FirstNodes;
@@ -92,6 +92,24 @@ fn answer_within(alloc: Global, rt: &impl Abort, limits: (u32, u32), goal: &[Ato
 fn a_box_is_pushed_back(rt: HostRuntime) {
     let found = answer_within(rt.alloc(), &rt, (89, 10000), &box_in_first_room());
     assert!(&rt; matches!(found, Answered::ThereAndBack(4)));
+}
+
+/// Returns what is answered in the rooms with this weight, within this limit of nodes.
+fn answer_by(alloc: Global, rt: &impl Abort, weight: u32, nodes: u32) -> Answered {
+    let problem = weighted_rooms(alloc, rt, weight, nodes);
+    answer(alloc, rt, &problem, &box_in_first_room(), &[])
+}
+
+/// With a greater weight fewer nodes are found on the way. The numbers are those of another program.
+#[test]
+fn a_weight_spares_nodes(rt: HostRuntime) {
+    let alloc = rt.alloc();
+    for (weight, nodes) in [(0, 89), (1, 25), (3, 20), (16, 20), (1000, 20)] {
+        let found = answer_by(alloc, &rt, weight, nodes);
+        assert!(&rt; matches!(found, Answered::ThereAndBack(4)));
+        let limited = answer_by(alloc, &rt, weight, nodes - 1);
+        assert!(&rt; matches!(limited, Answered::Nodes(..)));
+    }
 }
 
 #[test]

@@ -1,10 +1,12 @@
 -- What a session keeps, from its opening on and by each lawful reply.
-use Rattle.std.specs.Prelude.{◌≡◌, ◌≢◌, ◌⊎◌, ◌<◌, ◌≤◌, ◌+◌, ℕ, Option, List, [], ◌∷◌, length, take, flat_map, All, AllPairs, Contains, IfSome}
+use Rattle.std.specs.Prelude.{◌≡◌, ◌≢◌, ◌⊎◌, ◌<◌, ◌≤◌, ◌+◌, ℕ, Option, List, [], ◌∷◌, length, map, drop, flat_map, All, AllPairs, Contains, IfSome}
 use Rattle.std.proofs.Common.{refl, sym, ap, ◌∙◌, subst, arith, get_or, zero, suc, inl}
 use Rattle.std.proofs.lemmas.List.{length-append}
 use Rattle.std.proofs.lemmas.List.Elements.{All-nil, All-weaker, Contains-append_cases}
 use Rattle.px_base.specs.Bounds.{u32_max}
+use Rattle.px_names.specs.Lists.{AreNameLists}
 use Rattle.px_terms.specs.declared.problem.Problem.{Problem}
+use Rattle.px_table.specs.declared.table.Table.{Table}
 use Rattle.px_table.specs.Kernels.{KernelsCarry}
 use Rattle.px_printer.specs.Replies.{IsReplyNamed}
 use Rattle.px_printer.specs.declared.reply.Reply.{Reply}
@@ -24,11 +26,13 @@ use Rattle.px_session.specs.Opened.{SessionValue, opened_session, tables_of}
 use Rattle.px_session.specs.OwnStates.{IsOwnEdit, IsOwnGoal, edits_given}
 use Rattle.px_session.specs.Places.{IsPlaced, TakeSame, Takes}
 use Rattle.px_session.specs.Sessions.{SessionState}
-use Rattle.px_session.proofs.GivenNames.{apart-range, names-next}
+use Rattle.px_session.specs.Writable.{AsksWritable}
+use Rattle.px_session.proofs.GivenNames.{commands-apart, names-next, saved-given}
 use Rattle.px_session.proofs.Kept.{sessions_are_kept}
 use Rattle.px_session.proofs.NamedReplies.{named-each}
 use Rattle.px_session.proofs.Placing.{takes-later}
 use Rattle.px_session.proofs.Replied.{replied}
+use Rattle.px_session.proofs.Writables.{all-ask, certifiable-problem, writable-kept, writable-opened}
 use Rattle.px_session.proofs.RoomEdits.{OwnsRoomEdits, at_first, each-building, note-atoms, note-rooms, owns-room-edits, placed-first}
 
 -- ---- the opening
@@ -68,6 +72,8 @@ ready version problem building results (command.Learn name source) owns of = ((t
 ready version problem building results (command.Edit name source prefix wanted) owns of =
     ((wanted-ready version wanted of.3, no-edits problem (at_first building)), (of.0, of.1))
 ready version problem building results (command.Show name) owns of = ((tt, no-edits problem (at_first building)), of)
+ready version problem building results (command.Save name) owns of = ((tt, no-edits problem (at_first building)), of)
+ready version problem building results (command.Certify name) owns of = ((tt, no-edits problem (at_first building)), of)
 ready version problem building results (command.DisturbAtoms turn between edits) owns of =
     ((tt, note-atoms problem building edits of.1 of.2), tt)
 ready version problem building results (command.DisturbRooms turn between edits) owns of =
@@ -88,12 +94,16 @@ ready-at script range k c below =
 few-commands : (version count : ℕ) → count ≤ greatest version limit.Commands → count < u32_max
 few-commands version count few = let most = version-most version count 512 1024 (omega arith) few in omega (arith, most)
 
+-- the names of the saved tables
+abbrev saved_names : ScriptValue → List ℕ
+saved_names script = map (λ (one : ℕ × Table). one.0) script.saved
+
 -- a session keeps what it is to keep before its first command
-pub kept-opened : (script : ScriptValue) → IsInRange script → IsKeptSession (at_first script.building) (opened_session script)
-kept-opened script range = record {
+pub kept-opened : (script : ScriptValue) → IsInRange script → AreNameLists script.names → IsKeptSession (at_first script.building) (opened_session script)
+kept-opened script range named = record {
   problem = range.problem.valid;
   names = record { objects = sym range.problem.objects; predicates = sym range.problem.predicates; operators = range.operators };
-  state = sessions_are_kept.opened script.problem script.facts range.facts.fact_set;
+  state = sessions_are_kept.scripts script range;
   own = record { atoms = range.facts.atoms; edits = All-nil (λ one. All (IsOwnEdit script.problem) one.edits) };
   placed = record {
     place = placed-first script.names script.problem script.facts script.building range.building;
@@ -101,10 +111,15 @@ kept-opened script range = record {
   };
   commands = λ k c below. (ready-at script range k c below).0;
   tellable = λ k c below. (ready-at script range k c below).1;
-  once = subst (AllPairs (λ one other. one ≢ other)) (sym range.commands.given) (apart-range (length script.names.results));
-  learned = All-nil (Contains (flat_map result_given (take 0 script.commands)));
+  once = commands-apart (saved_names script) script.commands (length script.names.results) range.commands.given;
+  learned = saved-given (saved_names script) script.commands (length script.names.results) range.commands.given;
   few = few-commands script.version (length script.commands) range.commands.few;
   recorded = omega arith;
+  written = writable-opened script range;
+  asked = all-ask script range;
+  certifiable = certifiable-problem script range;
+  named = named;
+  short_names = range.names.results.short;
 }
 
 -- ---- each command
@@ -149,6 +164,8 @@ own-goal problem building (command.Plan name goal vars) runs = runs.0.atoms
 own-goal problem building (command.Learn name source) runs = tt
 own-goal problem building (command.Edit name source prefix wanted) runs = tt
 own-goal problem building (command.Show name) runs = tt
+own-goal problem building (command.Save name) runs = tt
+own-goal problem building (command.Certify name) runs = tt
 own-goal problem building (command.DisturbAtoms turn between edits) runs = tt
 own-goal problem building (command.DisturbRooms turn between edits) runs = tt
 own-goal problem building (command.Run name bound) runs = tt
@@ -174,12 +191,12 @@ runnable-later problem old new same given runs =
 pub kept-after : (building left : Option RoomState) (session : SessionValue) (given : Command) (answer : Reply) (new : SessionState)
     (done : ℕ)
     → IsKeptSession building session → done ≡ session.done + 1 → session.done < length session.commands
-    → given ≡ get_or session.commands session.done given → IsRunnable session.problem building given
+    → given ≡ get_or session.commands session.done given → IsRunnable session.problem building given → AsksWritable session.problem given
     → Lawful session.problem session.state given answer new → IsPlaced session.problem left new → TakeSame building left
     → IsKeptSession left (after_command session new done)
-kept-after building left session given answer new done kept more below is runs lawful placed same =
+kept-after building left session given answer new done kept more below is runs asks lawful placed same =
     let parts = keeps-parts session.problem session.state given answer new lawful in
-    let names = names-next session.commands session.done given session.state.learned.names new.learned.names below is kept.learned
+    let names = names-next session.commands session.done given below is session.state.learned.names new.learned.names kept.once kept.learned
     parts.learned in
     record {
       problem = kept.problem;
@@ -193,9 +210,15 @@ kept-after building left session given answer new done kept more below is runs l
           session.commands kept.commands;
       tellable = kept.tellable;
       once = kept.once;
-      learned = subst (λ n. All (Contains (flat_map result_given (take n session.commands))) new.learned.names) (sym more) names;
+      learned = subst (λ n. All (λ name. ¬ Contains (flat_map result_given (drop n session.commands)) name) new.learned.names) (sym more)
+          names;
       few = kept.few;
       recorded = omega (arith, more, parts.recorded, kept.recorded);
+      written = writable-kept session.problem session.state given answer new kept.problem kept.state kept.written asks lawful;
+      asked = kept.asked;
+      certifiable = kept.certifiable;
+      named = kept.named;
+      short_names = kept.short_names;
     }
 
 pub named-after : (building : Option RoomState) (session : SessionValue) (given : Command) (answer : Reply) (new : SessionState)

@@ -39,6 +39,7 @@ use Rattle.px_session.proofs.ExistingEdits.{edit-reply}
 use Rattle.px_session.proofs.Kept.{sessions_are_kept}
 use Rattle.px_session.proofs.Learned.{are-learned}
 use Rattle.px_session.proofs.OneLearning.{any-right}
+use Rattle.px_session.proofs.OneSaving.{certify-reply, save-reply}
 use Rattle.px_session.proofs.OwnDuos.{each_table}
 
 -- ---- turns are told
@@ -165,6 +166,8 @@ module _ (traces-exist : TracesExist leaves_edit) (duo-traces-exist : DuoTracesE
     other-reply (command.Learn name source) asks = absurd asks
     other-reply (command.Edit name source prefix wanted) asks = absurd asks
     other-reply (command.Show name) asks = shown name
+    other-reply (command.Save name) asks = save-reply problem old name
+    other-reply (command.Certify name) asks = certify-reply problem old name
     other-reply (command.DisturbAtoms turn between edits) asks = noted turn between (map of_atoms edits)
     other-reply (command.DisturbRooms turn between edits) asks = noted turn between (map of_rooms edits)
     other-reply (command.Run name bound) asks = ran name bound
@@ -177,10 +180,10 @@ module _ (traces-exist : TracesExist leaves_edit) (duo-traces-exist : DuoTracesE
       abbrev task : Task
       task = task_of problem old.learned.tables old.atoms goal vars
 
-      by-end : HasEnd task → HasReply problem old (command.Plan name goal vars)
+      by-end : HasEnd task problem.weight → HasReply problem old (command.Plan name goal vars)
       by-end (inl found) =
           let moves = found.0 in
-          let made = found_have_tables task moves valid own (are-learned problem old session) found.1 in (
+          let made = found_have_tables task problem.weight moves valid own (are-learned problem old session) found.1 in (
             reply.Plan name (length moves) (steps_of task.tables [] moves),
             (
               record old { plans = with_table old.plans name made.0 },
@@ -195,13 +198,15 @@ module _ (traces-exist : TracesExist leaves_edit) (duo-traces-exist : DuoTracesE
       by-end (inr (inr (inr limit))) = (reply.ShapeLimit name limit.0 limit.1 limit.2, (old, (refl, limit.3, refl)))
 
       plan-reply : ¬ ¬ HasReply problem old (command.Plan name goal vars)
-      plan-reply never = searches_end task (λ end. never (by-end end))
+      plan-reply never = searches_end task problem.weight (λ end. never (by-end end))
 
     no-learning : (given : Command) → LearnsNothing given → IsOwnGoal problem given → ¬ ¬ HasReply problem old given
     no-learning (command.Plan name goal vars) learns own = plan-reply name goal vars own
     no-learning (command.Learn name source) learns own = absurd learns
     no-learning (command.Edit name source prefix wanted) learns own = edit-reply problem old name source prefix wanted valid session
     no-learning (command.Show name) learns own = λ never. never (other-reply (command.Show name) tt)
+    no-learning (command.Save name) learns own = λ never. never (other-reply (command.Save name) tt)
+    no-learning (command.Certify name) learns own = λ never. never (other-reply (command.Certify name) tt)
     no-learning (command.DisturbAtoms turn between edits) learns own = λ never. never (other-reply (command.DisturbAtoms turn between edits) tt)
     no-learning (command.DisturbRooms turn between edits) learns own = λ never. never (other-reply (command.DisturbRooms turn between edits) tt)
     no-learning (command.Run name bound) learns own = λ never. never (other-reply (command.Run name bound) tt)
@@ -276,8 +281,8 @@ module _ (traces-exist : TracesExist leaves_edit) (duo-traces-exist : DuoTracesE
   pub transcripts_exist : TranscriptsExist
   transcripts_exist bytes script is learns never =
       let range = in-range stage_now bytes script is in
-      let session = sessions_are_kept.opened script.problem script.facts range.facts.fact_set in
-      answers-there script.problem range.problem.valid (opening script.facts) session script.commands (own-goals script range) learns
+      let session = sessions_are_kept.scripts script range in
+      answers-there script.problem range.problem.valid (opening script.facts script.saved) session script.commands (own-goals script range) learns
       (λ found. never (
         texts script.names found.0,
         record {

@@ -22,9 +22,8 @@ use Rattle.px_entries.specs.Learned.{AreLearned}
 use Rattle.px_ends.specs.Ends.{AreMoves}
 use Rattle.px_ends.specs.Moves.{CanMake}
 use Rattle.px_ends.specs.Tasks.{IsAllowed, Task, after, steps_of}
-use Rattle.px_support.proofs.FewMoves.{few-moves}
+use Rattle.px_support.proofs.FoundByValue.{found_with_weight}
 use Rattle.px_support.proofs.MacroTables.{macro-table}
-use Rattle.px_support.proofs.Supported.{found-moves}
 use Rattle.px_support.proofs.Supporting.{moves_support}
 use Rattle.px_support.specs.MadeSupports.{AreSupport}
 use Rattle.px_session.specs.Lawful.{FindsPlan}
@@ -63,7 +62,7 @@ module _ (task : Task) (valid : IsValid task.problem) (goal_of : All (IsAtomOf t
     taken = steps_of task.tables [] is.moves
 
     moves-are : AreMoves task is.moves
-    moves-are = found-moves task is.moves is.found
+    moves-are = (found_with_weight task task.problem.weight is.moves is.found).can
 
     support : AreSupport task is.moves (rows_of is.made.proofs)
     support = moves_support answers-support task is.moves (rows_of is.made.proofs) valid goal_of learned moves-are is.table.rows
@@ -74,7 +73,7 @@ module _ (task : Task) (valid : IsValid task.problem) (goal_of : All (IsAtomOf t
 
     short : length taken < u32_max
     short =
-        let few = few-moves task is.moves is.found in
+        let few = (found_with_weight task task.problem.weight is.moves is.found).few in
         let all = steps-short task.initial [] is.moves (All-nil (IsEntry task.problem task.tables)) moves-are in
         omega (arith, few, all, valid.nodes.1)
 

@@ -1,19 +1,17 @@
--- A command gives a name that no command before it gave.
-use Rattle.std.specs.Prelude.{◌≡◌, ◌≢◌, ◌<◌, ◌+◌, ◌++◌, ◌⊎◌, ℕ, List, [], ◌∷◌, length, take, flat_map, All, AllPairs, Contains}
+-- A command gives a name that no saved table has, and that no command before it gave.
+use Rattle.std.specs.Prelude.{◌≡◌, ◌≢◌, ◌<◌, ◌≤◌, ◌+◌, ◌++◌, ◌⊎◌, ℕ, List, [], ◌∷◌, length, drop, flat_map, All, AllPairs, Contains}
 use Rattle.std.specs.List.{range_with_len}
-use Rattle.std.proofs.Common.{zero, suc, get_or, sym, ap, ◌∙◌, subst, arith, inl, inr}
-use Rattle.std.proofs.lemmas.List.Concat.{flat_map-append}
+use Rattle.std.proofs.Common.{zero, suc, get_or, refl, sym, subst, arith, inl, inr}
 use Rattle.std.proofs.lemmas.List.Elements.{Contains-append_cases, Contains-append_left, Contains-append_right}
 use Rattle.std.proofs.lemmas.List.FromFn.{get_or-range_with_len, length-range_with_len}
-use Rattle.std.proofs.lemmas.List.{append-nil}
-use Rattle.px_base.proofs.Loops.{take_next}
+use Rattle.std.proofs.lemmas.List.{get_or_append_left, length-append}
 use Rattle.px_base.specs.ListLaws.{All-at, All-each, Contains-cases, Contains-none}
 use Rattle.px_script.specs.declared.command.Command.{Command}
 use Rattle.px_script.specs.Ranges.{result_given}
 
 -- ---- numbers that are all different
 
-abbrev AreApart : List ℕ → Type 0
+abbrev pub AreApart : List ℕ → Type 0
 AreApart names = AllPairs (λ one other. one ≢ other) names
 
 apart-rest : (n : ℕ) (names : List ℕ) → AreApart (n ∷ names) → AreApart names
@@ -23,7 +21,7 @@ apart-first : (n : ℕ) (names : List ℕ) → AreApart (n ∷ names) → All (�
 apart-first n names apart j d within = apart 0 (suc j) d (omega arith) (omega (arith, within))
 
 -- none is both before a place and after it
-apart-parts : (before after : List ℕ) (n : ℕ) → AreApart (before ++ after) → Contains before n → ¬ Contains after n
+pub apart-parts : (before after : List ℕ) (n : ℕ) → AreApart (before ++ after) → Contains before n → ¬ Contains after n
 apart-parts [] after n apart here there = Contains-none n here
 apart-parts (one ∷ before) after n apart here there =
     elim (Contains-cases one before n here) [
@@ -44,58 +42,87 @@ apart-range count i j d less within same =
     let other = get_or-range_with_len 0 count j d (omega (arith, within, long)) in
     omega (arith, less, one, other, same)
 
+-- those before a place are so
+apart-before : (before after : List ℕ) → AreApart (before ++ after) → AreApart before
+apart-before before after apart i j d less within =
+    let long : length before ≤ length (before ++ after) = omega (arith, length-append before after) in
+    subst (λ (n : ℕ). n ≢ get_or before j d) (get_or_append_left before after d i (omega (arith, less, within)))
+    (subst (λ (n : ℕ). get_or (before ++ after) i d ≢ n) (get_or_append_left before after d j within)
+    (apart i j d less (omega (arith, within, long))))
+
 -- ---- the names that commands give
 
-given-there : (commands : List Command) (k : ℕ) (c : Command) (name : ℕ) → k < length commands
-    → Contains (result_given (get_or commands k c)) name
-    → Contains (flat_map result_given commands) name
-given-there [] k c name below has = absurd (omega (arith, below))
-given-there (one ∷ commands) zero c name below has = Contains-append_left (result_given one) (flat_map result_given commands) name has
-given-there (one ∷ commands) (suc k) c name below has =
-    Contains-append_right (result_given one) (flat_map result_given commands) name
-    (given-there commands k c name (omega (arith, below)) has)
+abbrev given_from : List Command → ℕ → List ℕ
+given_from commands k = flat_map result_given (drop k commands)
 
--- what the command at a place gives wasn't given before
-pub given-new : (commands : List Command) (k : ℕ) (c : Command) (name : ℕ) → k < length commands → AreApart (flat_map result_given commands)
-    → Contains (result_given (get_or commands k c)) name → ¬ Contains (flat_map result_given (take k commands)) name
-given-new [] k c name below apart has before = absurd (omega (arith, below))
-given-new (one ∷ commands) zero c name below apart has before = Contains-none name before
-given-new (one ∷ commands) (suc k) c name below apart has before =
-    elim (Contains-append_cases (result_given one) (flat_map result_given (take k commands)) name before) [
-      | inl first ↦ apart-parts (result_given one) (flat_map result_given commands) name apart first
-          (given-there commands k c name (omega (arith, below)) has)
-      | inr later ↦ given-new commands k c name (omega (arith, below))
-          (apart-after (result_given one) (flat_map result_given commands) apart) has later
-    ]
+-- what the command at a place gives, and what those after it give, is what the commands from it on give
+from-here : (commands : List Command) (k : ℕ) (c : Command) → k < length commands
+    → given_from commands k ≡ result_given (get_or commands k c) ++ given_from commands (suc k)
+from-here [] k c below = absurd (omega (arith, below))
+from-here (one ∷ commands) zero c below = refl
+from-here (one ∷ commands) (suc k) c below = from-here commands k c (omega (arith, below))
 
--- what the commands before a place gave, and the one at the place, is what the commands up to it gave
-pub given-next : (commands : List Command) (k : ℕ) (c : Command) → k < length commands → c ≡ get_or commands k c
-    → flat_map result_given (take (k + 1) commands) ≡ flat_map result_given (take k commands) ++ result_given c
-given-next commands k c below is =
-    ap (flat_map result_given) (take_next commands k c below is) ∙ flat_map-append result_given (take k commands) (c ∷ [])
-    ∙ ap (λ (names : List ℕ). flat_map result_given (take k commands) ++ names) (append-nil (result_given c))
+apart-from : (commands : List Command) (k : ℕ) → AreApart (flat_map result_given commands) → AreApart (given_from commands k)
+apart-from [] zero apart = apart
+apart-from [] (suc k) apart = apart
+apart-from (one ∷ commands) zero apart = apart
+apart-from (one ∷ commands) (suc k) apart =
+    apart-from commands k (apart-after (result_given one) (flat_map result_given commands) apart)
 
--- a library that has no names but those before it and that of the command
-pub names-next : (commands : List Command) (k : ℕ) (c : Command) (old new : List ℕ) → k < length commands → c ≡ get_or commands k c
-    → All (Contains (flat_map result_given (take k commands))) old
-    → ((name : ℕ) → Contains new name → Contains old name ⊎ Contains (result_given c) name)
-    → All (Contains (flat_map result_given (take (k + 1) commands))) new
-names-next commands k c old new below is before each =
-    let so_far = flat_map result_given (take k commands) in
-    All-each (Contains (flat_map result_given (take (k + 1) commands))) new
-    (λ name has.
-    subst (λ (names : List ℕ). Contains names name) (sym (given-next commands k c below is))
-    (elim (each name has) [
-      | inl earlier ↦ Contains-append_left so_far (result_given c) name (All-at (Contains so_far) old name before earlier)
-      | inr now ↦ Contains-append_right so_far (result_given c) name now
-    ]))
+-- no command from a place on gives one of the names
+abbrev GivenByNone : List Command → ℕ → List ℕ → Type 0
+GivenByNone commands k names = All (λ name. ¬ Contains (given_from commands k) name) names
 
--- no learned table has a name that the command at the place gives
-pub names-new : (commands : List Command) (k : ℕ) (c : Command) (learned : List ℕ) → k < length commands → c ≡ get_or commands k c
-    → AreApart (flat_map result_given commands) → All (Contains (flat_map result_given (take k commands))) learned
-    → All (λ name. ¬ Contains learned name) (result_given c)
-names-new commands k c learned below is apart before =
-    All-each (λ name. ¬ Contains learned name) (result_given c)
-    (λ name has there.
-    given-new commands k c name below apart (subst (λ (one : Command). Contains (result_given one) name) is has)
-    (All-at (Contains (flat_map result_given (take k commands))) learned name before there))
+module _ (commands : List Command) (k : ℕ) (c : Command) (below : k < length commands) (is : c ≡ get_or commands k c) where
+  here : given_from commands k ≡ result_given c ++ given_from commands (suc k)
+  here = subst (λ (one : Command). given_from commands k ≡ result_given one ++ given_from commands (suc k)) (sym is)
+      (from-here commands k c below)
+
+  -- no learned table has a name that the command at the place gives
+  pub names-new : (learned : List ℕ) → GivenByNone commands k learned → All (λ name. ¬ Contains learned name) (result_given c)
+  names-new learned none =
+      All-each (λ name. ¬ Contains learned name) (result_given c)
+      (λ name has there.
+      All-at (λ n. ¬ Contains (given_from commands k) n) learned name none there
+      (subst (λ (names : List ℕ). Contains names name) (sym here)
+      (Contains-append_left (result_given c) (given_from commands (suc k)) name has)))
+
+  -- and once that is done, those after it don't give the name of a table that is learned then
+  pub names-next : (old new : List ℕ) → AreApart (flat_map result_given commands) → GivenByNone commands k old
+      → ((name : ℕ) → Contains new name → Contains old name ⊎ Contains (result_given c) name)
+      → GivenByNone commands (k + 1) new
+  names-next old new apart none each =
+      let up : k + 1 ≡ suc k = omega arith in
+      let both = subst AreApart here (apart-from commands k apart) in
+      All-each (λ name. ¬ Contains (given_from commands (k + 1)) name) new
+      (λ name has later.
+      let after = subst (λ (n : ℕ). Contains (given_from commands n) name) up later in
+      elim (each name has) [
+        | inl earlier ↦ All-at (λ n. ¬ Contains (given_from commands k) n) old name none earlier
+            (subst (λ (names : List ℕ). Contains names name) (sym here)
+            (Contains-append_right (result_given c) (given_from commands (suc k)) name after))
+        | inr now ↦ apart-parts (result_given c) (given_from commands (suc k)) name both now after
+      ])
+
+-- ---- the names of saved tables come before those that commands give
+
+module _ (saved : List ℕ) (commands : List Command) (results : ℕ)
+    (given : saved ++ flat_map result_given commands ≡ range_with_len 0 results) where
+  in-order : AreApart (saved ++ flat_map result_given commands)
+  in-order = subst AreApart (sym given) (apart-range results)
+
+  pub saved-apart : AreApart saved
+  saved-apart = apart-before saved (flat_map result_given commands) in-order
+
+  pub commands-apart : AreApart (flat_map result_given commands)
+  commands-apart = apart-after saved (flat_map result_given commands) in-order
+
+  pub saved-given : GivenByNone commands 0 saved
+  saved-given =
+      All-each (λ name. ¬ Contains (given_from commands 0) name) saved
+      (λ name has later. apart-parts saved (flat_map result_given commands) name in-order has
+      (subst (λ (names : List ℕ). Contains names name) (at-first commands) later))
+    where
+      at-first : (commands : List Command) → given_from commands 0 ≡ flat_map result_given commands
+      at-first [] = refl
+      at-first (one ∷ commands) = refl

@@ -7,8 +7,8 @@ use Rattle.px_general.specs.Limits.{IsTooDeep, IsTooLong}
 use Rattle.px_library.specs.Libraries.{table_named}
 use Rattle.px_ends.specs.Tasks.{Task, task_of}
 use Rattle.px_ends.specs.WorkedEnds.{idle, p}
-use Rattle.px_ends.proofs.Exclusion.{ends_are_one}
-use Rattle.px_ends.proofs.Operators.{end_facts}
+use Rattle.px_ends.proofs.ByValueLaws.{exhausted_with_all, value_ends_are_one}
+use Rattle.px_ends.proofs.WorkedByValue.{there_by_value}
 use Rattle.px_printer.specs.declared.reply.Reply.{Reply}
 use Rattle.px_printer.specs.declared.reply.Reply.TheVariants as reply
 use Rattle.px_printer.specs.declared.reply.Why.{Why}
@@ -19,6 +19,7 @@ use Rattle.px_session.specs.Sessions.{SessionState, any_table}
 use Rattle.px_session.proofs.OneDuo.{no-first, no-second}
 use Rattle.px_session.proofs.OneEditing.{no-source, not-edited}
 use Rattle.px_session.proofs.OneLearning.{none_or_some, one_some}
+use Rattle.px_session.proofs.OneSaving.{none-to-certify, none-to-save, not-certified, not-saved}
 use Rattle.px_session.proofs.RunReplies.{bad-unknown}
 
 no-plan : (problem : Problem) (old : SessionState) (name source : ℕ) (answer : Reply) (new : SessionState)
@@ -74,6 +75,10 @@ causes_in_order = record {
   too_deep = too-deep;
   no_source = λ problem old name source prefix wanted answer new. no-source problem old name source prefix wanted answer new;
   not_edited = λ problem old name source prefix wanted answer new. not-edited problem old name source prefix wanted answer new;
+  none_to_save = λ problem old name answer new. none-to-save old name answer new;
+  not_saved = λ problem old name answer new. not-saved old name answer new;
+  none_to_certify = λ problem old name answer new. none-to-certify old name problem answer new;
+  not_certified = λ problem old name answer new. not-certified old name problem answer new;
   no_table = no-table;
   no_parameter = no-parameter;
   no_first_table = λ problem old first second numbers answer new. no-first problem old first second numbers answer new;
@@ -87,11 +92,11 @@ abbrev task_p : Task
 task_p = task_of idle [] (p ∷ []) (p ∷ []) 0
 
 exhausted : (new : SessionState) → ¬ Lawful idle where_p plan_p (reply.Exhausted 0) new
-exhausted new is = ends_are_one.found_or_exhausted task_p [] end_facts.there is.1
+exhausted new is = exhausted_with_all.found task_p idle.weight idle.weight is.1 [] (there_by_value idle.weight)
 
 moved : (new : SessionState) → ¬ Lawful idle where_p plan_p (reply.Plan 0 1 []) new
 moved new is =
-    let none = ends_are_one.found task_p is.1.moves [] is.1.found end_facts.there in
+    let none = value_ends_are_one.found task_p idle.weight is.1.moves [] is.1.found (there_by_value idle.weight) in
     let count = is.1.counted ∙ ap length none in
     cc
 

@@ -1,22 +1,27 @@
 -- What a session keeps is kept by each lawful reply.
-use Rattle.std.specs.Prelude.{◌≤◌, ℕ, List, [], ◌∷◌, ◌++◌, length, map, All}
-use Rattle.std.proofs.Common.{sym, subst, arith}
-use Rattle.std.proofs.lemmas.List.{length-append}
-use Rattle.std.proofs.lemmas.List.Elements.{All-append, All-cons, All-nil}
+use Rattle.std.specs.Prelude.{◌≤◌, ◌<◌, ℕ, List, [], ◌∷◌, ◌++◌, length, map, All, Any}
+use Rattle.std.proofs.Common.{◌≡◌, sym, subst, arith}
+use Rattle.std.proofs.lemmas.List.{length-append, length-map}
+use Rattle.std.proofs.lemmas.List.Elements.{All-append, All-cons, All-map, All-nil, All-weaker}
 use Rattle.px_base.specs.ListLaws.{All-at, All-each}
 use Rattle.px_terms.specs.declared.atom.Atom.{Atom}
 use Rattle.px_terms.specs.declared.problem.Problem.{Problem}
 use Rattle.px_terms.specs.AtomSets.{IsAtomSet}
 use Rattle.px_terms.specs.Validity.{IsValid}
+use Rattle.px_proof.specs.Derivation.{height}
+use Rattle.px_table.proofs.DecidingLaws.{tables_are_decided}
 use Rattle.px_table.specs.Limits.{most_tables}
 use Rattle.px_table.specs.declared.table.Table.{Table}
 use Rattle.px_table.specs.KernelLaws.{kernels_carry}
 use Rattle.px_table.specs.Kernels.{KernelsCarry}
+use Rattle.px_table.specs.Tables.{rows_of}
 use Rattle.px_general.specs.Limits.{IsTooDeep, IsTooLong, IsTooWide}
 use Rattle.px_ends.specs.Tasks.{task_of}
 use Rattle.px_printer.specs.declared.reply.Reply.{Reply}
 use Rattle.px_printer.specs.declared.reply.Why.TheVariants.{TooLong, TooDeep, TooWide, Full}
 use Rattle.px_script.specs.declared.command.Command.{Command}
+use Rattle.px_script.specs.Content.{ScriptValue}
+use Rattle.px_script.specs.Ranges.{IsInRange, IsSavedTable}
 use Rattle.px_session.specs.Determined.{SessionsAreKept}
 use Rattle.px_session.specs.Lawful.{IsEditedInto, IsLearned, Lawful, turn_told}
 use Rattle.px_session.specs.OwnStates.{IsOwnGoal}
@@ -31,13 +36,37 @@ use Rattle.px_session.proofs.OwnKept.{own-kept}
 use Rattle.px_session.proofs.Replied.{replied}
 use Rattle.px_session.proofs.Shapes.{general-alike, general-low, general-short}
 
-opened : (problem : Problem) (facts : List Atom) → IsAtomSet facts → IsSession problem (opening facts)
-opened problem facts set = record {
+abbrev table_in : ℕ × Table → Table
+table_in one = one.1
+
+opened : (problem : Problem) (facts : List Atom) (saved : List (ℕ × Table)) → IsAtomSet facts
+    → All (λ one. IsLearnedTable problem (table_in one)) saved → length saved ≤ most_tables → IsSession problem (opening facts saved)
+opened problem facts saved set are few = record {
   atoms = set;
   plans = All-nil (IsPlanTable problem);
-  learned = All-nil (IsLearnedTable problem);
-  few = omega arith;
+  learned = All-map (IsLearnedTable problem) table_in saved are;
+  few = let same : length (map table_in saved) ≡ length saved = length-map saved table_in in omega (arith, few, same);
 }
+
+-- where all are so, none is otherwise
+not-any : {A : Type 0} (P Q : A → Type 0) → ((a : A) → P a → ¬ Q a) → (xs : List A) → All P xs → ¬ Any Q xs
+not-any P Q never xs all one = never one.1 (subst P one.3 (all one.0 one.1 one.2)) one.4
+
+-- a table that a script may have saved is like a learned one
+saved-learned : (version : ℕ) (problem : Problem) (table : Table) → IsSavedTable version problem table → IsLearnedTable problem table
+saved-learned version problem table is = record {
+  table = (tables_are_decided problem table).0 is.is_one;
+  short = let most = is.short in λ long. omega (arith, long, most);
+  low = not-any (All (λ d. height d ≤ 56)) (Any (λ d. 56 < height d))
+      (not-any (λ d. height d ≤ 56) (λ d. 56 < height d) (λ d low high. omega (arith, low, high)))
+      (rows_of table.proofs) is.low;
+}
+
+scripts : (script : ScriptValue) → IsInRange script → IsSession script.problem (opening script.facts script.saved)
+scripts script range =
+    opened script.problem script.facts script.saved range.facts.fact_set
+    (All-weaker (λ one. IsSavedTable script.version script.problem (table_in one)) (λ one. IsLearnedTable script.problem (table_in one))
+    (λ one is. saved-learned script.version script.problem (table_in one) is) script.saved range.saved) range.few_saved
 
 one-more : (P : Table → Type 0) (tables : List Table) (one : Table) → All P tables → P one → All P (tables ++ one ∷ [])
 one-more P tables one all is = All-append P tables (one ∷ []) all (All-cons P one [] is (All-nil P))
@@ -124,6 +153,7 @@ kernels problem state is =
 pub sessions_are_kept : SessionsAreKept
 sessions_are_kept = record {
   opened = opened;
+  scripts = scripts;
   kept = kept;
   kernels = kernels;
   own = own-kept;

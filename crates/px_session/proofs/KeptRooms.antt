@@ -115,6 +115,8 @@ module _ (problem : Problem) (old : SessionState) (building : RoomState) (sessio
   answered (command.Edit name source prefix wanted) answer new taken is =
       unmoved (command.Edit name source prefix wanted) tt answer new refl taken is
   answered (command.Show name) answer new taken is = unmoved (command.Show name) tt answer new refl taken is
+  answered (command.Save name) answer new taken is = unmoved (command.Save name) tt answer new refl taken is
+  answered (command.Certify name) answer new taken is = unmoved (command.Certify name) tt answer new refl taken is
   answered (command.DisturbAtoms turn between edits) answer new taken is =
       unmoved (command.DisturbAtoms turn between edits) tt answer new refl taken is
   answered (command.DisturbRooms turn between edits) answer new taken is =
@@ -154,7 +156,7 @@ module _ (script : ScriptValue) (things : List Thing) (range : IsInRange script)
   its-building : IsBuildingOf script.names script.problem script.facts things
   its-building = subst (λ (b : Option (List Thing)). IfSome b (IsBuildingOf script.names script.problem script.facts)) has range.building
 
-  opens : IsInBuilding script.problem (first_state things) (opening script.facts)
+  opens : IsInBuilding script.problem (first_state things) (opening script.facts script.saved)
   opens = record {
     is_state = its-building.is_building.1;
     placed = record {
@@ -174,8 +176,8 @@ rooms_are_kept = record {
   kept = λ problem old building given answer new session inside taken is. answered problem old building session inside given answer new
       taken is;
   answers = λ script things count answers last range has is.
-      all-answered script.problem range.problem.valid (take count script.commands) answers (opening script.facts) (first_state things) last
-      (sessions_are_kept.opened script.problem script.facts range.facts.fact_set) (opens script things range has)
+      all-answered script.problem range.problem.valid (take count script.commands) answers (opening script.facts script.saved)
+      (first_state things) last (sessions_are_kept.scripts script range) (opens script things range has)
       (All-take (HasTakenEdits (Some (first_state things))) count script.commands (takes-all script things range has))
       (All-take (IsOwnGoal script.problem) count script.commands (own-goals script range)) is;
 }

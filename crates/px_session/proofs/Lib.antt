@@ -2,6 +2,7 @@
 pub mod OneSearch
 pub mod OneLearning
 pub mod OneEditing
+pub mod OneSaving
 pub mod ExistingEdits
 pub mod EditedTables
 pub mod OneRunning
@@ -9,6 +10,7 @@ pub mod ToldRuns
 pub mod Undisturbed
 pub mod OneReply
 pub mod GivenNames
+pub mod Opening
 pub mod Learned
 pub mod Shapes
 pub mod Walks
@@ -21,12 +23,18 @@ pub mod DuoRooms
 pub mod DuosUnderway
 pub mod Ascending
 pub mod Kept
+pub mod WritableGoals
+pub mod Writables
+pub mod Certifying
+pub mod ReadingBack
 pub mod OneTranscript
 pub mod Lifted
 pub mod InOrder
 pub mod WorkedAnswers
 pub mod FoundPlans
 pub mod FoundTables
+pub mod NamedTerms
+pub mod NamedBlocks
 pub mod NamedReplies
 pub mod Executing
 pub mod Disturbed

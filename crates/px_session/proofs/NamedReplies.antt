@@ -27,66 +27,22 @@ use Rattle.px_printer.specs.Turns.{IsNamedStep, IsNamedTurn}
 use Rattle.px_printer.specs.declared.turn.Turn.{Turn}
 use Rattle.px_script.specs.declared.command.Command.{Command}
 use Rattle.px_script.specs.declared.command.Command.TheVariants as command
-use Rattle.px_session.specs.Lawful.{FindsPlan, Lawful, Notes, TellsDuo, TellsEditing, TellsFacts, TellsLearning, TellsRun, TellsSearch, TellsShow, recorded_for, turn_told}
+use Rattle.px_session.specs.Lawful.{FindsPlan, Lawful, Notes, TellsCertifying, TellsDuo, TellsEditing, TellsFacts, TellsLearning, TellsRun, TellsSaving, TellsSearch, TellsShow, recorded_for, turn_told}
 use Rattle.px_session.specs.Named.{AreNamesOfProblem, IsTellable, RepliesAreNamed}
 use Rattle.px_session.specs.Sessions.{Edit, IsLearnedTable, IsPlanTable, IsSession, SessionState, any_table, of_atoms, of_rooms}
 use Rattle.px_session.proofs.FoundTables.{found-table}
 use Rattle.px_session.proofs.Learned.{are-learned}
+use Rattle.px_session.proofs.NamedBlocks.{named-block}
+use Rattle.px_session.proofs.NamedTerms.{named-atoms, named-step-of, named-steps, named-table, named-turns}
 use Rattle.px_session.proofs.OneLearning.{any-right}
 use Rattle.px_session.proofs.OwnDuos.{duo-steps, each_table}
 use Rattle.px_session.proofs.OwnRuns.{IsOwnStep, run-steps}
-
-abbrev number_of : Term → ℕ
-number_of (Obj n) = n
-number_of _ = 0
 
 -- a result of the same number has its name
 same-result : (given name results : ℕ) → given ≡ name → name < results → given < results
 same-result given name results same below = omega (arith, same, below)
 
 module _ (problem : Problem) (names : NameLists) (all : AreNamesOfProblem problem names) where
-  -- ---- terms, atoms and steps of the problem
-
-  named-term : (vars : ℕ) (t : Term) → IsTermOf problem vars t → IsNamedTerm names t
-  named-term vars (Obj n) of = λ number e.
-      let same : n ≡ number = ap number_of e in
-      omega (arith, same, of, all.objects)
-  named-term vars (Var v) of = λ number e. absurd (cc)
-  named-term vars Any of = elim of [ ]
-
-  named-terms : (vars : ℕ) (terms : List Term) → All (IsTermOf problem vars) terms → All (IsNamedTerm names) terms
-  named-terms vars terms of =
-      All-each (IsNamedTerm names) terms (λ t has. named-term vars t (All-at (IsTermOf problem vars) terms t of has))
-
-  named-atom : (vars : ℕ) (atom : Atom) → IsAtomOf problem vars atom → IsNamedAtom names atom
-  named-atom vars atom of = record { predicate = omega (arith, of.0.0, all.predicates); objects = named-terms vars atom.args of.1 }
-
-  named-atoms : (vars : ℕ) (atoms : List Atom) → All (IsAtomOf problem vars) atoms → All (IsNamedAtom names) atoms
-  named-atoms vars atoms of =
-      All-each (IsNamedAtom names) atoms (λ atom has. named-atom vars atom (All-at (IsAtomOf problem vars) atoms atom of has))
-
-  named-step : (params : ℕ) (inst : OpInst) → IsStepOf problem params inst → IsNamedInstance names inst
-  named-step params inst of = record { operator = omega (arith, of.op, all.operators); objects = named-terms params inst.args of.terms }
-
-  named-steps : (params : ℕ) (steps : List OpInst) → All (IsStepOf problem params) steps → All (IsNamedInstance names) steps
-  named-steps params steps of =
-      All-each (IsNamedInstance names) steps (λ inst has. named-step params inst (All-at (IsStepOf problem params) steps inst of has))
-
-  -- an instance of an operator of the problem is a step without parameters
-  named-step-of : (step : Option OpInst) → IsOwnStep problem step → IsNamedStep names step
-  named-step-of None own = tt
-  named-step-of (Some inst) own = named-step 0 inst (record { op = own.op; count = own.count; terms = own.objects })
-
-  named-turn : (turn : Turn) (step : Option OpInst) → turn.op ≡ step → IsOwnStep problem step → IsNamedTurn names turn
-  named-turn turn step same own = subst (IsNamedStep names) (sym same) (named-step-of step own)
-
-  named-turns : (told : List Turn) → All (λ turn. IsOwnStep problem turn.op) (map turn_told told) → All (IsNamedTurn names) told
-  named-turns [] own = All-nil (IsNamedTurn names)
-  named-turns (turn ∷ told) own =
-      let first = All-head (λ (t : TurnValue). IsOwnStep problem t.op) (turn_told turn) (map turn_told told) own in
-      let rest = All-tail (λ (t : TurnValue). IsOwnStep problem t.op) (turn_told turn) (map turn_told told) own in
-      All-cons (IsNamedTurn names) turn told (named-turn turn turn.op refl first) (named-turns told rest)
-
   -- the first name without a table is one of the two
   named-unknown : (first second : ℕ) (one other : Option Table) (given : ℕ) → first < length names.results
       → second < length names.results
@@ -96,18 +52,6 @@ module _ (problem : Problem) (names : NameLists) (all : AreNamesOfProblem proble
   named-unknown first second (Some table) None given below also is =
       same-result given second (length names.results) (sym (some_same is)) also
   named-unknown first second (Some table) (Some more) given below also is = absurd (cc)
-
-  -- ---- a table of the problem
-
-  named-table : (table : Table) → IsTable problem table → IsNamedTable names table
-  named-table table is = record {
-    steps = named-steps table.params table.steps is.in_range.steps;
-    goal = named-atoms (table.params + table.goal_vars) table.goal is.in_range.goal;
-    marks = All-each (λ (mark : Mark). IsNamedAtom names mark.atom) table.marks
-        (λ mark has.
-        let of = All-at (λ (m : Mark). IsAtomOf problem table.params m.atom) table.marks mark is.atoms has in
-        named-atom table.params mark.atom of);
-  }
 
   -- ---- replies
 
@@ -122,7 +66,7 @@ module _ (problem : Problem) (names : NameLists) (all : AreNamesOfProblem proble
     named-plan count steps new is =
         let same : is.made.steps ≡ steps = is.table.steps ∙ sym is.taken in
         let plan = found-table task valid own (are-learned problem old session) name count old new steps is in
-        subst (All (IsNamedInstance names)) same (named-steps is.made.params is.made.steps plan.table.in_range.steps)
+        subst (All (IsNamedInstance names)) same (named-steps problem names all is.made.params is.made.steps plan.table.in_range.steps)
 
     named-search : (answer : Reply) (new : SessionState) → name < length names.results → TellsSearch task name old answer new
         → IsReplyNamed names answer
@@ -136,7 +80,7 @@ module _ (problem : Problem) (names : NameLists) (all : AreNamesOfProblem proble
   module _ (old : SessionState) (plans : All (IsPlanTable problem) old.plans.tables)
       (learned : All (IsLearnedTable problem) old.learned.tables) where
     any-named : (name : ℕ) (table : Table) → any_table old name ≡ Some table → IsNamedTable names table
-    any-named name table named = named-table table (any-right problem old plans learned name table named)
+    any-named name table named = named-table problem names all table (any-right problem old plans learned name table named)
 
     named-show : (name : ℕ) (answer : Reply) (new : SessionState) → name < length names.results
         → TellsShow old name answer new → IsReplyNamed names answer
@@ -145,6 +89,16 @@ module _ (problem : Problem) (names : NameLists) (all : AreNamesOfProblem proble
         (same-result given name (length names.results) is.0 below, any-named name table is.1)
     named-show name answer new below is = absurd is
 
+    named-saving : (name : ℕ) (answer : Reply) (new : SessionState) → name < length names.results
+        → TellsSaving old name answer new → IsReplyNamed names answer
+    named-saving name (reply.Unknown given) new below is = same-result given name (length names.results) is.0 below
+    named-saving name (reply.SaveRefused given why) new below is = same-result given name (length names.results) is.0 below
+    named-saving name (reply.Saved given table) new below is = (
+      same-result given name (length names.results) is.0 below,
+      named-block problem names all table (any-right problem old plans learned name table is.1.named),
+    )
+    named-saving name answer new below is = absurd is
+
     named-run : (name : ℕ) (bound : List (ℕ × ℕ)) (answer : Reply) (new : SessionState) → name < length names.results
         → TellsRun problem old name bound answer new → IsReplyNamed names answer
     named-run name bound (reply.Unknown given) new below is = same-result given name (length names.results) is.0 below
@@ -152,7 +106,7 @@ module _ (problem : Problem) (names : NameLists) (all : AreNamesOfProblem proble
     named-run name bound (reply.Ran given told) new below is =
         let right = any-right problem old plans learned name is.1.table is.1.named in
         let steps = run-steps problem is.1.table right bound old.recorded old.atoms (map turn_told told) is.1.after is.1.runs in
-        (same-result given name (length names.results) is.0 below, named-turns told steps)
+        (same-result given name (length names.results) is.0 below, named-turns problem names all told steps)
     named-run name bound answer new below is = absurd is
 
     named-duo : (first second : ℕ) (numbers : List ℕ) (answer : Reply) (new : SessionState) → first < length names.results
@@ -166,13 +120,13 @@ module _ (problem : Problem) (names : NameLists) (all : AreNamesOfProblem proble
         lines is.2.after is.2.runs in (
           same-result one first (length names.results) is.0 below,
           same-result other second (length names.results) is.1 also,
-          All-weaker (λ line. IsOwnStep problem line.op) (IsNamedDuoLine names) (λ line own. named-step-of line.op own) lines steps,
+          All-weaker (λ line. IsOwnStep problem line.op) (IsNamedDuoLine names) (λ line own. named-step-of problem names all line.op own) lines steps,
         )
     named-duo first second numbers answer new below also is = absurd is
 
     named-facts : (answer : Reply) (new : SessionState) → All (IsAtomOf problem 0) old.atoms
         → TellsFacts old answer new → IsReplyNamed names answer
-    named-facts (reply.FactsAre atoms) new of is = subst (All (IsNamedAtom names)) (sym is.0) (named-atoms 0 old.atoms of)
+    named-facts (reply.FactsAre atoms) new of is = subst (All (IsNamedAtom names)) (sym is.0) (named-atoms problem names all 0 old.atoms of)
     named-facts answer new of is = absurd is
 
 -- how many disturbances are recorded is no name
@@ -206,6 +160,16 @@ named-editing problem names old name source prefix wanted (reply.Edited given pa
     same-result given name (length names.results) is.0 below
 named-editing problem names old name source prefix wanted answer new below also is = absurd is
 
+-- certifying reports the name that is given, or bytes
+named-certifying : (problem : Problem) (names : NameLists) (old : SessionState) (name : ℕ) (answer : Reply) (new : SessionState)
+    → name < length names.results → TellsCertifying problem old name answer new → IsReplyNamed names answer
+named-certifying problem names old name (reply.Unknown given) new below is =
+    same-result given name (length names.results) is.0 below
+named-certifying problem names old name (reply.CertifyRefused given why) new below is =
+    same-result given name (length names.results) is.0 below
+named-certifying problem names old name (reply.Certified given bytes) new below is = tt
+named-certifying problem names old name answer new below is = absurd is
+
 -- for each command that is built
 pub named-each : (problem : Problem) (names : NameLists) (old : SessionState) (given : Command) (answer : Reply)
     (new : SessionState)
@@ -215,6 +179,10 @@ named-each problem names old (command.Plan name goal vars) answer new valid all 
     named-search problem names all valid old session goal vars tellable.1 name answer new tellable.0 is
 named-each problem names old (command.Show name) answer new valid all atoms session tellable is =
     named-show problem names all old session.plans session.learned name answer new tellable is
+named-each problem names old (command.Save name) answer new valid all atoms session tellable is =
+    named-saving problem names all old session.plans session.learned name answer new tellable is
+named-each problem names old (command.Certify name) answer new valid all atoms session tellable is =
+    named-certifying problem names old name answer new tellable is
 named-each problem names old (command.Duo first second numbers) answer new valid all atoms session tellable is =
     named-duo problem names all old session.plans session.learned first second numbers answer new tellable.0 tellable.1 is
 named-each problem names old command.Facts answer new valid all atoms session tellable is =

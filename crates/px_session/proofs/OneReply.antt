@@ -21,6 +21,7 @@ use Rattle.px_session.proofs.OneDuo.{duo-one}
 use Rattle.px_session.proofs.OneEditing.{editing-one}
 use Rattle.px_session.proofs.OneLearning.{learning-one, none_or_some, one_some}
 use Rattle.px_session.proofs.OneRunning.{run-one}
+use Rattle.px_session.proofs.OneSaving.{certifying-one, saving-one}
 use Rattle.px_session.proofs.OneSearch.{search-one}
 
 -- ---- show, disturb, facts
@@ -62,6 +63,9 @@ reply-one problem old (command.Learn name source) one other new later valid sess
 reply-one problem old (command.Edit name source prefix wanted) one other new later valid session p q =
     editing-one problem old name source prefix wanted one other new later p q
 reply-one problem old (command.Show name) one other new later valid session p q = show-one old name one other new later p q
+reply-one problem old (command.Save name) one other new later valid session p q = saving-one old name one other new later p q
+reply-one problem old (command.Certify name) one other new later valid session p q =
+    certifying-one old name problem one other new later p q
 reply-one problem old (command.DisturbAtoms turn between edits) one other new later valid session p q =
     notes-one old (recorded_for turn between (map of_atoms edits)) one other new later p q
 reply-one problem old (command.DisturbRooms turn between edits) one other new later valid session p q =

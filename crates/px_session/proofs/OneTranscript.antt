@@ -8,7 +8,6 @@ use Rattle.std.proofs.lemmas.List.Sums.{sum_by-cons}
 use Rattle.px_names.specs.Lists.{NameLists}
 use Rattle.px_terms.specs.declared.atom.Atom.{Atom}
 use Rattle.px_terms.specs.declared.problem.Problem.{Problem}
-use Rattle.px_terms.specs.AtomSets.{IsAtomSet}
 use Rattle.px_terms.specs.Validity.{IsValid}
 use Rattle.px_proof.specs.declared.shape.Tick.{Tick}
 use Rattle.px_table.specs.declared.node.Node.{Node}
@@ -50,12 +49,12 @@ module _ (problem : Problem) (valid : IsValid problem) where
       let rest = answers-one q.0 next commands (All-tail (IsOwnGoal problem) c commands own) answers others last later here q.2 in
       ((same.0, rest.0), rest.1)
 
-script-one : (script : ScriptValue) (answers others : List Reply) → IsValid script.problem → IsAtomSet script.facts
-    → All (IsOwnGoal script.problem) script.commands → (one : AreAnswersTo script answers) (other : AreAnswersTo script others) → AllZip SameReply answers others × (one.last ≡ other.last)
-script-one script answers others valid set own one other =
-    let session = sessions_are_kept.opened script.problem script.facts set in
-    answers-one script.problem valid
-    (opening script.facts) session script.commands own answers others one.last other.last one.lawful other.lawful
+script-one : (script : ScriptValue) (answers others : List Reply) → IsValid script.problem
+    → IsSession script.problem (opening script.facts script.saved) → All (IsOwnGoal script.problem) script.commands
+    → (one : AreAnswersTo script answers) (other : AreAnswersTo script others) → AllZip SameReply answers others × (one.last ≡ other.last)
+script-one script answers others valid session own one other =
+    answers-one script.problem valid (opening script.facts script.saved) session script.commands own answers others one.last other.last
+    one.lawful other.lawful
 
 -- ---- what is made of them
 
@@ -107,11 +106,12 @@ summary-line-one rooms seed commands answers others same =
 -- ---- from the bytes
 
 abbrev IsSettled : ScriptValue → Type 0
-IsSettled script = IsValid script.problem × IsAtomSet script.facts × All (IsOwnGoal script.problem) script.commands
+IsSettled script = IsValid script.problem × IsSession script.problem (opening script.facts script.saved)
+    × All (IsOwnGoal script.problem) script.commands
 
 settled-script : (bytes : List ℕ) (script : ScriptValue) → IsScript stage_now bytes script → IsSettled script
 settled-script bytes script is = let range = in-range stage_now bytes script is in
-    (range.problem.valid, range.facts.fact_set, own-goals script range)
+    (range.problem.valid, sessions_are_kept.scripts script range, own-goals script range)
 
 -- replies to what is one script
 settled-one : (one other : ScriptValue) (answers others : List Reply) → one ≡ other → IsSettled other → AreAnswersTo one answers

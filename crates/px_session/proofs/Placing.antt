@@ -1,5 +1,5 @@
 -- Which edits a session's world takes, and that its atoms are its building's facts.
-use Rattle.std.specs.Prelude.{◌≡◌, Option, List, [], All}
+use Rattle.std.specs.Prelude.{◌≡◌, ℕ, Bool, Option, Result, Ok, Err, IfOk, OnOk, List, [], All}
 use Rattle.std.proofs.Common.{refl, sym, subst}
 use Rattle.std.proofs.lemmas.List.Elements.{All-nil, All-push, All-weaker}
 use Rattle.px_terms.specs.declared.atom.Atom.{Atom}
@@ -8,11 +8,12 @@ use Rattle.px_world.specs.Worlds.{HaveSameRules}
 use Rattle.px_rooms.specs.States.{RoomState}
 use Rattle.px_planex.specs.Turns.{Recorded}
 use Rattle.px_printer.specs.declared.reply.Reply.{Reply}
+use Rattle.px_printer.specs.declared.reply.Reply.TheVariants as reply
 use Rattle.px_script.specs.declared.command.Command.{Command}
 use Rattle.px_script.specs.declared.command.Command.TheVariants as command
 use Rattle.px_session.specs.declared.place.Place.{Place}
 use Rattle.px_session.specs.declared.place.Place.TheVariants.{Atoms, Rooms}
-use Rattle.px_session.specs.Lawful.{Lawful, recorded_for}
+use Rattle.px_session.specs.Lawful.{Lawful, Notes, recorded_for}
 use Rattle.px_session.specs.OwnStates.{edits_given}
 use Rattle.px_session.specs.Places.{IsPlaceInBuilding, IsPlaced, TakeSame, Takes, TakesAll, building_of, place_atoms, place_rules}
 use Rattle.px_session.specs.RoomRuns.{HasTakenEdits}
@@ -73,6 +74,19 @@ placed-later problem building old placed given no_run taken answer new is =
     (λ name bound told new by is. absurd (subst RunsNothing by no_run))
     (λ first second numbers lines new by is. absurd (subst RunsNothing by no_run))
     answer new is
+
+-- what is noted is placed, where its edits are taken
+pub placed-note : {E : Type 0} (problem : Problem) (building : Option RoomState) (old new : SessionState) (turn : ℕ) (between : Bool)
+    (edits : List Edit) (answer : Result Reply E) → IsPlaced problem building old → All (Takes building) edits
+    → IfOk answer (λ told. Notes old (recorded_for turn between edits) told new) → OnOk answer (IsPlaced problem building new)
+placed-note problem building old new turn between edits (Ok (reply.Noted count)) placed taken told =
+    subst (IsPlaced problem building) (sym told.1)
+    (record {
+      place = placed.place;
+      edits = All-push (λ (r : Recorded Edit). All (Takes building) r.edits) old.recorded (recorded_for turn between edits) placed.edits taken;
+    })
+placed-note problem building old new turn between edits (Ok _) placed taken told = absurd told
+placed-note problem building old new turn between edits (Err e) placed taken told = tt
 
 -- ---- what a run leaves
 

@@ -12,7 +12,7 @@ use Rattle.px_printer.specs.declared.reply.Reply.TheVariants as reply
 use Rattle.px_printer.specs.declared.turn.Turn.{Turn}
 use Rattle.px_script.specs.declared.command.Command.{Command}
 use Rattle.px_script.specs.declared.command.Command.TheVariants as command
-use Rattle.px_session.specs.Lawful.{FindsPlan, IsDuoOf, IsEditedInto, IsLearned, IsRunOf, Lawful, Notes, TellsDuo, TellsEditing, TellsFacts, TellsLearning, TellsRun, TellsSearch, TellsShow, recorded_for}
+use Rattle.px_session.specs.Lawful.{FindsPlan, IsDuoOf, IsEditedInto, IsLearned, IsRunOf, Lawful, Notes, TellsCertifying, TellsDuo, TellsEditing, TellsFacts, TellsLearning, TellsRun, TellsSaving, TellsSearch, TellsShow, recorded_for}
 use Rattle.px_session.specs.OwnStates.{edits_given}
 use Rattle.px_session.specs.Sessions.{Edit, SessionState, of_atoms, of_rooms}
 
@@ -63,6 +63,18 @@ module _ (problem : Problem) (old : SessionState) (given : Command) (P : Session
   after-show name (reply.Shown told table) new is = unchanged new is.2
   after-show name answer new is = absurd is
 
+  after-saving : (name : ℕ) (answer : Reply) (new : SessionState) → TellsSaving old name answer new → P new
+  after-saving name (reply.Unknown told) new is = unchanged new is.2
+  after-saving name (reply.SaveRefused told why) new is = unchanged new is.1.same
+  after-saving name (reply.Saved told table) new is = unchanged new is.1.same
+  after-saving name answer new is = absurd is
+
+  after-certifying : (name : ℕ) (answer : Reply) (new : SessionState) → TellsCertifying problem old name answer new → P new
+  after-certifying name (reply.Unknown told) new is = unchanged new is.2
+  after-certifying name (reply.CertifyRefused told why) new is = unchanged new is.1.same
+  after-certifying name (reply.Certified told bytes) new is = unchanged new is.1.saved.same
+  after-certifying name answer new is = absurd is
+
   after-notes : (turn : ℕ) (between : Bool) (edits : List Edit) → edits_given given ≡ edits → (answer : Reply) (new : SessionState)
       → Notes old (recorded_for turn between edits) answer new → P new
   after-notes turn between edits are (reply.Noted count) new is = subst P (sym is.1)
@@ -92,6 +104,8 @@ module _ (problem : Problem) (old : SessionState) (given : Command) (P : Session
   after-reply (command.Learn name source) by answer new is = after-learning name source by answer new is
   after-reply (command.Edit name source prefix wanted) by answer new is = after-editing name source prefix wanted by answer new is
   after-reply (command.Show name) by answer new is = after-show name answer new is
+  after-reply (command.Save name) by answer new is = after-saving name answer new is
+  after-reply (command.Certify name) by answer new is = after-certifying name answer new is
   after-reply (command.DisturbAtoms turn between edits) by answer new is =
       after-notes turn between (map of_atoms edits) (ap edits_given by) answer new is
   after-reply (command.DisturbRooms turn between edits) by answer new is =

@@ -29,6 +29,7 @@ use Rattle.px_planex.specs.Turns.{Recorded}
 use Rattle.px_ends.specs.WorkedEnds.{idle, p, p_at_once}
 use Rattle.px_ends.specs.Tasks.{task_of}
 use Rattle.px_ends.proofs.Operators.{end_facts}
+use Rattle.px_ends.proofs.WorkedByValue.{not_there_by_value, there_by_value}
 use Rattle.px_world.specs.declared.edits.AtomEdit.TheVariants.{Add, Remove}
 use Rattle.px_library.specs.Libraries.{no_tables, with_table}
 use Rattle.px_session.specs.Lawful.{FindsPlan, IsRunOf, recorded_for}
@@ -84,10 +85,10 @@ state atoms recorded = record { atoms = atoms; plans = with_table no_tables 0 p_
 
 -- ---- the replies
 
-finds : FindsPlan (task_of idle [] (p ∷ []) (p ∷ []) 0) 0 (opening (p ∷ [])) 0 [] (state (p ∷ []) [])
+finds : FindsPlan (task_of idle [] (p ∷ []) (p ∷ []) 0) 0 (opening (p ∷ []) []) 0 [] (state (p ∷ []) [])
 finds = record {
   moves = [];
-  found = end_facts.there;
+  found = there_by_value idle.weight;
   counted = refl;
   taken = refl;
   made = p_at_once;
@@ -188,7 +189,7 @@ lawful = record {
             (refl, set-nothing, refl),
             (
               state [] [],
-              (refl, end_facts.not_there, refl),
+              (refl, not_there_by_value idle.weight, refl),
               (
                 state [] [],
                 (refl, refl, refl),

@@ -1,5 +1,5 @@
 -- What a state and a command determine, and what a session keeps.
-use Rattle.std.specs.Prelude.{◌≡◌, ◌⊎◌, ◌++◌, ℕ, List, length, All}
+use Rattle.std.specs.Prelude.{◌≡◌, ◌≤◌, ◌⊎◌, ◌++◌, ℕ, List, length, All}
 use Rattle.std.specs.List.{AllZip}
 use Rattle.px_names.specs.Lists.{NameLists}
 use Rattle.px_terms.specs.declared.atom.Atom.{Atom}
@@ -10,6 +10,8 @@ use Rattle.px_terms.specs.Plans.{Carries}
 use Rattle.px_terms.specs.Validity.{IsAtomOf, IsValid}
 use Rattle.px_proof.specs.declared.shape.Tick.{Tick}
 use Rattle.px_table.specs.declared.node.Node.{Node}
+use Rattle.px_table.specs.declared.table.Table.{Table}
+use Rattle.px_table.specs.Limits.{most_tables}
 use Rattle.px_table.specs.Kernels.{KernelsCarry}
 use Rattle.px_printer.specs.Replies.{reply_text}
 use Rattle.px_printer.specs.declared.reply.Reply.{Reply}
@@ -17,10 +19,11 @@ use Rattle.px_printer.specs.declared.reply.Reply.TheVariants as reply
 use Rattle.px_script.specs.declared.command.Command.{Command}
 use Rattle.px_script.specs.declared.command.Command.TheVariants.{Plan}
 use Rattle.px_script.specs.Content.{ScriptValue}
+use Rattle.px_script.specs.Ranges.{IsInRange}
 use Rattle.px_session.specs.Demo.{Summary}
 use Rattle.px_session.specs.Lawful.{Lawful}
 use Rattle.px_session.specs.OwnStates.{HasOwnEdits, IsOwnGoal, IsOwnState}
-use Rattle.px_session.specs.Sessions.{IsSession, SessionState, opening}
+use Rattle.px_session.specs.Sessions.{IsLearnedTable, IsSession, SessionState, opening}
 use Rattle.px_session.specs.Transcripts.{AreAnswersTo, Transcript, texts}
 
 -- both say that the search met the limit of shapes, by equally many shapes, perhaps at different questions
@@ -47,11 +50,14 @@ pub record LawfulIsOne : Type 0 where
       → SameReply one other × (new ≡ later)
   pub texts : (names : NameLists) (one other : Reply) → SameReply one other → reply_text names one ≡ reply_text names other
 
--- The opening state is one of a session. Where the problem is valid and a goal is one of the problem, each lawful reply leaves one; and
--- where the world's atoms and all edits are of the problem, they are so after it. Of the tables that a session has, each proper instance of each kernel carries the steps that are left to the goal;
--- and the world's atoms carry the steps of each plan that a reply prints.
+-- The opening state is one of a session, where the facts are a set and the saved tables are like learned ones, and no more; so it is for
+-- each script that is in range. Where the problem is valid and a goal is one of the problem, each lawful reply leaves a session's state; and
+-- where the world's atoms and all edits are of the problem, they are so after it. Of the tables that a session has, each proper instance of
+-- each kernel carries the steps that are left to the goal; and the world's atoms carry the steps of each plan that a reply prints.
 pub record SessionsAreKept : Type 0 where
-  pub opened : (problem : Problem) (facts : List Atom) → IsAtomSet facts → IsSession problem (opening facts)
+  pub opened : (problem : Problem) (facts : List Atom) (saved : List (ℕ × Table)) → IsAtomSet facts
+      → All (λ (one : ℕ × Table). IsLearnedTable problem one.1) saved → length saved ≤ most_tables → IsSession problem (opening facts saved)
+  pub scripts : (script : ScriptValue) → IsInRange script → IsSession script.problem (opening script.facts script.saved)
   pub kept : (problem : Problem) (old : SessionState) (command : Command) (answer : Reply) (new : SessionState)
       → IsValid problem → IsSession problem old → IsOwnGoal problem command → Lawful problem old command answer new
       → IsSession problem new
@@ -65,10 +71,10 @@ pub record SessionsAreKept : Type 0 where
       → IsValid problem → IsSession problem old → All (IsAtomOf problem vars) goal
       → Lawful problem old (Plan name goal vars) (reply.Plan given count steps) new → Carries problem old.atoms steps vars goal
 
--- A script has one list of lawful replies, apart from questions at limits of shapes; the state after them is one, and so is the text.
+-- A script whose opening state is one of a session has one list of lawful replies, apart from questions at limits of shapes; the state after them is one, and so is the text.
 pub record AnswersAreOne : Type 0 where
-  pub answers : (script : ScriptValue) (answers others : List Reply) → IsValid script.problem → IsAtomSet script.facts
-      → All (IsOwnGoal script.problem) script.commands
+  pub answers : (script : ScriptValue) (answers others : List Reply) → IsValid script.problem
+      → IsSession script.problem (opening script.facts script.saved) → All (IsOwnGoal script.problem) script.commands
       → (one : AreAnswersTo script answers) (other : AreAnswersTo script others) → AllZip SameReply answers others × (one.last ≡ other.last)
   pub texts : (names : NameLists) (answers others : List Reply) → AllZip SameReply answers others → texts names answers ≡ texts names others
 

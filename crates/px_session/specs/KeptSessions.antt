@@ -1,7 +1,9 @@
 -- What a session keeps.
-use Rattle.std.specs.Prelude.{◌≢◌, ◌<◌, ◌≤◌, ℕ, Option, List, length, take, flat_map, All, AllPairs, Contains}
+use Rattle.std.specs.Prelude.{◌≢◌, ◌<◌, ◌≤◌, ℕ, Option, List, length, drop, flat_map, All, AllPairs, Contains}
 use Rattle.px_terms.specs.Limits.{most_formula_variables}
 use Rattle.px_base.specs.Bounds.{u32_max}
+use Rattle.px_names.specs.Lists.{AreNameLists}
+use Rattle.px_saved.specs.ReadBack.{IsShortName}
 use Rattle.px_terms.specs.declared.atom.Atom.{Atom}
 use Rattle.px_terms.specs.declared.problem.Problem.{Problem}
 use Rattle.px_terms.specs.Validity.{IsAtomOf, IsValid}
@@ -10,11 +12,13 @@ use Rattle.px_script.specs.declared.command.Command.TheVariants.{Plan, Run}
 use Rattle.px_script.specs.declared.command.Command.TheVariants as command
 use Rattle.px_rooms.specs.States.{RoomState}
 use Rattle.px_script.specs.Ranges.{result_given}
+use Rattle.px_session.specs.CertifiedReplies.{IsCertifiableProblem}
 use Rattle.px_session.specs.Named.{AreNamesOfProblem, IsTellable}
 use Rattle.px_session.specs.Opened.{SessionValue}
 use Rattle.px_session.specs.OwnStates.{IsOwnEdit, IsOwnState, edits_given}
 use Rattle.px_session.specs.Places.{IsPlaced, Takes}
 use Rattle.px_session.specs.Sessions.{Edit, IsSession}
+use Rattle.px_session.specs.Writable.{AsksWritable, HasWritableTables}
 
 -- the goal is one of the problem over no more variables than one may have, and there is an object where there is a variable
 pub record IsGoalToPlan (problem : Problem) (goal : List Atom) (vars : ℕ) : Type 0 where
@@ -49,9 +53,14 @@ IsAnswerable problem _ = Unit {0}
 abbrev pub IsRunnable : Problem → Option RoomState → Command → Type 0
 IsRunnable problem building command = IsAnswerable problem command × AreEditsToNote problem building (edits_given command)
 
+-- a command that is still to be done gives the name
+abbrev pub IsGivenLater : SessionValue → ℕ → Type 0
+IsGivenLater session name = Contains (flat_map result_given (drop session.done session.commands)) name
+
 -- The problem is valid, its numbers have names, and what the state has is its own; with a building its atoms are the building's facts.
--- Each command can be run, and its reply printed. The commands give each result once, and the names of what is learned were given by
--- commands that are done. No more disturbances are recorded than commands are done.
+-- Each command can be run, and its reply printed. The commands give each result once, and none that is still to be done gives the name of a
+-- table that is saved, learned or edited. No more disturbances are recorded than commands are done. Its tables can be written, and so can
+-- those that the commands ask for; and its names can be declared.
 pub record IsKeptSession (building : Option RoomState) (session : SessionValue) : Type 0 where
   pub problem : IsValid session.problem
   pub names : AreNamesOfProblem session.problem session.names
@@ -61,6 +70,11 @@ pub record IsKeptSession (building : Option RoomState) (session : SessionValue) 
   pub commands : All (IsRunnable session.problem building) session.commands
   pub tellable : All (IsTellable session.problem (length session.names.results)) session.commands
   pub once : AllPairs (λ one other. one ≢ other) (flat_map result_given session.commands)
-  pub learned : All (Contains (flat_map result_given (take session.done session.commands))) session.state.learned.names
+  pub learned : All (λ name. ¬ IsGivenLater session name) session.state.learned.names
   pub few : length session.commands < u32_max
   pub recorded : length session.state.recorded ≤ session.done
+  pub written : HasWritableTables session.problem session.state
+  pub asked : All (AsksWritable session.problem) session.commands
+  pub certifiable : IsCertifiableProblem session.problem
+  pub named : AreNameLists session.names
+  pub short_names : All IsShortName session.names.results

@@ -10,6 +10,9 @@ pub mod ToldDuos
 pub mod Undisturbed
 pub mod Planning
 pub mod Learning
+pub mod Saving
+pub mod Writable
+pub mod CertifiedReplies
 pub mod Places
 pub mod Running
 pub mod Opened

@@ -22,9 +22,9 @@ opened_session script = record {
   names = script.names;
   commands = script.commands;
   done = 0;
-  state = opening script.facts;
+  state = opening script.facts script.saved;
 }
 
--- the tables of the stored plans, and the learned ones
+-- the tables of the stored plans, and the learned ones, with the script's saved ones among these
 abbrev pub tables_of : SessionState → List Table
 tables_of state = state.plans.tables ++ state.learned.tables

@@ -112,13 +112,13 @@ AreAnswersIn problem old building (first ∷ commands) (answer ∷ answers) last
 -- replies to the first commands of a script, however many.
 pub record RoomsAreKept : Type 0 where
   pub opened : (script : ScriptValue) (things : List Thing) → IsInRange script → script.building ≡ Some things
-      → IsInBuilding script.problem (first_state things) (opening script.facts)
+      → IsInBuilding script.problem (first_state things) (opening script.facts script.saved)
   pub kept : (problem : Problem) (old : SessionState) (building : RoomState) (command : Command) (answer : Reply) (new : SessionState)
       → IsSession problem old → IsInBuilding problem building old → HasTakenEdits (Some building) command
       → Lawful problem old command answer new → (left : RoomState) × IsAnsweredInBuilding problem old building command answer new left
   pub answers : (script : ScriptValue) (things : List Thing) (count : ℕ) (answers : List Reply) (last : SessionState)
       → IsInRange script → script.building ≡ Some things
-      → AreAnswers script.problem (opening script.facts) (take count script.commands) answers last
-      → (end : RoomState) × AreAnswersIn script.problem (opening script.facts) (first_state things)
+      → AreAnswers script.problem (opening script.facts script.saved) (take count script.commands) answers last
+      → (end : RoomState) × AreAnswersIn script.problem (opening script.facts script.saved) (first_state things)
       (take count script.commands) answers last end
       × IsInBuilding script.problem end last

@@ -1,5 +1,5 @@
 -- What a session holds, and what it keeps.
-use Rattle.std.specs.Prelude.{◌≡◌, ◌≤◌, ℕ, Option, Some, None, List, [], length, All}
+use Rattle.std.specs.Prelude.{◌≡◌, ◌≤◌, ℕ, Option, Some, None, List, [], length, map, All}
 use Rattle.px_table.specs.Limits.{most_tables}
 use Rattle.px_terms.specs.declared.atom.Atom.{Atom}
 use Rattle.px_terms.specs.declared.problem.Problem.{Problem}
@@ -30,9 +30,14 @@ pub record SessionState : Type 0 where
   pub learned : LibraryValue
   pub recorded : List (Recorded Edit)
 
--- before the first command, where these are the script's facts (with a building, those of its first state)
-abbrev pub opening : List Atom → SessionState
-opening facts = record { atoms = facts; plans = no_tables; learned = no_tables; recorded = [] }
+-- tables beside the numbers of their names, in the same order
+abbrev pub tables_by_name : List (ℕ × Table) → LibraryValue
+tables_by_name saved = record { names = map (λ (one : ℕ × Table). one.0) saved; tables = map (λ (one : ℕ × Table). one.1) saved }
+
+-- before the first command, where these are the script's facts (with a building, those of its first state), and its saved tables by name,
+-- which are its learned tables from then on
+abbrev pub opening : List Atom → List (ℕ × Table) → SessionState
+opening facts saved = record { atoms = facts; plans = no_tables; learned = tables_by_name saved; recorded = [] }
 
 abbrev pub first_table : Option Table → Option Table → Option Table
 first_table None other = other
@@ -51,7 +56,7 @@ pub record IsPlanTable (problem : Problem) (plan : Table) : Type 0 where
   pub no_params : plan.params ≡ 0
   pub proper : IsProper problem plan [] 1
 
--- a table like each learned one: it is not too long, and has no proof that is too high
+-- a table like each learned one, and each saved one: it is not too long, and has no proof that is too high
 pub record IsLearnedTable (problem : Problem) (learned : Table) : Type 0 where
   pub table : IsTable problem learned
   pub short : ¬ IsTooLong learned

@@ -23,7 +23,7 @@ AreAnswers problem old (first ∷ commands) (answer ∷ answers) last =
 -- lawful replies to all commands of the script, the first from the opening state
 pub record AreAnswersTo (script : ScriptValue) (answers : List Reply) : Type 0 where
   pub last : SessionState
-  pub lawful : AreAnswers script.problem (opening script.facts) script.commands answers last
+  pub lawful : AreAnswers script.problem (opening script.facts script.saved) script.commands answers last
 
 -- the texts of replies, one after the other
 abbrev pub texts : NameLists → List Reply → List ℕ

@@ -25,6 +25,7 @@ idle_script = record {
   problem = idle;
   facts = p ∷ [];
   building = None;
+  saved = [];
   commands =
       command.Plan 0 (p ∷ []) 0
       ∷ command.Show 0

@@ -48,6 +48,8 @@ pub(crate) fn run_command(
         }
         Command::Learn { name, source } => state.learn(alloc, problem, *name, *source),
         Command::Show { name } => state.show(*name),
+        Command::Save { name } => state.save(*name),
+        Command::Certify { name } => state.certify(alloc, problem, *name),
         Command::DisturbAtoms {
             turn,
             between,

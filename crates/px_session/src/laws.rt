@@ -1,5 +1,6 @@
 //! Laws about the definitions. The calls do nothing.
 ghost use Rattle.px_session.specs.Causes.{CausesInOrder, RefusedReplies};
+ghost use Rattle.px_session.specs.CertifiedReplies.{CertificatesAreAccepted, TablesStayWritable};
 ghost use Rattle.px_session.specs.Determined.{AnswersAreOne, LawfulIsOne, SessionsAreKept, TranscriptsAreOne};
 ghost use Rattle.px_session.specs.Existing.{RepliesExist, TranscriptsExist};
 ghost use Rattle.px_session.specs.Named.{RepliesAreNamed};
@@ -27,6 +28,16 @@ pub fn lawful_is_one()
 /// plan that a reply prints.
 pub fn sessions_are_kept()
     ensures { SessionsAreKept }
+{}
+
+/// The tables of a session can be written: those that a script begins with, and after each lawful reply those that its commands ask for.
+pub fn tables_stay_writable()
+    ensures { TablesStayWritable }
+{}
+
+/// The bytes of each certificate that a lawful reply prints are one, of a table for the problem.
+pub fn certificates_are_accepted()
+    ensures { CertificatesAreAccepted }
 {}
 
 /// In a session's state each command has a lawful reply: for a plan it can't be that there is none, and for learning it can't be but for a

@@ -5,23 +5,26 @@
 //! # Calling it
 //!
 //! - [`Session::new`] takes a [`px_script::Script`] that was read. [`Session::execute`] answers command `k`, each once and in
-//!   order: `plan`, `learn`, `edit`, `show`, `disturb`, `run`, `duo` and `facts`. Its reply is lawful, each number that it prints as a name has
-//!   one, and after a refusal for memory the session is as it was. Contracts see a session as a `SessionValue` (`specs/Opened`); what it
-//!   keeps is in `specs/KeptSessions`.
+//!   order: `plan`, `learn`, `edit`, `show`, `save`, `certify`, `disturb`, `run`, `duo` and `facts`. Its reply is lawful, each number that it
+//!   prints as a name has one, the bytes of a certificate are one, and after a refusal for memory the session is as it was. Contracts see a
+//!   session as a `SessionValue` (`specs/Opened`); what it keeps is in `specs/KeptSessions`.
 //! - With a building the world's atoms are the facts of a state of it, from the opening on and after each lawful reply, and the building
 //!   takes each recorded edit. A run leaves the state that the edits and steps of its turns leave, one after the other, and two executors
 //!   the one that their steps leave. Any other command leaves the state as it was (`specs/RoomRuns`, [`rooms_are_kept`]).
 //! - A `SessionState` in `specs/Sessions` has the world's atoms, the tables of the stored plans by name, the learned tables by
 //!   name in the order of learning, and the disturbances that are recorded for the next run. `opening` is the one before the
-//!   first command. An `Edit` is one of atoms or one of a building.
+//!   first command: its learned tables are those that the script has saved. An `Edit` is one of atoms or one of a building.
 //! - `Lawful` in `specs/Lawful` says which reply a command may have in a state, and which state it leaves: one relation for all
-//!   commands, a line for each. It stands on the ends of a search (`px_ends`), generalising (`px_general`), editing (`px_edit`), the
-//!   executor's runs (`px_planex`), two executors in one world (`px_duo`, `specs/DuoRuns`) and tables by name (`px_library`).
+//!   commands, a line for each. It stands on the ends of a search (`px_ends`), generalising (`px_general`), editing (`px_edit`), certificates
+//!   (`px_cert`), the executor's runs (`px_planex`), two executors in one world (`px_duo`, `specs/DuoRuns`) and tables by name (`px_library`).
 //! - `IsSession` is what a session keeps: the world's atoms are a set; the table of each stored plan has no parameters, and its
 //!   own steps delete nothing that its later rows rest on; there are at most 32 learned tables, none of them too long or with a
-//!   proof that is too high. The opening state is like this where the facts are a set, and each lawful reply leaves such a state
+//!   proof that is too high. The opening state of a script is like this, and each lawful reply leaves such a state
 //!   ([`sessions_are_kept`], which also says that these tables' kernels carry, and that atoms and edits of the problem stay so,
 //!   `IsOwnState` in `specs/OwnStates`).
+//! - All tables of a session can be written in a block (`specs/Writable`, [`tables_stay_writable`]): each that `save` prints is within the
+//!   limits of a table's block, and the bytes that `certify` prints are a certificate, whose claim is right (`specs/CertifiedReplies`,
+//!   [`certificates_are_accepted`]).
 //! - A session's state and a command have at most one lawful reply ([`lawful_is_one`]; where a search met the limit of shapes, one
 //!   of several questions may be reported, and the text is one).
 //! - `Transcript` in `specs/Transcripts` is what is to be written for the bytes of a script: the texts of lawful replies to its
@@ -38,7 +41,7 @@
 //!   [`undisturbed_runs`]).
 //! - A small script is worked out with its text ([`worked_session`]), and so are the demo's line for five replies ([`worked_demo`]),
 //!   and the states that the turns of a run in a building leave ([`worked_rooms`]).
-//! - The laws are calls that do nothing. No public clause cites `specs/Learning`, `specs/Planning` and `specs/Running`.
+//! - The laws are calls that do nothing. No public clause cites `specs/Learning`, `specs/Planning`, `specs/Running` and `specs/Saving`.
 //!
 //! # How a run takes memory
 //!
@@ -58,15 +61,16 @@ mod place;
 mod planning;
 mod plans;
 mod running;
+mod saving;
 mod session;
 mod state;
 mod stored_runs;
 mod turns;
 
 pub use laws::{
-    answers_are_one, causes_in_order, lawful_is_one, one_kind_runs, refused_replies,
-    replies_are_named, replies_exist, rooms_are_kept, sessions_are_kept, told_duos, told_runs,
-    transcripts_are_one, transcripts_exist, undisturbed_runs, worked_demo, worked_rooms,
-    worked_session,
+    answers_are_one, causes_in_order, certificates_are_accepted, lawful_is_one, one_kind_runs,
+    refused_replies, replies_are_named, replies_exist, rooms_are_kept, sessions_are_kept,
+    tables_stay_writable, told_duos, told_runs, transcripts_are_one, transcripts_exist,
+    undisturbed_runs, worked_demo, worked_rooms, worked_session,
 };
 pub use session::Session;

@@ -7,13 +7,16 @@ ghost use Rattle.px_script.specs.ReadScripts.{content};
 ghost use Rattle.px_script.specs.declared.command.Command.TheVariants.{Facts};
 ghost use Rattle.px_rooms.specs.States.{IsBuilding, first_state};
 ghost use Rattle.px_table.specs.Kernels.{KernelsCarry};
+ghost use Rattle.px_names.specs.Lists.{AreNameLists};
+ghost use Rattle.px_saved.specs.ReadBack.{ReplyIsReadBack};
+ghost use Rattle.px_session.specs.CertifiedReplies.{ReplyIsAccepted};
 ghost use Rattle.px_session.specs.Lawful.{Lawful};
 ghost use Rattle.px_session.specs.Opened.{opened_session, tables_of};
 
 use crate::commands::run_command;
 use crate::state::State;
 use px_base::{NoMemory, Sequence};
-use px_names::Names;
+use px_names::{Kind, Names};
 use px_ops::Model;
 use px_printer::Reply;
 use px_rooms::{Building, RoomErr, RoomWorld};
@@ -68,14 +71,16 @@ impl Session {
     pub fn new(alloc: Global, script: Script) -> Result<Session, NoMemory>
         ensures opened { IfOk result (λ session. session ≡ opened_session (content script)) }
     {
+        are_names(&script.names);
         let building = world_of(alloc, &script.building)?;
+        let state = State::opening(alloc, script.facts, script.tables)?;
         Ok(Session {
             alloc,
             problem: script.problem,
             names: script.names,
             commands: script.commands,
             done: 0,
-            state: State::opening(alloc, script.facts),
+            state,
             building,
         })
     }
@@ -120,6 +125,8 @@ impl Session {
         ensures frame { OnOk result (self.new ≡ record self.old { done = k + 1; state = self.new.state }) }
         ensures kept { OnErr result (self.new ≡ self.old) }
         ensures named { IfOk result (IsReplyNamed self.old.names) }
+        ensures certified { IfOk result (ReplyIsAccepted self.old.problem self.old.state) }
+        ensures read_back { IfOk result (ReplyIsReadBack self.old.problem self.old.names) }
         ensures kernels { OnOk result (All (KernelsCarry self.new.problem) (tables_of self.new.state)) }
     {
         let command = &self.commands.as_slice()[k];
@@ -133,6 +140,16 @@ impl Session {
         self.done += 1;
         Ok(reply)
     }
+}
+
+/// Does nothing but what each call of `Names` tells: that the texts of each kind are distinct names in UTF-8.
+fn are_names(names: &Names)
+    ensures { AreNameLists names.now }
+{
+    names.count(Kind::Object);
+    names.count(Kind::Predicate);
+    names.count(Kind::Operator);
+    names.count(Kind::Result);
 }
 
 /// Returns the world of a building as it stands at first, if there is a building.

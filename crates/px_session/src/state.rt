@@ -1,14 +1,15 @@
 //! What a session holds, and the commands that show some of it or record something.
-ghost use Rattle.std.specs.Prelude.{◌≡◌, ◌<◌, IfOk, OnErr, length, option_map};
+ghost use Rattle.std.specs.Prelude.{◌≡◌, ◌≢◌, ◌<◌, ◌≤◌, AllPairs, IfOk, OnErr, length, option_map};
 ghost use Rattle.px_base.specs.Bounds.{u32_max};
 ghost use Rattle.px_session.specs.Lawful.{Notes, TellsFacts, TellsShow, recorded_for};
-ghost use Rattle.px_session.specs.Sessions.{any_table, opening};
+ghost use Rattle.px_table.specs.Limits.{most_tables};
+ghost use Rattle.px_session.specs.Sessions.{any_table, opening, tables_by_name};
 
 use crate::disturbance::Disturbance;
 use crate::edit::Edit;
 use crate::plans::Plans;
 use px_base::{NoMemory, Sequence, push};
-use px_library::Library;
+use px_library::{LibErr, Library};
 use px_ops::Model;
 use px_printer::Reply;
 use px_table::Table;
@@ -41,16 +42,25 @@ impl std::marker::Model for State {
 }
 
 impl State {
-    /// Returns the state before the first command, where these are the facts. Does not allocate.
-    pub(crate) fn opening(alloc: Global, facts: Model) -> State
-        ensures { result ≡ opening facts.atoms }
+    /// Returns the state before the first command, where these are the facts, and the saved tables beside the numbers of their names.
+    ///
+    /// # Errors
+    /// `NoMemory` where there is no memory for the tables.
+    pub(crate) fn opening(
+        alloc: Global,
+        facts: Model,
+        saved: Sequence<(u32, Table)>,
+    ) -> Result<State, NoMemory>
+        requires once { AllPairs (λ one other. one ≢ other) (tables_by_name saved).names }
+        requires few { length saved ≤ most_tables }
+        ensures { IfOk result (λ state. state ≡ opening facts.atoms saved) }
     {
-        State {
+        Ok(State {
             facts,
             plans: Plans::new(alloc),
-            learned: Library::new(alloc),
+            learned: library_of(alloc, saved)?,
             recorded: Vec::new(alloc),
-        }
+        })
     }
 
     /// Returns the table of the stored plan of that name, or the learned table. Does not allocate.
@@ -115,4 +125,22 @@ impl State {
             count: self.recorded.len() as u32,
         })
     }
+}
+
+/// Returns the library of the saved tables, in their order.
+fn library_of(alloc: Global, saved: Sequence<(u32, Table)>) -> Result<Library, NoMemory>
+    requires once { AllPairs (λ one other. one ≢ other) (tables_by_name saved).names }
+    requires few { length saved ≤ most_tables }
+    ensures { IfOk result (λ library. library ≡ tables_by_name saved) }
+{
+    let mut library = Library::new(alloc);
+    for (name, table) in saved.into_vec() {
+        match library.learn(name, table) {
+            Ok(()) => {}
+            Err(LibErr::NoMemory) => return Err(NoMemory),
+            Err(LibErr::Duplicate) => unreachable!(),
+            Err(LibErr::Full) => unreachable!(),
+        }
+    }
+    Ok(library)
 }

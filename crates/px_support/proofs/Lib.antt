@@ -8,9 +8,7 @@ pub mod GraftedRows
 pub mod MacroTables
 pub mod FittingSteps
 pub mod Supporting
-pub mod FewMoves
 pub mod Taking
-pub mod Found
 pub mod FoundByValue
 pub mod SourceLaws
 pub mod Supported

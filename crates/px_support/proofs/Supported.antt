@@ -1,7 +1,6 @@
 -- What is answered is a support, by the law of the rows of moves.
 use Rattle.std.specs.Prelude.{◌≡◌, List, [], All, Result, Ok, Err, IfOk}
 use Rattle.std.proofs.Common.{sym, subst}
-use Rattle.std.proofs.lemmas.List.Elements.{Contains-push}
 use Rattle.px_base.proofs.Loops.{ok_map}
 use Rattle.px_base.specs.declared.no_memory.NoMemory.{NoMemory}
 use Rattle.px_terms.specs.declared.instance.OpInst.{OpInst}
@@ -12,14 +11,11 @@ use Rattle.px_table.specs.declared.entry.Move.{Move}
 use Rattle.px_table.specs.Supports.{Supports}
 use Rattle.px_table.specs.Tables.{AreOfProblem, rows_of}
 use Rattle.px_entries.specs.Learned.{AreLearned}
-use Rattle.px_ends.specs.Ends.{AreMoves, IsFound}
+use Rattle.px_ends.specs.Ends.{AreMoves}
 use Rattle.px_ends.specs.Made.{MovesRows}
 use Rattle.px_ends.specs.Tasks.{Task, initial_node, steps_of}
 use Rattle.px_support.specs.declared.support.Support.{Support}
 use Rattle.px_support.specs.MadeSupports.{AreSupport, MovesSupport}
-
-pub found-moves : (task : Task) (moves : List Move) → IsFound task moves → AreMoves task moves
-found-moves task moves found = (found.stop.beginning.least moves (Contains-push found.earlier moves)).made
 
 -- what is said of the answer
 pub record IsSupport (task : Task) (support : Support) : Type 0 where
@@ -42,7 +38,7 @@ by-steps task moves support steps is = record {
 }
 
 module _ (law : MovesSupport) (task : Task) (moves : List Move) (result : Result Support NoMemory) (valid : IsValid task.problem)
-    (goal_of : All (IsAtomOf task.problem task.vars) task.goal) (learned : AreLearned task.problem task.tables) (found : IsFound task moves)
+    (goal_of : All (IsAtomOf task.problem task.vars) task.goal) (learned : AreLearned task.problem task.tables) (can : AreMoves task moves)
     (steps : IfOk result (λ support. support.steps ≡ steps_of task.tables [] moves))
     (rows : IfOk result (λ support. MovesRows task (initial_node task) [] moves (rows_of support.rows.items))) where
   if_support : IfOk result (IsSupport task)
@@ -52,7 +48,7 @@ module _ (law : MovesSupport) (task : Task) (moves : List Move) (result : Result
         → IfOk result (IsSupport task)
     by (Ok support) steps rows =
         by-steps task moves support steps (law task moves (rows_of support.rows.items) valid goal_of learned
-        (found-moves task moves found) rows)
+        can rows)
     by (Err e) steps rows = tt
 
   pub if_supports : IfOk result (λ support. Supports task.problem task.initial support.steps task.goal task.vars

@@ -12,7 +12,7 @@ pub fn moves_have_supports()
 }
 
 /// The moves that a search with a weight found can be made, are fewer than the nodes that may be kept, and the prover finds what is needed
-/// to take them. No search goes by a weight yet.
+/// to take them.
 pub fn found_with_weight()
     ensures { FoundWithWeight }
 {}

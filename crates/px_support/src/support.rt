@@ -7,10 +7,10 @@ ghost use Rattle.px_terms.specs.Sorts.{IsWellSorted};
 ghost use Rattle.px_terms.specs.Validity.{IsInstanceOf};
 ghost use Rattle.px_table.specs.Supports.{Supports};
 ghost use Rattle.px_table.specs.Tables.{AreOfProblem, rows_of};
-ghost use Rattle.px_ends.specs.Ends.{IsFound};
 ghost use Rattle.px_ends.specs.Made.{MovesRows};
 ghost use Rattle.px_ends.specs.Tasks.{initial_node, steps_of};
 ghost use Rattle.px_support.specs.Asking.{IsAskable, task_for};
+ghost use Rattle.px_support.specs.FoundMoves.{AreFoundMoves};
 ghost use Rattle.px_support.specs.Going.{AreMovesTaken};
 
 use crate::asked::Asked;
@@ -69,7 +69,7 @@ fn with_goal(asked: &Asked, walk: Walk, moves: &[Move]) -> Result<Support, NoMem
 /// `NoMemory` where there is no memory.
 pub fn support_of(asked: &Asked, moves: &[Move]) -> Result<Support, NoMemory>
     requires asked { IsAskable asked.now }
-    requires found { IsFound (task_for asked.now) moves.now }
+    requires found { AreFoundMoves (task_for asked.now) moves.now }
     ensures steps { IfOk result (λ support. support.steps ≡ steps_of asked.now.tables.now [] moves.now) }
     ensures rows { IfOk result (λ support. MovesRows (task_for asked.now) (initial_node (task_for asked.now)) [] moves.now
         (rows_of support.rows.items)) }

@@ -1,7 +1,7 @@
--- There are finitely many entries, and so finitely many lists of a length of moves that can be made.
+-- There are finitely many entries, and so finitely many moves are allowed at a node.
 use Rattle.std.specs.Prelude.{◌≡◌, ◌⊎◌, ◌<◌, ℕ, List, [], ◌∷◌, length, slice_index, slice_index_or, unwrap_or, All}
 use Rattle.std.proofs.Common.{suc, refl, sym, ap, subst, inl, inr, arith}
-use Rattle.std.proofs.lemmas.List.Elements.{All-cons, All-from_get_or, All-nil}
+use Rattle.std.proofs.lemmas.List.Elements.{All-from_get_or}
 use Rattle.px_terms.specs.declared.instance.OpInst.{OpInst}
 use Rattle.px_terms.specs.declared.problem.Problem.{Problem}
 use Rattle.px_terms.specs.declared.term.Term.{Term}
@@ -18,9 +18,7 @@ use Rattle.px_table.specs.declared.table.Table.{Table}
 use Rattle.px_table.specs.Prefixes.{IsMacro, IsUsed}
 use Rattle.px_table.specs.Tables.{empty_table}
 use Rattle.px_entries.specs.Entries.{IsEntry, table_at}
-use Rattle.px_ends.specs.Ends.{AreMoves}
-use Rattle.px_ends.specs.Moves.{CanMake}
-use Rattle.px_ends.specs.Tasks.{IsAllowed, Task, after, initial_node}
+use Rattle.px_ends.specs.Tasks.{IsAllowed, Task}
 use Rattle.px_ends.proofs.Frontier.{order_of, place-within}
 use Rattle.px_totality.specs.Finite.{IsFinite}
 use Rattle.px_totality.proofs.FiniteLaws.{finite_below, finite_each, finite_either, finite_image, finite_lists, finite_one, finite_weaker}
@@ -143,18 +141,11 @@ module _ (problem : Problem) where
         (finite_either (λ (m : Move). Apply ≡ m) (λ (m : Move). (entry : Entry) × IsEntry problem tables entry × (Push entry ≡ m))
         (finite_one Apply) (finite_image (IsEntry problem tables) Push finite-entries))
 
-module _ (task : Task) where
-  moves-of : (node : Node) (moves : List Move) → CanMake (IsAllowed task) (after task) node moves
-      → All (IsMoveOf task.problem task.tables) moves
-  moves-of node [] can = All-nil (IsMoveOf task.problem task.tables)
-  moves-of node (Apply ∷ moves) can =
-      All-cons (IsMoveOf task.problem task.tables) Apply moves tt (moves-of (after task node Apply) moves can.1)
-  moves-of node (Push entry ∷ moves) can =
-      All-cons (IsMoveOf task.problem task.tables) (Push entry) moves can.0.0.is_entry (moves-of (after task node (Push entry)) moves can.1)
-
-  pub finite-made : (n : ℕ) → IsFinite (λ (moves : List Move). AreMoves task moves × (length moves ≡ n))
-  finite-made n =
-      finite_weaker (λ (moves : List Move). AreMoves task moves × (length moves ≡ n))
-      (λ (moves : List Move). All (IsMoveOf task.problem task.tables) moves × (length moves ≡ n))
-      (λ moves is. (moves-of (initial_node task) moves is.0, is.1))
-      (finite_lists (IsMoveOf task.problem task.tables) (finite-moves task.problem task.tables) n)
+-- finitely many moves are allowed at a node
+pub finite-allowed : (task : Task) (node : Node) → IsFinite (IsAllowed task node)
+finite-allowed task node =
+    finite_weaker (IsAllowed task node) (IsMoveOf task.problem task.tables) of_entry (finite-moves task.problem task.tables)
+  where
+    of_entry : (m : Move) → IsAllowed task node m → IsMoveOf task.problem task.tables m
+    of_entry Apply may = tt
+    of_entry (Push entry) may = may.0.is_entry

@@ -22,6 +22,16 @@ Contains-flat f (x ∷ xs) a b has in_f = subst (λ ys. Contains ys b) (sym (fla
   | inr later ↦ Contains-append_right (f x) (flat_map f xs) b (Contains-flat f xs a b later in_f)
 ])
 
+pub contains_or_not : {A : Type 0} → ((a b : A) → (a ≡ b) ⊎ (¬ (a ≡ b))) → (as' : List A) (a : A) → Contains as' a ⊎ (¬ Contains as' a)
+contains_or_not same [] a = inr (Contains-none a)
+contains_or_not same (b ∷ as') a = elim (same b a) [
+  | inl is ↦ inl (subst (Contains (b ∷ as')) is (Contains-first b as'))
+  | inr other ↦ elim (contains_or_not same as' a) [
+    | inl later ↦ inl (Contains-later b as' a later)
+    | inr absent ↦ inr (λ has. elim (Contains-cases b as' a has) [ inl is ↦ other is | inr later ↦ absent later ])
+  ]
+]
+
 last_or_less : (n k : ℕ) → k < suc n → (n ≡ k) ⊎ (k < n)
 last_or_less n k below = grind (arith, below)
 

@@ -1,7 +1,7 @@
 -- The files of lemmas.
 pub mod FiniteLaws
 pub mod Least
-pub mod NextList
+pub mod NextStep
 pub mod FiniteEntries
 pub mod SomeEnd
 pub mod AnswerRows

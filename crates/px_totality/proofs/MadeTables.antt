@@ -29,15 +29,14 @@ use Rattle.px_entries.specs.Learned.{AreLearned}
 use Rattle.px_totality.proofs.AnswerRows.{answers-support}
 use Rattle.px_entries.proofs.RowSteps.{steps-count}
 use Rattle.px_entries.proofs.RowTurns.{in_turn}
-use Rattle.px_ends.specs.Ends.{IsFound}
 use Rattle.px_ends.specs.Made.{EntryRows, IsTableOfMoves, MovesRows}
 use Rattle.px_ends.specs.Tasks.{Task, initial_node, steps_of}
 use Rattle.px_support.specs.Asking.{AreTakeable, IsFindable}
+use Rattle.px_support.specs.FoundMoves.{AreFoundMoves}
 use Rattle.px_support.specs.MadeSupports.{AreSupport}
-use Rattle.px_support.proofs.Found.{found-takeable}
+use Rattle.px_support.proofs.FoundByValue.{found_with_weight}
 use Rattle.px_support.proofs.LearnedRows.{rows-count}
 use Rattle.px_support.proofs.MacroTables.{macro-table}
-use Rattle.px_support.proofs.Supported.{found-moves}
 use Rattle.px_support.proofs.Supporting.{moves_support}
 use Rattle.px_totality.specs.FoundTables.{FoundHaveTables}
 use Rattle.px_totality.proofs.MacroRows.{macro-rows, ready-from}
@@ -131,14 +130,14 @@ rows-back problem goal vars (inst ∷ steps) (row ∷ rows) proves =
 -- ---- the table
 
 module _ (task : Task) (moves : List Move) (valid : IsValid task.problem) (goal_of : All (IsAtomOf task.problem task.vars) task.goal)
-    (learned : AreLearned task.problem task.tables) (found : IsFound task moves) where
+    (learned : AreLearned task.problem task.tables) (found : AreFoundMoves task moves) where
   rows-there : (rows : List (List Derivation)) × MovesRows task (initial_node task) [] moves rows
   rows-there =
-      moves-rows task learned task.initial [] [] moves (All-nil (IsEntry task.problem task.tables)) (found-takeable task moves found)
+      moves-rows task learned task.initial [] [] moves (All-nil (IsEntry task.problem task.tables)) found.takeable
 
   support : AreSupport task moves rows-there.0
   support =
-      moves_support answers-support task moves rows-there.0 valid goal_of learned (found-moves task moves found) rows-there.1
+      moves_support answers-support task moves rows-there.0 valid goal_of learned found.can rows-there.1
 
   abbrev proofs : List (List Proof)
   proofs = map (map proof_of) rows-there.0
@@ -161,4 +160,5 @@ module _ (task : Task) (moves : List Move) (valid : IsValid task.problem) (goal_
   )
 
 pub found_have_tables : FoundHaveTables
-found_have_tables task moves valid goal_of learned found = table-there task moves valid goal_of learned found
+found_have_tables task weight moves valid goal_of learned found =
+    table-there task moves valid goal_of learned (found_with_weight task weight moves found)

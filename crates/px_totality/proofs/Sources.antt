@@ -21,7 +21,7 @@ use Rattle.px_gaps.specs.Needs.{Obligation}
 use Rattle.px_ends.specs.Made.{IsFirstRow, IsSource, IsSourced}
 use Rattle.px_support.specs.Asking.{IsFindable}
 use Rattle.px_support.proofs.Lists.{step-within}
-use Rattle.px_totality.proofs.NextList.{contains-or-not}
+use Rattle.px_totality.proofs.FiniteLaws.{contains_or_not}
 
 -- each item has something beside it
 pub zip-there : {A B : Type 0} (R : A → B → Type 0) (as' : List A) → ((a : A) → Contains as' a → (b : B) × R a b)
@@ -90,7 +90,7 @@ module _ (problem : Problem) (made : List OpInst) (atom : Atom) where
       ]
 
       here : (inst : OpInst) → step_at made (suc n) ≡ Some inst → HasSource
-      here inst at = elim (contains-or-not atom_decided (adds problem inst) atom) [
+      here inst at = elim (contains_or_not atom_decided (adds problem inst) atom) [
         | inl has ↦ added-here n inst at has never
         | inr absent ↦ rest (still (λ other there has. absent
             (subst (λ (x : OpInst). Contains (adds problem x) atom) (some_same (sym there ∙ at)) has)))

@@ -4,17 +4,17 @@ use Rattle.px_terms.specs.declared.atom.Atom.{Atom}
 use Rattle.px_proof.specs.declared.shape.Tick.{Tick}
 use Rattle.px_table.specs.declared.entry.Move.{Move}
 use Rattle.px_table.specs.declared.node.Node.{Node}
-use Rattle.px_ends.specs.Ends.{IsExhausted, IsFound, IsNodeLimit, IsShapeLimit}
+use Rattle.px_ends.specs.ByValue.{IsExhausted, IsFound, IsNodeLimit, IsShapeLimit}
 use Rattle.px_ends.specs.Tasks.{Task}
 
--- some moves are found, or the search is exhausted, or it meets the limit of nodes or that of shapes
-abbrev pub HasEnd : Task → Type 0
-HasEnd task =
-    ((moves : List Move) × IsFound task moves)
-    ⊎ (IsExhausted task
-    ⊎ (((nodes : List Node) × (moves : ℕ) × IsNodeLimit task nodes moves)
-    ⊎ ((node : Node) × (formula : List Atom) × (shapes : List (List Tick)) × IsShapeLimit task node formula shapes)))
+-- some moves are found with the weight, or the search is exhausted, or it meets the limit of nodes or that of shapes
+abbrev pub HasEnd : Task → ℕ → Type 0
+HasEnd task weight =
+    ((moves : List Move) × IsFound task weight moves)
+    ⊎ (IsExhausted task weight
+    ⊎ (((nodes : List Node) × (moves : ℕ) × IsNodeLimit task weight nodes moves)
+    ⊎ ((node : Node) × (formula : List Atom) × (shapes : List (List Tick)) × IsShapeLimit task weight node formula shapes)))
 
--- There is no task whose search has none of the four ends. (A double negation: which one it is takes a search to say.)
+-- There is no task whose search with some weight has none of the four ends. (A double negation: which one it is takes a search to say.)
 abbrev pub SearchesEnd : Type 0
-SearchesEnd = (task : Task) → ¬ ¬ HasEnd task
+SearchesEnd = (task : Task) (weight : ℕ) → ¬ ¬ HasEnd task weight

@@ -6,8 +6,8 @@ ghost use Rattle.px_totality.specs.SearchEnds.{SearchesEnd};
 use px_planex::traces_exist;
 use px_world::World;
 
-/// There is no task whose search has none of the four ends: moves are found, or it is exhausted, or it meets the limit of nodes or
-/// that of shapes.
+/// There is no task whose search, with whatever weight, has none of the four ends: moves are found, or it is exhausted, or it meets the
+/// limit of nodes or that of shapes.
 pub fn searches_end()
     ensures { SearchesEnd }
 {}

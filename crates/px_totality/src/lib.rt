@@ -1,14 +1,15 @@
 //! That no case is left out: each search has an end, what it found has a table, and each run ends.
 //!
-//! These are laws about the definitions of `px_ends` and `px_planex`. A reply that no search could have would leave a command without a lawful reply;
-//! this crate shows that there is none such.
+//! These are laws about the definitions of `px_ends` and `px_planex`. A search without an end, or a run without one, would leave a command
+//! without a lawful reply; this crate shows that there is none such.
 //!
 //! # Calling it
 //!
-//! - `specs/SearchEnds`: a search finds moves, is exhausted, or meets the limit of nodes or that of shapes ([`searches_end`]).
-//! - `specs/FoundTables`: the moves that a search found have a table ([`found_have_tables`]).
+//! - `specs/SearchEnds`: a search, with whatever weight, finds moves, is exhausted, or meets the limit of nodes or that of shapes
+//!   ([`searches_end`]).
+//! - `specs/FoundTables`: the moves that a search found, with whatever weight, have a table ([`found_have_tables`]).
 //! - `specs/RunsEnd`: each run of a table ends ([`runs_end`]).
-//! - `specs/Finite`: kinds of which a list has all; there are finitely many entries, and so finitely many lists of a length of moves.
+//! - `specs/Finite`: kinds of which a list has all; there are finitely many entries, and so finitely many moves from a node.
 //! - The laws are calls that do nothing.
 #![tactic(auto)]
 

@@ -93,22 +93,20 @@ returns-clause-edits c = record {
 pub returns-clause-unbuilt : goal.returns-clause-unbuilt
 unfolding lines_read scan_by unicode_ident encode all_within items_after with_item set_of digits
 returns-clause-unbuilt c = record {
-  saving = search spell;
-  certifying = search spell;
   pursuing = search spell;
-  new = search (refuse-so) depth 14;
-  no_form = search (refuse-so) depth 14;
-  out_of_order = search (refuse-so) depth 14;
-  unbuilt = search (refuse-so) depth 14;
-  fit = search (after-so) depth 14;
-  unknown = search (after-so) depth 14;
-  known_result = search (after-so) depth 14;
-  arity = search (after-so) depth 14;
-  unbound = search (after-so) depth 14;
-  long_names = search (after-so) depth 14;
-  many_variables = search (after-so) depth 14;
-  many_atoms = search (after-so) depth 14;
-  many_commands = search (after-so) depth 14;
+  new = search (after-so, refuse-so) depth 14;
+  no_form = search (after-so, refuse-so) depth 14;
+  out_of_order = search (after-so, refuse-so) depth 14;
+  unbuilt = search (after-so, refuse-so) depth 14;
+  fit = search (after-so, refuse-so) depth 14;
+  unknown = search (after-so, refuse-so) depth 14;
+  known_result = search (after-so, refuse-so) depth 14;
+  arity = search (after-so, refuse-so) depth 14;
+  unbound = search (after-so, refuse-so) depth 14;
+  long_names = search (after-so, refuse-so) depth 14;
+  many_variables = search (after-so, refuse-so) depth 14;
+  many_atoms = search (after-so, refuse-so) depth 14;
+  many_commands = search (after-so, refuse-so) depth 14;
 }
 
 pub returns-clause-tables : goal.returns-clause-tables
@@ -120,38 +118,65 @@ returns-clause-tables c = record {
   a_goal = search spell;
   proofs = search spell;
   no_proofs_written = search spell;
-  new = search (refuse-so) depth 14;
-  no_form = search (refuse-so) depth 14;
-  out_of_order = search (refuse-so) depth 14;
-  unbuilt = search (refuse-so) depth 14;
   whole_proofs = refl;
   no_proofs = refl;
   cut_proof = refl;
-  whole = search (after-so) depth 14;
-  with_a_building = search (after-so) depth 14;
-  proved = search (after-so) depth 14;
-  steps_left = search (after-so) depth 14;
-  rows_left = search (after-so) depth 14;
-  goals_left = search (after-so) depth 14;
-  closed = search (after-so) depth 14;
-  bad_tables = after-so _ _ (refl, (refl, (refl, (refl, (refl, (refl, (refl, tt)))))));
-  bad_proofs = search (after-so) depth 14;
-  in_disorder = search (after-so) depth 14;
-  early = search (after-so) depth 14;
-  unknown = search (after-so) depth 14;
-  unknown_in_proofs = search (after-so) depth 14;
-  known_table = search (after-so) depth 14;
-  arity = search (after-so) depth 14;
-  unbound = search (after-so) depth 14;
-  unbound_in_proofs = search (after-so) depth 14;
-  fit = search (after-so) depth 14;
-  proofs_fit = search (after-so) depth 14;
-  many_atoms = search (after-so) depth 14;
-  great_numbers = search (after-so) depth 14;
-  great_in_proofs = search (after-so) depth 14;
-  many_tables = search (after-so) depth 14;
-  many_steps = search (after-so) depth 14;
-  high_proofs = search (after-so) depth 14;
+  steps = search (after-so, fit-so, refuse-so) depth 14;
+  rows = search (after-so, fit-so, refuse-so) depth 14;
+  variables = search (after-so, fit-so, refuse-so) depth 14;
+  closed = search (after-so, fit-so, refuse-so) depth 14;
+  in_a_building = search (after-so, fit-so, refuse-so) depth 14;
+  bad_tables = search (after-so, fit-so, refuse-so) depth 14;
+  bad_proofs = search (after-so, fit-so, refuse-so) depth 14;
+  new = search (after-so, fit-so, refuse-so) depth 14;
+  no_form = search (after-so, fit-so, refuse-so) depth 14;
+  out_of_order = search (after-so, fit-so, refuse-so) depth 14;
+  early = search (after-so, fit-so, refuse-so) depth 14;
+  unknown = search (after-so, fit-so, refuse-so) depth 14;
+  known_table = search (after-so, fit-so, refuse-so) depth 14;
+  arity = search (after-so, fit-so, refuse-so) depth 14;
+  unbound = search (after-so, fit-so, refuse-so) depth 14;
+  fit = search (after-so, fit-so, refuse-so) depth 14;
+  proofs_fit = search (after-so, fit-so, refuse-so) depth 14;
+  many_atoms = search (after-so, fit-so, refuse-so) depth 14;
+  great_numbers = search (after-so, fit-so, refuse-so) depth 14;
+  great_in_proofs = search (after-so, fit-so, refuse-so) depth 14;
+  many_tables = search (after-so, fit-so, refuse-so) depth 14;
+  many_steps = search (after-so, fit-so, refuse-so) depth 14;
+  high_proofs = search (after-so, fit-so, refuse-so) depth 14;
+}
+
+pub returns-clause-saves : goal.returns-clause-saves
+unfolding lines_read scan_by unicode_ident encode all_within items_after with_item set_of digits
+returns-clause-saves c = record {
+  saving = search spell;
+  certifying = search spell;
+  saves = search (after-so, refuse-so) depth 14;
+  of_blocks = search (after-so, refuse-so) depth 14;
+  keep_disturbs = search (after-so, refuse-so) depth 14;
+  new_commands = search (after-so, refuse-so) depth 14;
+  without_form = search (after-so, refuse-so) depth 14;
+  in_blocks = search (after-so, refuse-so) depth 14;
+  unknown_tables = search (after-so, refuse-so) depth 14;
+  many_commands = search (after-so, refuse-so) depth 14;
+}
+
+pub returns-clause-weights : goal.returns-clause-weights
+unfolding lines_read scan_by unicode_ident encode all_within items_after with_item set_of digits
+returns-clause-weights c = record {
+  weighing = search spell;
+  most = search (after-so, fit-so, refuse-so) depth 14;
+  none = search (after-so, fit-so, refuse-so) depth 14;
+  defaults = search (after-so, fit-so, refuse-so) depth 14;
+  old_defaults = search (after-so, fit-so, refuse-so) depth 14;
+  of_a_building = search (after-so, fit-so, refuse-so) depth 14;
+  sorted = search (after-so, fit-so, refuse-so) depth 14;
+  many_objects = search (after-so, fit-so, refuse-so) depth 14;
+  new = search (after-so, fit-so, refuse-so) depth 14;
+  no_form = search (after-so, fit-so, refuse-so) depth 14;
+  out_of_order = search (after-so, fit-so, refuse-so) depth 14;
+  twice = search (after-so, fit-so, refuse-so) depth 14;
+  limits = search (after-so, fit-so, refuse-so) depth 14;
 }
 
 pub returns-clause-later : goal.returns-clause-later

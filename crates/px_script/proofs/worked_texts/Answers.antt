@@ -35,5 +35,22 @@ unfolding lines_read scan_by all_within items_after with_item set_of encode char
 returns-clause-scripts c = search script-so
 
 pub returns-clause-refusals : goal.returns-clause-refusals
-unfolding lines_read scan_by all_within items_after encode chars is_utf8 utf8_valid_len unicode_ident digits
-returns-clause-refusals c = search (refused-so, each-refused) depth 14
+unfolding lines_read scan_by all_within items_after with_item set_of encode chars is_utf8 utf8_valid_len unicode_ident digits
+returns-clause-refusals c = record {
+  no_character = search (refused-so, each-refused) depth 14;
+  second_mark = search (refused-so, each-refused) depth 14;
+  late_mark = search (refused-so, each-refused) depth 14;
+  no_form = search (refused-so, each-refused) depth 14;
+  unknown = search (refused-so, each-refused) depth 14;
+  duplicate = search (refused-so, each-refused) depth 14;
+  arity = search (refused-so, each-refused) depth 14;
+  wide_predicate = search (refused-so, each-refused) depth 14;
+  other_version = search (refused-so, each-refused) depth 14;
+  of_sorts = search (refused-so, each-refused) depth 14;
+  bad_table = search (refused-so, each-refused) depth 14;
+  cut_table = search (refused-so, each-refused) depth 14;
+  order = search (refused-so, each-refused) depth 14;
+  not_built = search (refused-so, each-refused) depth 14;
+  order_before_unbuilt = search (refused-so, each-refused) depth 14;
+  unbuilt_before_name = search (refused-so, each-refused) depth 14;
+}

@@ -7,24 +7,25 @@ use Rattle.px_terms.specs.Sorts.{IsWellSorted}
 use Rattle.px_terms.specs.Validity.{IsInstanceOf}
 use Rattle.px_table.specs.Supports.{Supports}
 use Rattle.px_table.specs.Tables.{AreOfProblem, rows_of}
-use Rattle.px_ends.specs.Ends.{IsFound}
+use Rattle.px_ends.specs.ByValue.{IsFound}
 use Rattle.px_ends.specs.Made.{MovesRows}
 use Rattle.px_ends.specs.Tasks.{initial_node, steps_of, task_of}
 use Rattle.px_search.specs.declared.ends.Found.{Found}
 use Rattle.px_search.proofs.Answering.{answers_found, answers_exhausted, answers_limit, answers_shape_limit, each_plan, end-exhausted, end-limit, end-shape_limit, found-in}
-use Rattle.px_support.proofs.FewMoves.{few-moves}
+use Rattle.px_support.proofs.FoundByValue.{found_with_weight}
 use Rattle.px_search.proofs.planning.search.Goals as goal
 
 pub returns-in-Ok-clause-found : goal.returns-in-Ok-clause-found
 returns-in-Ok-clause-found c =
     let task = task_of c.args.problem.now c.args.tables.now c.args.initial.now.atoms c.args.goal.now c.args.vars in
-    each_plan task c.found_plan.result c.found_plan.ensures.planned (λ plan. IsFound task plan.moves) (λ plan is. is.found)
+    each_plan task c.found_plan.result c.found_plan.ensures.planned
+    (λ plan. IsFound task task.problem.weight plan.moves) (λ plan is. is.found)
 
 pub returns-in-Ok-clause-few : goal.returns-in-Ok-clause-few
 returns-in-Ok-clause-few c =
     let task = task_of c.args.problem.now c.args.tables.now c.args.initial.now.atoms c.args.goal.now c.args.vars in
     each_plan task c.found_plan.result c.found_plan.ensures.planned (λ plan. length plan.moves < c.args.problem.now.nodes)
-    (λ plan is. few-moves task plan.moves is.found)
+    (λ plan is. (found_with_weight task task.problem.weight plan.moves is.found).few)
 
 pub returns-in-Ok-clause-steps : goal.returns-in-Ok-clause-steps
 returns-in-Ok-clause-steps c =

@@ -1,12 +1,13 @@
 -- Proofs of the goals that `Reader::atom` of src/reader.rt leaves open.
-use Rattle.px_reader.proofs.Common.{◌≡◌, ◌≤◌, map, take, length, sym, ap, ◌∙◌, arith, take_all, map-map, Term, Atom, parameters_here, term_of, atom_of, declared_of, argument_view, signed_view, text_of}
+use Rattle.px_reader.proofs.Common.{◌≡◌, ◌≤◌, map, take, length, sym, ap, ◌∙◌, arith, take_all, map-map, Term, Atom, parameters_here, term_of, atom_of, declared_of, argument_view, signed_view}
+use Rattle.px_reader.specs.LineVariables.{variables_view}
 use Rattle.px_lines.specs.declared.items.Argument.{Argument}
 use Rattle.px_reader.proofs.reader.Reader.atom.Goals as goal
 
 pub returns : goal.returns
 returns c =
     let d = declared_of c.args.self.now in
-    let variables = map text_of c.args.variables.now in
+    let variables = variables_view c.args.variables.now in
     let arguments = c.args.atom.now.arguments.items in
     let f : Argument → Term = λ a. term_of (parameters_here d) variables d.names.objects (argument_view a) in
     let whole : length arguments ≤ c.loop-index.index

@@ -1,7 +1,8 @@
 -- Proofs of the goals that `Reader::declare` of src/reader.rt leaves open.
 use Rattle.px_reader.proofs.Common.{◌≤◌, length, map, refl, at-most, arith, length-map, string_bytes, declared_of}
 use Rattle.px_reader.proofs.Fresh.{objects-named}
-use Rattle.px_reader.proofs.Right.{readable, facts-ground, axiom-plain}
+use Rattle.px_reader.proofs.Right.{few-in, readable, facts-ground, axiom-plain}
+use Rattle.px_reader.proofs.TableLines.{few-parameters, readable-parts}
 use Rattle.px_reader.proofs.reader.Reader.declare.Goals as goal
 
 pub add_axiom-requires-clause-few_variables : goal.add_axiom-requires-clause-few_variables
@@ -86,3 +87,26 @@ pub give_sort-requires : goal.give_sort-requires
 give_sort-requires c =
     let few : length (map string_bytes c.args.self.now.sorts.items) ≤ 32 = c.requires.range.problem.few_sorts in
     omega (arith, few, length-map c.args.self.now.sorts.items string_bytes)
+
+pub close_block-requires-clause-good : goal.close_block-requires-clause-good
+close_block-requires-clause-good c = let f = (rw c.in-End.is at c.requires.faultless) refl in f.no_bad_table
+
+pub add_step-requires-clause-few : goal.add_step-requires-clause-few
+add_step-requires-clause-few c = few-in (declared_of c.args.self.now) _ c.requires.range.operators
+
+pub add_step-requires-clause-few_parameters : goal.add_step-requires-clause-few_parameters
+add_step-requires-clause-few_parameters c = few-parameters (declared_of c.args.self.now) c.requires.range
+
+pub set_goal-requires-clause-readable : goal.set_goal-requires-clause-readable
+set_goal-requires-clause-readable c = readable (declared_of c.args.self.now) _ c.in-Goal.atoms.now _
+    refl c.requires.range (rw c.in-Goal.is at c.requires.right) refl
+
+pub set_goal-requires-clause-few_parameters : goal.set_goal-requires-clause-few_parameters
+set_goal-requires-clause-few_parameters c = few-parameters (declared_of c.args.self.now) c.requires.range
+
+pub add_row-requires-clause-readable : goal.add_row-requires-clause-readable
+add_row-requires-clause-readable c = readable-parts (declared_of c.args.self.now) c.in-Proof.parts.now c.requires.range
+    (rw c.in-Proof.is at c.requires.right)
+
+pub add_row-requires-clause-few_parameters : goal.add_row-requires-clause-few_parameters
+add_row-requires-clause-few_parameters c = few-parameters (declared_of c.args.self.now) c.requires.range

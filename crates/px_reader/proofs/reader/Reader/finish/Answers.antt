@@ -1,20 +1,14 @@
 -- Proofs of the goals that `Reader::finish` of src/reader.rt leaves open.
-use Rattle.px_reader.proofs.Common.{declared_of}
-use Rattle.px_reader.proofs.Finishing.{is-building, is-short, has-objects, is-valid, own_made}
+use Rattle.px_base.specs.Bounds.{u32_max}
+use Rattle.px_reader.proofs.Common.{◌<◌, ◌∙◌, ap, length, declared_of, option_map, IsBuilding}
+use Rattle.px_reader.proofs.Finishing.{lifted}
 use Rattle.px_reader.proofs.reader.Reader.finish.Goals as goal
 
-pub subject-requires-clause-building : goal.subject-requires-clause-building
-subject-requires-clause-building c = is-building (declared_of c.args.self) c.requires.range c.building-building.result c.building-building.ensures
+pub first_facts-requires-clause-building : goal.first_facts-requires-clause-building
+first_facts-requires-clause-building c = lifted IsBuilding c.building-building.result (declared_of c.args.self.now).things
+    (c.building-building.ensures ∙ ap (option_map (λ things. things.items)) c.take.ensures.value) c.requires.problem.building
 
-pub subject-requires-clause-short : goal.subject-requires-clause-short
-subject-requires-clause-short c = is-short (declared_of c.args.self) c.requires.range c.building-building.result c.building-building.ensures
-
-pub subject-requires-clause-objects : goal.subject-requires-clause-objects
-subject-requires-clause-objects c =
-    has-objects (declared_of c.args.self) c.requires.range c.building-building.result c.building-building.ensures c.in_ok-own.own
-    (own_made (declared_of c.args.self) c.in_ok-own.own c.sort_count-sorts.result c.in_ok-own.ensures c.sort_count-sorts.ensures.number)
-
-pub subject-requires-clause-valid : goal.subject-requires-clause-valid
-subject-requires-clause-valid c =
-    is-valid (declared_of c.args.self) c.requires.range c.building-building.result c.building-building.ensures c.in_ok-own.own
-    (own_made (declared_of c.args.self) c.in_ok-own.own c.sort_count-sorts.result c.in_ok-own.ensures c.sort_count-sorts.ensures.number)
+pub first_facts-requires-clause-short : goal.first_facts-requires-clause-short
+first_facts-requires-clause-short c =
+    lifted (λ things. length things < u32_max) c.building-building.result (declared_of c.args.self.now).things
+    (c.building-building.ensures ∙ ap (option_map (λ things. things.items)) c.take.ensures.value) c.requires.problem.short

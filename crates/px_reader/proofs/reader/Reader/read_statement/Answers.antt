@@ -1,7 +1,6 @@
 -- Proofs of the goals that `Reader::read_statement` of src/reader.rt leaves open.
 use Rattle.px_reader.proofs.Common.{◌∙◌, sym, no-fault, stage_view, declared_of, statement_view}
 use Rattle.px_reader.proofs.Late.{early-all, early-right, early-some, few-facts, many-facts}
-use Rattle.px_reader.proofs.TableVariables.{no-bad-table}
 use Rattle.px_reader.proofs.Fresh.{line-lists}
 use Rattle.px_reader.proofs.reader.Reader.read_statement.Goals as goal
 
@@ -14,16 +13,14 @@ pub declare-requires-clause-faultless : goal.declare-requires-clause-faultless
 declare-requires-clause-faultless c = λ other.
     let none = rw c.in-None.is at c.in_ok-fault.ensures in
     (no-fault (stage_view c.args.stage.now) (declared_of c.args.self.now) (statement_view c.args.statement)
-    (sym (early-all (stage_view c.args.stage.now) (declared_of c.args.self.now) (statement_view c.args.statement)
-    (no-bad-table c.args.self.now (statement_view c.args.statement)) other) ∙ sym none)).1
+    (sym (early-all (stage_view c.args.stage.now) (declared_of c.args.self.now) (statement_view c.args.statement) other) ∙ sym none)).1
 
 pub declare-requires-clause-fresh : goal.declare-requires-clause-fresh
 declare-requires-clause-fresh c = λ other.
     let none = rw c.in-None.is at c.in_ok-fault.ensures in
     line-lists c.args.number (declared_of c.args.self.now) (statement_view c.args.statement) c.requires.range c.requires.formed
     (no-fault (stage_view c.args.stage.now) (declared_of c.args.self.now) (statement_view c.args.statement)
-    (sym (early-all (stage_view c.args.stage.now) (declared_of c.args.self.now) (statement_view c.args.statement)
-    (no-bad-table c.args.self.now (statement_view c.args.statement)) other) ∙ sym none)).1
+    (sym (early-all (stage_view c.args.stage.now) (declared_of c.args.self.now) (statement_view c.args.statement) other) ∙ sym none)).1
 
 pub returns-in-Some-clause-fault : goal.returns-in-Some-clause-fault
 returns-in-Some-clause-fault c = early-some (stage_view c.args.stage.now) (declared_of c.args.self.now) (statement_view c.args.statement) _
@@ -41,4 +38,4 @@ returns-else-has_too_many_facts-clause-fault c =
     let none = rw c.in-None.is at c.in_ok-fault.ensures in
     let few = rw c.is_fact-is_fact.ensures at (sym c.has_too_many_facts.ensures ∙ c.if-has_too_many_facts.false) in
     few-facts (stage_view c.args.stage.now) c.args.number (declared_of c.args.self.now) (declared_of c.declare.new.self)
-    (statement_view c.args.statement) (no-bad-table c.args.self.now (statement_view c.args.statement)) c.in_ok-declare-in-None.ensures (sym none) few
+    (statement_view c.args.statement) c.in_ok-declare-in-None.ensures (sym none) few

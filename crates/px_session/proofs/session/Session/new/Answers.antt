@@ -1,5 +1,5 @@
 -- Proofs of the goals that `Session::new` of src/session.rt leaves open.
-use Rattle.std.proofs.Common.{◌<◌, List, length, sym, ◌∙◌, subst}
+use Rattle.std.proofs.Common.{◌<◌, ℕ, List, length, map, sym, ◌∙◌, subst}
 use Rattle.std.specs.Prelude.{Option}
 use Rattle.px_base.specs.Bounds.{u32_max}
 use Rattle.px_world.specs.declared.thing.Thing.{Thing}
@@ -9,7 +9,9 @@ use Rattle.px_script.specs.Ranges.{IsBuildingOf}
 use Rattle.px_session.specs.KeptSessions.{IsKeptSession}
 use Rattle.px_session.specs.Opened.{SessionValue}
 use Rattle.px_session.specs.Sessions.{SessionState, opening}
+use Rattle.px_table.specs.declared.table.Table.{Table}
 use Rattle.px_session.proofs.Executing.{kept-opened}
+use Rattle.px_session.proofs.GivenNames.{saved-apart}
 use Rattle.px_session.proofs.RoomEdits.{each-building, few-things, first-read, read-building}
 use Rattle.px_session.proofs.session.Session.new.Goals as goal
 
@@ -30,6 +32,15 @@ world_of-requires-clause-short c =
     (λ things is. few-things script.version script.names script.problem script.facts things range.names.few_objects is)
     range.building)
 
+pub opening-requires-clause-once : goal.opening-requires-clause-once
+opening-requires-clause-once c =
+    let script = content c.args.script in
+    saved-apart (map (λ (one : ℕ × Table). one.0) script.saved) script.commands (length script.names.results)
+    c.args.script.in_range.commands.given
+
+pub opening-requires-clause-few : goal.opening-requires-clause-few
+opening-requires-clause-few c = c.args.script.in_range.few_saved
+
 pub invariant_of-result : goal.invariant_of-result
 invariant_of-result c =
     let script = c.args.script in
@@ -41,7 +52,7 @@ invariant_of-result c =
       done = 0;
       state = state;
     } in
-    let opened = kept-opened (content script) script.in_range in
-    let built = subst (λ (building : Option RoomState). IsKeptSession building (Session (opening (content script).facts)))
+    let opened = kept-opened (content script) script.in_range c.are_names.ensures in
+    let built = subst (λ (building : Option RoomState). IsKeptSession building (Session (opening (content script).facts (content script).saved)))
     (sym (c.in_ok-building.ensures ∙ first-read script.building)) opened in
-    subst (λ (state : SessionState). IsKeptSession c.in_ok-building.building (Session state)) (sym c.opening.ensures) built
+    subst (λ (state : SessionState). IsKeptSession c.in_ok-building.building (Session state)) (sym c.in_ok-state.ensures) built

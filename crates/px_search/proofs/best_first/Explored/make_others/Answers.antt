@@ -1,0 +1,85 @@
+-- Proofs of the goals that `Explored::make_others` of src/best_first.rt leaves open.
+use Rattle.std.proofs.Common.{◌≡◌, ◌∷◌, ℕ, Bool, true, List, length, take, refl, subst, arith}
+use Rattle.px_table.specs.declared.node.Node.{Node}
+use Rattle.px_gaps.specs.Outcomes.{AtLimit}
+use Rattle.px_gaps.specs.declared.ask_err.AskErr.{AskErr}
+use Rattle.px_numbers.specs.Numbers.{IsKeyOf}
+use Rattle.px_support.specs.Asking.{task_for}
+use Rattle.px_search.specs.Going.{LimitsNode}
+use Rattle.px_search.specs.Looping.{GoesOn, TriesAt}
+use Rattle.px_search.specs.declared.best_first.Explored.{Explored}
+use Rattle.px_search.specs.declared.step.Step.{Step}
+use Rattle.px_search.proofs.BegunLaws.{progress-goes, unlimited-here, others-from, trying-others}
+use Rattle.px_search.proofs.GoingLaws.{here_of, trying-within}
+use Rattle.px_search.proofs.LoopLaws.{node-done}
+use Rattle.px_search.proofs.SceneLaws.{scene-grows}
+use Rattle.px_search.proofs.best_first.Explored.make_others.Goals as goal
+
+pub node-key-requires : goal.node-key-requires
+node-key-requires c =
+    let e = c.args.self.now in
+    let r = c.requires.trying in
+    trying-within (task_for c.args.asked.now) e.notes.numbers e.nodes e.origins.items e.picker r.0 c.args.next r.1 r.2 c.args.from r.4
+
+pub all_steps_from-requires-clause-node : goal.all_steps_from-requires-clause-node
+all_steps_from-requires-clause-node c =
+    let e = c.args.self.now in
+    let t = c.requires.trying.4 in
+    here_of (task_for c.args.asked.now) e.notes.numbers e.nodes e.origins.items e.picker c.requires.trying.0 c.args.next
+    (take c.args.from t.begun.moves) c.node-key.result t.going c.node-key.ensures
+
+pub unreachable-requires : goal.unreachable-requires
+unreachable-requires c =
+    let task = task_for c.args.asked.now in
+    let e = c.args.self.now in
+    let r = c.requires.trying in
+    unlimited-here task e.notes.numbers c.all_steps_from.new.self.numbers e.nodes e.origins.items e.picker r.0 c.args.next r.1 r.2
+    c.args.from c.node-key.result r.4 r.3 c.node-key.ensures c.in-Err-ShapeLimit.field-0-0 c.in-Err-ShapeLimit.field-0-1
+    (subst (λ (x : AskErr). AtLimit x (λ formula shapes. (node : Node) → IsKeyOf e.notes.numbers c.node-key.result node
+    → LimitsNode task node formula shapes)) c.in-Err-ShapeLimit.field-0-is c.in-Err-ShapeLimit.ensures.limited)
+
+pub make_all-requires-clause-trying : goal.make_all-requires-clause-trying
+make_all-requires-clause-trying c =
+    let e = c.args.self.now in
+    let r = c.requires.trying in (
+      r.0,
+      true,
+      trying-others (task_for c.args.asked.now) e.notes.numbers c.all_steps_from.new.self.numbers e.nodes e.origins.items e.picker r.0
+          c.args.next r.1 r.2 c.args.from c.node-key.result r.4 r.3 c.node-key.ensures c.in-Ok.steps.items
+          c.in-Ok.ensures.steps c.in-Ok.ensures.notes.keeps,
+    )
+
+pub make_all-requires-clause-from : goal.make_all-requires-clause-from
+make_all-requires-clause-from c =
+    let e = c.args.self.now in
+    let r = c.requires.trying in
+    others-from (task_for c.args.asked.now) e.notes.numbers c.all_steps_from.new.self.numbers e.nodes e.origins.items e.picker r.0
+    c.args.next r.1 r.2 c.args.from c.node-key.result r.4 r.3 c.node-key.ensures c.in-Ok.steps.items c.in-Ok.ensures.steps
+
+pub make_all-requires-clause-explored : goal.make_all-requires-clause-explored
+make_all-requires-clause-explored c =
+    let notes = c.in-Ok.ensures.notes in
+    record {
+      notes = notes.right;
+      scene = scene-grows
+          (task_for c.args.asked.now) c.args.self.now.notes.numbers c.all_steps_from.new.self.numbers c.args.self.now.scene notes.keeps
+          c.requires.explored.scene;
+    }
+
+pub returns-clause-gone : goal.returns-clause-gone
+returns-clause-gone c =
+    let task = task_for c.args.asked.now in
+    let old = c.args.self.now in
+    let mid : Explored = record old { notes = c.all_steps_from.new.self } in
+    let new = c.make_all.new.self in
+    let all = c.in-Ok.steps.items in
+    progress-goes task new.notes.numbers new.nodes new.origins.items
+    ((picked : List ℕ) (is_all : Bool) → TriesAt task mid picked c.args.next all is_all c.args.from
+    → TriesAt task new picked c.args.next all is_all (length all))
+    ((picked : List ℕ) (steps : List Step) (is_all : Bool) → c.args.from ≡ length steps
+    → TriesAt task old picked c.args.next steps is_all c.args.from → GoesOn task new (c.args.next ∷ picked)) c.in_ok-progress.progress
+    (λ made picked steps is_all from_is t. node-done task new.notes.numbers new.nodes new.origins.items new.picker picked c.args.next all
+    true (length all)
+    (made picked true (trying-others task old.notes.numbers mid.notes.numbers old.nodes old.origins.items old.picker picked c.args.next
+    steps is_all c.args.from c.node-key.result t from_is c.node-key.ensures all c.in-Ok.ensures.steps c.in-Ok.ensures.notes.keeps))
+    (omega arith) refl) c.in_ok-progress.ensures.made

@@ -1,0 +1,20 @@
+-- Proofs of the goals that `node_limit` of src/best_first.rt leaves open.
+use Rattle.std.proofs.Common.{List, subst, sym}
+use Rattle.px_table.specs.declared.node.Node.{Node}
+use Rattle.px_ends.specs.ByValue.{IsNodeLimit}
+use Rattle.px_support.specs.Asking.{task_for}
+use Rattle.px_search.proofs.best_first.node_limit.Goals as goal
+
+pub new-firsts-requires-clause-count : goal.new-firsts-requires-clause-count
+new-firsts-requires-clause-count c = c.requires.full.count
+
+pub new-firsts-requires-clause-stand : goal.new-firsts-requires-clause-stand
+new-firsts-requires-clause-stand c = c.requires.full.stand
+
+pub returns : goal.returns
+returns c =
+    let task = task_for c.args.asked.now in
+    let full = c.requires.full in
+    subst (λ (nodes : List Node). IsNodeLimit task task.problem.weight nodes c.args.moves)
+    (sym (c.new-firsts.ensures full.stand.0 full.stand.1))
+    (full.limit full.stand.0 full.stand.1)

@@ -1,0 +1,384 @@
+//! The search, best first.
+ghost use Rattle.std.specs.Prelude.{◌≡◌, ◌+◌, ◌<◌, ◌≤◌, ◌∷◌, [], ℕ, Bool, List, length, slice_get, Some, IfOk, IfErr, IsTrue, OnOk};
+ghost use Rattle.px_base.specs.Bounds.{u32_max};
+ghost use Rattle.px_table.specs.declared.entry.Move.{Move};
+ghost use Rattle.px_table.specs.declared.node.Node.{Node};
+ghost use Rattle.px_entries.specs.Unlimited.{IsNeverLimited};
+ghost use Rattle.px_numbers.specs.Numbers.{IsKeyOf, KeepsAll};
+ghost use Rattle.px_ends.specs.ByValue.{IsExhausted, IsFound, IsShapeLimit};
+ghost use Rattle.px_ends.specs.Tasks.{Task, initial_node};
+ghost use Rattle.px_support.specs.Asking.{IsAskable, task_for};
+ghost use Rattle.px_search.specs.Asking.{IsTriedAt};
+ghost use Rattle.px_search.specs.Looping.{ComesTo, ComesToEnd, GoesOn, IsEnd, IsExploring, IsFull, IsUnexplored, Picked, TriesAt};
+ghost use Rattle.px_search.specs.Steps.{AreEarlier, Trace};
+ghost use Rattle.px_search.specs.declared.step.Step.{Step};
+
+use crate::ends::SearchErr;
+use crate::notes::Notes;
+use crate::origins::moves_to;
+use crate::picker::Picker;
+use crate::progress::{Progress, SearchOutcome};
+use crate::scene::Scene;
+use crate::step::{Origin, Step};
+use crate::tried::try_node;
+use px_gaps::{AskErr, Tried};
+use px_numbers::{FirstNodes, NodeKey, NodeSet, Numbers, node_at};
+use px_proof::Shape;
+use px_support::Asked;
+use px_table::Move;
+use px_terms::{Atom, NoMemory, Sequence};
+use std::alloc::Global;
+
+/// Returns the end at a node where a question meets the limit.
+fn limit_at(
+    asked: &Asked,
+    numbers: &Numbers,
+    key: NodeKey,
+    formula: Sequence<Atom>,
+    shapes: Sequence<Shape>,
+) -> SearchErr
+    requires { (node : Node) × IsKeyOf numbers.now key node }
+    ensures { (node : Node) → IsKeyOf numbers.now key node
+        → IsShapeLimit (task_for asked.now) asked.now.problem.now.weight node formula shapes → IsEnd (task_for asked.now) result }
+{
+    match node_at(asked.alloc, numbers, key) {
+        Ok(node) => SearchErr::ShapeLimit {
+            node,
+            formula,
+            shapes,
+        },
+        Err(_) => SearchErr::NoMemory,
+    }
+}
+
+/// Returns the node of the initial model.
+fn start_key(asked: &Asked, numbers: &mut Numbers) -> Result<NodeKey, NoMemory>
+    ensures keeps { KeepsAll numbers.old numbers.new }
+    ensures start { IfOk result (λ key. IsKeyOf numbers.new key (initial_node (task_for asked.now))) }
+{
+    let model = numbers.model_number(asked.alloc, asked.initial)?;
+    Ok(NodeKey { model, stack: 0 })
+}
+
+/// Returns the step at the place.
+fn step_at(steps: &Vec<Step>, place: usize) -> Step
+    requires { place < length steps.now.items }
+    ensures { slice_get steps.now.items place ≡ Some result }
+{
+    steps[place]
+}
+
+/// Returns the moves to the last of the nodes.
+fn path_to(
+    alloc: Global,
+    numbers: &Numbers,
+    origins: &Vec<Origin>,
+) -> Result<Sequence<Move>, NoMemory>
+    requires earlier { AreEarlier origins.now.items }
+    requires traced { (found : List (List Move)) × Trace numbers.now origins.now.items found }
+    ensures trace { IfOk result (λ path. (found : List (List Move)) → Trace numbers.now origins.now.items found
+        → slice_get found (length origins.now.items) ≡ Some path) }
+    ensures few { IfOk result (λ path. length path ≤ length origins.now.items) }
+{
+    let moves = moves_to(alloc, numbers, origins, origins.len())?;
+    Ok(Sequence::from_vec(moves))
+}
+
+/// Returns how many moves reach the last of the nodes.
+fn count_to(alloc: Global, numbers: &Numbers, origins: &Vec<Origin>) -> Result<u32, NoMemory>
+    requires earlier { AreEarlier origins.now.items }
+    requires traced { (found : List (List Move)) × Trace numbers.now origins.now.items found }
+    requires few { length origins.now.items ≤ u32_max }
+    ensures { IfOk result (λ count. (moves : List Move) × (count ≡ length moves)
+        × ((found : List (List Move)) → Trace numbers.now origins.now.items found
+        → slice_get found (length origins.now.items) ≡ Some moves)) }
+{
+    let path = path_to(alloc, numbers, origins)?;
+    Ok(path.len() as u32)
+}
+
+/// The nodes that a search has found, and what it keeps.
+#[derive(Drop)]
+pub struct Explored {
+    pub notes: Notes,
+    /// The model that was looked at last.
+    pub scene: Scene,
+    /// The nodes, in the order in which they were found.
+    pub nodes: NodeSet,
+    /// Where all nodes but the first come from, in order.
+    pub origins: Vec<Origin>,
+    /// What says which of them is gone through next.
+    pub picker: Picker,
+}
+
+impl Explored {
+    /// Makes the move from the node at the place `next`, and keeps the node that it leads to, if that is new.
+    fn make_move(&mut self, asked: &Asked, next: usize, step: Step) -> Result<Progress, SearchErr>
+        requires asked { IsAskable asked.now }
+        requires explored { IsExploring (task_for asked.now) self.old }
+        requires trying { (picked : List ℕ) × (steps : List Step) × (is_all : Bool) × (i : ℕ)
+            × TriesAt (task_for asked.now) self.old picked next steps is_all i × (slice_get steps i ≡ Some step) }
+        ensures explored { OnOk result (IsExploring (task_for asked.now) self.new) }
+        ensures made { IfOk result (ComesTo (task_for asked.now) self.new
+            ((picked : List ℕ) (steps : List Step) (is_all : Bool) (i : ℕ)
+            → TriesAt (task_for asked.now) self.old picked next steps is_all i
+            → slice_get steps i ≡ Some step → TriesAt (task_for asked.now) self.new picked next steps is_all (i + 1))) }
+        ensures ends { IfErr result (IsEnd (task_for asked.now)) }
+    {
+        let key = self.nodes.node(next);
+        let there = self.notes.after(asked, key, step)?;
+        self.notes.numbers.sound();
+        let count = self.nodes.count();
+        let place = self.nodes.intern(there)?;
+        if (place as usize) < count {
+            return Ok(Progress::Unsolved);
+        }
+        let origin = Origin {
+            parent: next,
+            last: step,
+        };
+        self.origins.push(origin)?;
+        if count >= asked.problem.nodes as usize {
+            let moves = count_to(asked.alloc, &self.notes.numbers, &self.origins)?;
+            return Ok(Progress::Full { moves });
+        }
+        let tried = try_node(asked, &self.notes.numbers, there)?;
+        match tried {
+            Tried::Answered => Ok(Progress::Solved),
+            Tried::Unanswered => {
+                self.picker
+                    .go_on(asked, &self.notes.numbers, origin, there)?;
+                Ok(Progress::Unsolved)
+            }
+            Tried::Limited { formula, shapes } => {
+                Err(limit_at(asked, &self.notes.numbers, there, formula, shapes))
+            }
+        }
+    }
+
+    /// Makes the moves from the node at the place `next`, from the one at the place `from` on, or those up to the first that leads to a
+    /// solved node or to one without room.
+    fn make_all(
+        &mut self,
+        asked: &Asked,
+        next: usize,
+        steps: &Vec<Step>,
+        from: usize,
+    ) -> Result<Progress, SearchErr>
+        requires asked { IsAskable asked.now }
+        requires explored { IsExploring (task_for asked.now) self.old }
+        requires trying { (picked : List ℕ) × (is_all : Bool)
+            × TriesAt (task_for asked.now) self.old picked next steps.now.items is_all from }
+        requires from { from ≤ length steps.now.items }
+        ensures explored { OnOk result (IsExploring (task_for asked.now) self.new) }
+        ensures made { IfOk result (ComesTo (task_for asked.now) self.new
+            ((picked : List ℕ) (is_all : Bool) → TriesAt (task_for asked.now) self.old picked next steps.now.items is_all from
+            → TriesAt (task_for asked.now) self.new picked next steps.now.items is_all (length steps.now.items))) }
+        ensures ends { IfErr result (IsEnd (task_for asked.now)) }
+    {
+        for turn in from..steps.len() {
+            let step = step_at(steps, turn);
+            let progress = self.make_move(asked, next, step)?;
+            match progress {
+                Progress::Unsolved => {}
+                Progress::Solved => return Ok(Progress::Solved),
+                Progress::Full { moves } => return Ok(Progress::Full { moves }),
+            }
+        }
+        Ok(Progress::Unsolved)
+    }
+
+    // Alike: the head of `top_steps` in moves.rt, by the number of arguments alone.
+    /// Makes the moves from the node at the place `next` that come after the first ones, which are as many as `from` and were made, or
+    /// those up to the first that leads to a solved node or to one without room.
+    fn make_others(
+        &mut self,
+        asked: &Asked,
+        next: usize,
+        from: usize,
+    ) -> Result<Progress, SearchErr>
+        requires asked { IsAskable asked.now }
+        requires explored { IsExploring (task_for asked.now) self.old }
+        requires trying { (picked : List ℕ) × (steps : List Step) × (is_all : Bool) × (from ≡ length steps)
+            × TriesAt (task_for asked.now) self.old picked next steps is_all from }
+        ensures explored { OnOk result (IsExploring (task_for asked.now) self.new) }
+        ensures gone { IfOk result (ComesTo (task_for asked.now) self.new ((picked : List ℕ) (steps : List Step) (is_all : Bool)
+            → from ≡ length steps → TriesAt (task_for asked.now) self.old picked next steps is_all from
+            → GoesOn (task_for asked.now) self.new (next ∷ picked))) }
+        ensures ends { IfErr result (IsEnd (task_for asked.now)) }
+    {
+        let key = self.nodes.node(next);
+        let steps = match self.notes.all_steps_from(asked, key) {
+            Ok(steps) => steps,
+            Err(AskErr::ShapeLimit { .. }) => unreachable!(),
+            Err(AskErr::NoMemory) => return Err(SearchErr::NoMemory),
+        };
+        let progress = self.make_all(asked, next, &steps, from)?;
+        Ok(progress)
+    }
+
+    /// Makes all moves from the node at the place `next`, or those up to the first that leads to a solved node or to one without room.
+    /// The moves after the first ones are asked for only where none of these leads there.
+    fn go_through(&mut self, asked: &Asked, next: usize) -> Result<Progress, SearchErr>
+        requires asked { IsAskable asked.now }
+        requires explored { IsExploring (task_for asked.now) self.old }
+        requires picked { (picked : List ℕ) × Picked (task_for asked.now) self.old picked next }
+        requires next { next < length self.old.nodes }
+        ensures explored { OnOk result (IsExploring (task_for asked.now) self.new) }
+        ensures gone { IfOk result (ComesTo (task_for asked.now) self.new ((picked : List ℕ)
+            → Picked (task_for asked.now) self.old picked next → GoesOn (task_for asked.now) self.new (next ∷ picked))) }
+        ensures ends { IfErr result (IsEnd (task_for asked.now)) }
+    {
+        let key = self.nodes.node(next);
+        let begun = match self.notes.begun_from(asked, &mut self.scene, key) {
+            Ok(begun) => begun,
+            Err(AskErr::ShapeLimit { formula, shapes }) => {
+                return Err(limit_at(asked, &self.notes.numbers, key, formula, shapes));
+            }
+            Err(AskErr::NoMemory) => return Err(SearchErr::NoMemory),
+        };
+        let progress = self.make_all(asked, next, &begun.steps, 0)?;
+        match progress {
+            Progress::Unsolved => {}
+            Progress::Solved => return Ok(Progress::Solved),
+            Progress::Full { moves } => return Ok(Progress::Full { moves }),
+        }
+        if begun.is_all {
+            return Ok(Progress::Unsolved);
+        }
+        let others = self.make_others(asked, next, begun.steps.len())?;
+        Ok(others)
+    }
+
+    /// Goes through the nodes as they are picked, up to the first move that leads to a solved node or to one without room.
+    fn walk(&mut self, asked: &Asked) -> Result<Progress, SearchErr>
+        requires asked { IsAskable asked.now }
+        requires explored { IsExploring (task_for asked.now) self.old }
+        requires going { GoesOn (task_for asked.now) self.old [] }
+        ensures walked { IfOk result (ComesTo (task_for asked.now) self.new
+            (IsExhausted (task_for asked.now) asked.now.problem.now.weight)) }
+        ensures ends { IfErr result (IsEnd (task_for asked.now)) }
+    {
+        let mut picks: u32 = 0;
+        while let Some(place) = self.picker.pick(self.nodes.count()) {
+            let progress = self.go_through(asked, place)?;
+            match progress {
+                Progress::Unsolved => {}
+                Progress::Solved => return Ok(Progress::Solved),
+                Progress::Full { moves } => return Ok(Progress::Full { moves }),
+            }
+            picks += 1;
+        }
+        Ok(Progress::Unsolved)
+    }
+}
+
+impl Explored {
+    /// Returns the nodes of a search with this weight that has found nothing yet.
+    fn new(alloc: Global, weight: u32, is_never_limited: bool) -> Explored
+        ensures { (task : Task) → task.problem.weight ≡ weight
+            → (IsTrue is_never_limited → IsNeverLimited task.problem task.tables) → IsUnexplored task result }
+    {
+        let notes = Notes::new(alloc, is_never_limited);
+        let scene = Scene::new(alloc);
+        let nodes = NodeSet::new(alloc);
+        let origins = Vec::new(alloc);
+        let picker = Picker::new(alloc, weight);
+        Explored {
+            notes,
+            scene,
+            nodes,
+            origins,
+            picker,
+        }
+    }
+
+    /// Searches from the start, which isn't solved.
+    fn search_from(&mut self, asked: &Asked, start: NodeKey) -> Result<SearchOutcome, SearchErr>
+        requires asked { IsAskable asked.now }
+        requires explored { IsUnexplored (task_for asked.now) self.old }
+        requires start { IsKeyOf self.old.notes.numbers start (initial_node (task_for asked.now)) }
+        requires tried { IsTriedAt (task_for asked.now) (initial_node (task_for asked.now)) Tried.Unanswered }
+        ensures outcome { IfOk result (ComesToEnd (task_for asked.now) self.new) }
+        ensures ends { IfErr result (IsEnd (task_for asked.now)) }
+    {
+        self.nodes.intern(start)?;
+        self.picker.start(asked, &self.notes.numbers, start)?;
+        let progress = self.walk(asked)?;
+        match progress {
+            Progress::Unsolved => Ok(SearchOutcome::NoPlan),
+            Progress::Solved => {
+                let path = path_to(asked.alloc, &self.notes.numbers, &self.origins)?;
+                Ok(SearchOutcome::Plan(path))
+            }
+            Progress::Full { moves } => Ok(SearchOutcome::NoRoom { moves }),
+        }
+    }
+
+    /// Searches from the initial model.
+    fn search(&mut self, asked: &Asked) -> Result<SearchOutcome, SearchErr>
+        requires asked { IsAskable asked.now }
+        requires explored { IsUnexplored (task_for asked.now) self.old }
+        ensures outcome { IfOk result (ComesToEnd (task_for asked.now) self.new) }
+        ensures ends { IfErr result (IsEnd (task_for asked.now)) }
+    {
+        let start = start_key(asked, &mut self.notes.numbers)?;
+        let tried = try_node(asked, &self.notes.numbers, start)?;
+        match tried {
+            Tried::Answered => Ok(SearchOutcome::Plan(Sequence::from_vec(Vec::new(asked.alloc)))),
+            Tried::Unanswered => self.search_from(asked, start),
+            Tried::Limited { formula, shapes } => {
+                Err(limit_at(asked, &self.notes.numbers, start, formula, shapes))
+            }
+        }
+    }
+}
+
+/// Drops what was found, in one place, since each way out of a function that holds it has to be proved.
+fn let_go(_explored: Explored) {}
+
+/// Returns the end where there is no room for the last node, which this number of moves reaches.
+fn node_limit(asked: &Asked, explored: Explored, moves: u32) -> SearchErr
+    requires full { IsFull (task_for asked.now) explored.notes.numbers explored.nodes moves }
+    ensures { IsEnd (task_for asked.now) result }
+{
+    let Explored { notes, nodes, .. } = explored;
+    let Notes { numbers, .. } = notes;
+    let firsts = FirstNodes::new(numbers, nodes, asked.problem.nodes as usize);
+    SearchErr::NodeLimit {
+        nodes: firsts,
+        moves,
+    }
+}
+
+/// Searches for a plan, best first: the moves to the first solved node. `is_never_limited` is whether it is known that no question about
+/// an entry meets the limit of shapes, whatever the facts are.
+///
+/// # Errors
+/// Those of `SearchErr`.
+pub fn found_by_moves(asked: &Asked, is_never_limited: bool) -> Result<Sequence<Move>, SearchErr>
+    requires asked { IsAskable asked.now }
+    requires never_limited { IsTrue is_never_limited → IsNeverLimited asked.now.problem.now asked.now.tables.now }
+    ensures found { IfOk result (IsFound (task_for asked.now) asked.now.problem.now.weight) }
+    ensures ends { IfErr result (IsEnd (task_for asked.now)) }
+{
+    let mut explored = Explored::new(asked.alloc, asked.problem.weight, is_never_limited);
+    let outcome = match explored.search(asked) {
+        Ok(outcome) => outcome,
+        Err(error) => {
+            let_go(explored);
+            return Err(error);
+        }
+    };
+    match outcome {
+        SearchOutcome::Plan(path) => {
+            let_go(explored);
+            Ok(path)
+        }
+        SearchOutcome::NoPlan => {
+            let_go(explored);
+            Err(SearchErr::Exhausted)
+        }
+        SearchOutcome::NoRoom { moves } => Err(node_limit(asked, explored, moves)),
+    }
+}
