@@ -8,7 +8,7 @@ use std::cmp::Reverse;
 use std::collections::BinaryHeap;
 use std::marker::Model;
 
-/// The places that weren't picked yet, each with its value (the open nodes of best-first search). Nothing uses it yet.
+/// The places that weren't picked yet, each with its value: the open nodes of best-first search.
 ///
 /// Contracts see it as the list of its ranks, in some order.
 #[derive(Drop)]

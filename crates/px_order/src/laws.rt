@@ -1,4 +1,4 @@
-//! Laws about every search, in whatever order it goes on. The calls do nothing, and nothing uses them yet.
+//! Laws about every search, in whatever order it goes on. The calls do nothing.
 ghost use Rattle.px_order.specs.OpenPlaces.{AgendaGoesOn, BlindNeedsNoAgenda};
 ghost use Rattle.px_order.specs.OrderLaws.{AllIsFound, AskedByRun, BlindEnds, BlindIsBreadth, ExhaustedInAll, NodesStandOnce, OneStop};
 ghost use Rattle.px_order.specs.OrderLaws.{RunsAreOne};

@@ -2,7 +2,7 @@
 ghost use Rattle.px_order.specs.Spaces.{Space};
 ghost use Rattle.px_order.specs.Ends.{Aim};
 
-/// A search, as the laws see it: a type that stands for what is searched. It has no calls. Only the laws use it yet.
+/// A search, as the laws see it: a type that stands for what is searched. It has no calls, and only the laws use it.
 pub trait Search {
     /// What is reached.
     type Node;

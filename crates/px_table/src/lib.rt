@@ -15,7 +15,7 @@
 //! - [`check_table`] says whether a table is a triangle table for the problem (`IsTable` of `specs/Tables.antt`). Where it says yes,
 //!   each proper instance of each kernel carries the steps that are left to the goal (`KernelsCarry` of `specs/Kernels.antt`).
 //!   [`rows_make_table`] says this of parts without marks, in time as their size, where `check_table` compares the
-//!   marks of a row with each other. (Only tests call it yet.)
+//!   marks of a row with each other.
 //! - A table is well-sorted (`IsWellSortedTable` of `specs/WellSorted.antt`) where each parameter has a sort of the problem or none,
 //!   each object in a step fits its place, and each parameter stands in steps only at places that have its sort or none. Under
 //!   objects that fit the parameters ([`fit_parameters`]) its steps then fit. [`sorts_by_places`] finds the sorts that parameters
