@@ -84,7 +84,7 @@ front-text bytes begun text (script, is, of) whole =
         → (rest : List ℕ) × (text ≡ begun ++ rest)
     by (last, lawful, text_is) =
         let range = in-range stage_now bytes script is in
-        let session = sessions_are_kept.opened script.problem script.facts range.facts.fact_set in
+        let session = sessions_are_kept.scripts script range in
         let all = subst (λ (cs : List Command). AreAnswers script.problem (opening script.facts script.saved) cs whole.answers last) of.whole lawful in
         let begins = front-of script.problem range.problem.valid
         (opening script.facts script.saved) session of.before of.after

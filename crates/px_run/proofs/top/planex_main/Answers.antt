@@ -1,6 +1,7 @@
 -- Proofs of the goals that `planex_main` of src/top.rt leaves open.
 use Rattle.px_run.proofs.CheckLemmas.{check-completes, check-completes_surely, check-front, check-refuses, check-right, is_certified}
 use Rattle.px_run.proofs.DemoLemmas.{demo-completes, demo-completes_surely, demo-front, demo-refuses, demo-right, run-right}
+use Rattle.px_run.specs.Outcomes.{source_ends}
 use Rattle.px_run.proofs.Fronts.{run-front}
 use Rattle.px_run.proofs.OutcomeLemmas.{run-completes, run-completes_surely, run-refuses}
 use Rattle.px_run.proofs.top.planex_main.Goals as goal
@@ -60,4 +61,6 @@ pub returns-clause-check_front : goal.returns-clause-check_front
 returns-clause-check_front g c = λ taken. check-front _ _ c.obey.result (check-right _ _ _ c.obey.result taken c.obey.ensures.right)
 
 pub returns-clause-certifies : goal.returns-clause-certifies
-returns-clause-certifies g c = λ taken. is_certified _ c.obey.result
+returns-clause-certifies g c = λ taken. is_certified
+    (source_ends g.S.Source.left g.S.Source.taken g.S.Source.faults g.S.Source.never_fails c.args.source.now c.obey.new.source)
+    c.obey.result
