@@ -67,7 +67,7 @@ const TEXTS: &[(&str, Outcome)] = &[
     // Limits on numbers.
     ("predicate P 7", (1, 8, 4)),
     ("predicate P 99999999999999999999", (1, 8, 4)),
-    ("script 3", (1, 8, 16)),
+    ("script 4", (1, 8, 16)),
     ("script 0", (1, 8, 16)),
     // Declarations after a command.
     ("facts\nobject a", (2, 9, 0)),
