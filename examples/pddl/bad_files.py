@@ -1,4 +1,5 @@
-"""The table of bad files: what is changed in a good pair of files, and the messages with which from-pddl refuses it."""
+"""The table of bad files: what is changed in a good pair of files, and the messages with which from-pddl refuses it. Then changes that
+change nothing."""
 import re
 
 DOMAIN = """(define (domain d)
@@ -48,7 +49,10 @@ EDITS = [
     ('an unknown type of a parameter', ':parameters (?x - box)', ':parameters (?x - crate)', 'd:7:23: unknown type crate'),
     ('an unknown type above', 'box - thing thing', 'box - thing', 'd:3:17: unknown type thing'),
     ('a cyclic type', 'box - thing thing', 'box - thing thing - box', 'd:3:11: the type box is below itself'),
-    ('a type twice', 'box - thing thing', 'box - thing thing box', 'd:3:29: the type box is declared twice'),
+    ('a type below two others', 'box - thing thing', 'box - thing thing lid box - lid',
+     'd:3:33: the type box is declared twice, below thing and below lid'),
+    ('a type above all', 'box - thing thing', 'box object - thing thing', 'd:3:15: object is above each other type'),
+    ('no variable', ':parameters (?x - box)', ':parameters (??x - box)', 'd:7:18: a variable is wanted here, not ??x'),
     ('an object twice', 'a - box t', 'a a - box t', 'p:3:15: the object a is declared twice'),
     ('a constant as an object', 'a - box t', 'a c - box t', 'p:3:15: the object c is declared twice'),
     ('a predicate twice', '(q ?x ?y))', '(q ?x ?y) (P))', 'd:5:40: the predicate p is declared twice'),
@@ -65,7 +69,7 @@ EDITS = [
     ('an object of another type', '(:init (p a))', '(:init (p t))', 'p:4:13: t is of the type thing, and p takes box here'),
     ('a parameter of another type', '(?x - box)\n', '(?x - thing)\n', 'd:8:27: ?x is of the type thing, and p takes box here'),
     # Features that aren't taken
-    ('an unknown requirement', ':typing)', ':typing :more)', 'd:2:34: unknown requirement :more: leave it out'),
+    ('no requirement', ':typing)', ':typing more)', 'd:2:34: a requirement is a word such as :strips, not more'),
     ('a negated conjunction', '(and (p ?x))', '(not (and (p ?x) (p c)))',
      'd:8:24: not taken: a disjunction (not (and ..); write an action, or a problem, for each part'),
     ('a disjunction', '(and (p ?x))', '(or (p ?x) (p c))',
@@ -103,6 +107,8 @@ EDITS = [
      'd:6:3: not taken: durative actions; write plain actions: a script has no time'),
     ('a timed literal', '(:init (p a))', '(:init (at 5 (p a)))',
      'p:4:10: not taken: a timed literal (at ..); write plain actions: a script has no time'),
+    ('a timed literal beside a predicate', '(:init (p a))', '(:init (p a) (at 5 (p a)))',
+     'p:4:16: not taken: a timed literal (at ..); write plain actions: a script has no time'),
     ('a union of types where one of them is wanted', 'a - box t', 'a - (either box thing) t',
      'p:4:13: a is of the type (either box thing), and p takes box here'),
     ('an unknown type in a union', 'a - box t', 'a - (either box crate) t', 'p:3:29: unknown type crate'),
@@ -114,12 +120,36 @@ EDITS = [
      'p:5:10: the goal is empty: each state meets it, and a goal of a script has at least one atom'),
 ]
 
+# Name, the text that is replaced, and its replacement, after which the script is the same.
+SAME = [
+    ('a type that is said again to be an object', 'box - thing thing', 'box - thing thing box - object'),
+    ('a type that is said first to be an object', 'box - thing thing', 'box thing - object box - thing'),
+    ('requirements that aren\'t used', ':typing)', ':typing :adl :fluents :ucpop)'),
+    ('upper case', '(p ?x - box)', '(P ?X - BOX)'),
+    ('comments, tabs and lines of another system', '(:constants c - box)', '; (\r\n\t(:constants c ; \u00e9)\r\n - box)'),
+    ('a mark of byte order', '(define (domain d)', '\ufeff(define (domain d)'),
+    ('a union of one type', 'a - box t', 'a - (either box) t'),
+    ('an equality that always holds', '(and (p ?x))', '(and (= ?x ?x) (p ?x))'),
+    ('an inequality that always holds', '(and (q a c))', '(and (not (= a c)) (q a c))'),
+    ('a double negation', '(and (p ?x))', '(not (not (p ?x)))'),
+    ('conjunctions in each other', '(and (p ?x))', '(and (and) () (and (and (p ?x))))'),
+    ('a fact that isn\'t one', '(:init (p a))', '(:init (not (p c)) (p a))'),
+]
+
 
 def edited():
     for name, old, new, wanted in EDITS:
         if old not in DOMAIN + PROBLEM:
             raise ValueError(f'{name}: the text {old!r} stands in neither file')
         yield name, DOMAIN.replace(old, new, 1), PROBLEM.replace(old, new, 1), [], wanted + (PAGE if ': not taken: ' in wanted else '')
+
+
+def same():
+    """Name, and the two pairs of files that say the same."""
+    for name, old, new in SAME:
+        if old not in DOMAIN + PROBLEM:
+            raise ValueError(f'{name}: the text {old!r} stands in neither file')
+        yield name, (DOMAIN, PROBLEM), (DOMAIN.replace(old, new, 1), PROBLEM.replace(old, new, 1))
 
 
 def many(form, count):
@@ -129,7 +159,7 @@ def many(form, count):
 def row(name, domain, problem, wanted, options=()):
     """A row of a pair of files that pass a limit."""
     domain, problem = '(define (domain d)\n' + domain + ')\n', '(define (problem one) (:domain d)\n' + problem + ')\n'
-    yield name, domain, problem, options, wanted + (LIMITS if re.match(r'\w+:\d', wanted) and ': limit ' in wanted else '')
+    yield name, domain, problem, options, wanted + (LIMITS if re.match(r'\w+:\d', wanted) and ': limit ' in wanted and PAGE not in wanted else '')
 
 
 def limits():
@@ -170,6 +200,8 @@ def limits_of_facts():
                    f'(:objects {many("o{}", 24)})' + goal,
                    'p:3:1: limit 11, different facts, with those of types, complements and unequal objects: 576, and at most 512, '
                    'and from version 2 on 1024', ['--script', '1'])
+    yield from row('limit 11 by very many pairs', '(:predicates (p))\n(:action a :parameters (?x ?y))', f'(:objects {many("o{}", 1001)})' + goal,
+                   f'd:3:10: limit 11, different facts: 1002001 pairs of objects, and at most 1024{PAGE}', ['--distinct'])
     yield from row('limit 16 of version 3', '(:predicates (p))', goal, 'from-pddl: limit 16, nodes: 1000001, and 1 to 1000000 may be given',
                    ['--nodes', '1000001'])
     yield from row('limit 16 of weights', '(:predicates (p))', goal, 'from-pddl: limit 16, weight: 1001, and 0 to 1000 may be given',

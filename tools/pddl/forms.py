@@ -30,12 +30,6 @@ HEADS = {'or': ('a disjunction', 'write an action, or a problem, for each part')
 EFFECTS = {'forall': ('an effect for all', 'write an effect of each object, or an action for each'),
            '=': ('equality in an effect', 'it has its place in conditions')}
 ALWAYS = {'and', 'not', 'or', 'imply', 'forall', 'exists', 'when', '='}
-# What a file declares is no cause to refuse it: what it uses is.
-REQUIREMENTS = {':strips', ':typing', ':negative-preconditions', ':disjunctive-preconditions', ':equality', ':adl', ':action-costs',
-                ':existential-preconditions', ':universal-preconditions', ':quantified-preconditions', ':conditional-effects',
-                ':fluents', ':numeric-fluents', ':object-fluents', ':durative-actions', ':duration-inequalities', ':domain-axioms',
-                ':continuous-effects', ':derived-predicates', ':timed-initial-literals', ':preferences', ':constraints',
-                ':time', ':goal-utilities'}
 
 
 class Refused(Exception):
@@ -167,7 +161,8 @@ def typed_list(items, what, prefix=''):
             continue
         if isinstance(item, Form) or not item.text.startswith(prefix):
             raise Refused(item.place, f'{what} is wanted here')
-        name_of(Word(item.text[len(prefix):], item.place), what)
+        if not NAME.match(item.text[len(prefix):]):
+            raise Refused(item.place, f'{what} is wanted here, not {item.text}')
         waiting.append(item)
         position += 1
     return pairs + [(word, None) for word in waiting]
@@ -199,7 +194,8 @@ def sections(whole, kind, known):
         else:
             twice = head in known and head != ':action'
             raise Refused(section.place, f'a second section ({head}' if twice else f'({head or ".."} is no section of a {kind}')
+    # what a file requires is no cause to refuse it: what it uses is
     for requirement in found[':requirements'].items[1:] if ':requirements' in found else []:
-        if isinstance(requirement, Form) or requirement.text not in REQUIREMENTS:
-            raise Refused(requirement.place, f'unknown requirement {getattr(requirement, "text", "(..)")}: leave it out')
+        if not getattr(requirement, 'text', '').startswith(':'):
+            raise Refused(requirement.place, f'a requirement is a word such as :strips, not {getattr(requirement, "text", "(..)")}')
     return found

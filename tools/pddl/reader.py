@@ -1,4 +1,5 @@
 """What a domain and a problem declare: types, predicates, objects, actions, facts and the goal, checked as they are read."""
+import functools
 from dataclasses import dataclass, field
 
 from .forms import (ALWAYS, AMOUNTS, COSTS, EFFECTS, HEADS, Form, Refused, Word, head_of, name_of, not_taken, sections,
@@ -41,14 +42,21 @@ class Types:
         self.parents = {}
         pairs = typed_list(section.items[1:], 'a type') if section else []
         for word, above in pairs:
-            if word.text in self.parents or word.text == 'object' and above:
-                raise Refused(word.place, f'the type {word.text} is declared twice')
-            if word.text != 'object':
-                self.parents[word.text] = tuple(one.text for one in above or ()) or OBJECT
+            self.declare(word, tuple(one.text for one in above or ()) or OBJECT)
         for _, above in pairs:
             self.named(above)
         for word, _ in pairs:
             self.refuse_circle(word)
+
+    def declare(self, word, above):
+        """Puts a type below others. To say again that it is below `object` says nothing."""
+        known = self.parents.get(word.text, OBJECT)
+        if word.text == 'object' and above != OBJECT or known not in (OBJECT, above) and above != OBJECT:
+            wrong = 'object is above each other type' if word.text == 'object' else (
+                f'the type {word.text} is declared twice, below {shown(known)} and below {shown(above)}')
+            raise Refused(word.place, wrong)
+        if word.text != 'object':
+            self.parents[word.text] = above if known == OBJECT else known
 
     def named(self, words):
         """The type that Words name."""
@@ -68,10 +76,18 @@ class Types:
                 seen.add(above)
                 waiting += self.parents[above]
 
+    @functools.lru_cache(None)
+    def below(self, upper):
+        """The names of all types that are the type, a part of it, or below it."""
+        found, more = set(), set(upper)
+        while more:
+            found |= more
+            more = {name for name, above in self.parents.items() if name not in found and found.issuperset(above)}
+        return found
+
     def fits(self, lower, upper):
         """Is the one type the other, or below it?"""
-        return 'object' in upper or all(
-            name in upper or name != 'object' and self.fits(self.parents[name], upper) for name in lower)
+        return 'object' in upper or self.below(upper).issuperset(lower)
 
 
 class Reader:
@@ -247,6 +263,8 @@ class Reader:
             head = head_of(form)
             if head == '=' and len(form.items) == 3:
                 self.leave_out(form.place, '(= ..)')
+            elif head == 'at' and head_of(form.items[-1]):
+                raise not_taken(form.place, *HEADS['at'], 'at')
             elif head == 'not' and len(form.items) == 2:
                 absent.append(self.read_atom(form.items[1], {}))
             else:

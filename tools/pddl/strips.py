@@ -4,9 +4,10 @@ A predicate is known by a key: its name; a type; or a pair of one of the words b
 in a script is decided in script.py.
 """
 import itertools
+import math
 from dataclasses import dataclass
 
-from .forms import Refused
+from .forms import PAGE, Refused
 from .reader import OBJECT, Atom
 
 # no name of PDDL begins so
@@ -22,6 +23,13 @@ class Operator:
     pre: list
     deletes: list
     adds: list
+
+
+def refuse_many(choices, place, what):
+    """Refuses a condition for which so many facts are needed that to write them down would take long."""
+    product = math.prod(len(choice) for choice in choices)
+    if product > GREATEST_PRODUCT:
+        raise Refused(place, f'limit 11, different facts: {product} {what}, and at most 1024 ({PAGE})')
 
 
 class Scope:
@@ -91,6 +99,7 @@ class Strips:
         if positive and one == other or not positive and not scope.may_be_equal(one, other):
             return []
         key = EQUAL if positive else UNEQUAL
+        refuse_many([scope.of(one), scope.of(other)], atom.place, 'pairs of objects')
         products = itertools.product(scope.of(one), scope.of(other)) if one != other else ()
         self.pairs[key].update({pair: None for pair in products if (pair[0] == pair[1]) == positive})
         return [Atom(key, (one, other), atom.place)]
@@ -183,11 +192,7 @@ class Strips:
                 continue
             names = list(dict.fromkeys(atom.arguments))
             choices = [scope.of(name) for name in names]
-            product = 1
-            for choice in choices:
-                product *= len(choice)
-            if product > GREATEST_PRODUCT:
-                raise Refused(atom.place, f'limit 11, different facts: {product} atoms may be false here, and at most 512')
+            refuse_many(choices, atom.place, 'atoms that may be false')
             for chosen in itertools.product(*choices):
                 values = dict(zip(names, chosen))
                 arguments = tuple(values[name] for name in atom.arguments)
