@@ -15,6 +15,8 @@ STARTS = [('px_session/src/laws.rt', 'replies_exist'), ('px_session/src/laws.rt'
           ('px_ends/src/laws.rt', 'ends_are_one'), ('px_run/src/top.rt', 'planex_main')]
 # what a certificate is, and when it is right
 CERTIFICATES = [('px_cert/src/reading.rt', 'read_cert'), ('px_cert/src/cert.rt', 'verify')]
+# what `planex check` writes, by the definitions that say so
+CHECKED = [('px_run/specs/Outcomes.antt', 'CheckRight'), ('px_run/specs/Laws.antt', 'CertifiesWhereDone')]
 # what a plan is worth, by the definition that says so
 WORTH = CRATES / 'px_terms' / 'specs' / 'Plans.antt', 'Carries'
 IMPORTS = re.compile(r'^(?:ghost |pub )?use Rattle\.(px_\w+\.specs(?:\.\w+)+)(?:\.\{([^}]*)\})?(?: as (\w+))?', re.M)
@@ -116,6 +118,16 @@ def of_certificates():
     return followed([(CRATES / path, None, contract(path, function)) for path, function in CERTIFICATES])
 
 
+def of_checked():
+    """The same from what `planex check` writes, beside what certificates are."""
+    there = {file for file, _ in of_certificates()}
+    starts = [(CRATES / path, name, blocks(read(CRATES / path))[name]) for path, name in CHECKED]
+    found = {file: names for file, names in followed(starts) if file not in there}
+    for file, name, _ in starts:
+        found.setdefault(file, []).append(name)
+    return sorted(found.items())
+
+
 def of_worth():
     """The same from what a plan is worth."""
     file, name = WORTH
@@ -170,6 +182,11 @@ def length(file):
 def defining(file):
     """How many lines a file has beside imports and empty ones."""
     return sum(bool(line) and not line.startswith(('use ', 'pub use ')) for line in read(file).split('\n'))
+
+
+def defining_these(file, names):
+    """How many lines these definitions of a file have, but for comments."""
+    return sum(blocks(read(file))[name].count('\n') for name in set(names))
 
 
 def table(files):

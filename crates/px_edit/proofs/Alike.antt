@@ -18,11 +18,11 @@ use Rattle.px_terms.specs.SortLaws.{object_at}
 use Rattle.px_terms.specs.Substitution.{substitute_atom, substitute_instance}
 use Rattle.px_terms.specs.Validity.{IsAtomOf, IsTermOf, IsValid}
 use Rattle.px_proof.specs.Derivation.{Derivation}
-use Rattle.px_proof.specs.PlaceLaws.{Contains-mapped, slice_get-map, slice_get-read, slice_get-within}
+use Rattle.px_proof.specs.PlaceLaws.{slice_get-map, slice_get-read, slice_get-within}
 use Rattle.px_proof.specs.Substitution.{derivation_under}
 use Rattle.px_table.specs.declared.mark.Mark.{Mark}
 use Rattle.px_table.specs.declared.table.Table.{Table}
-use Rattle.px_table.specs.KernelLaws.{Contains-from_map, from_kernel, kernel-has}
+use Rattle.px_table.specs.KernelLaws.{Contains-from_map, from_kernel}
 use Rattle.px_table.specs.Kernels.{IsInstantiation, IsProper, atom_under, instance_under, kernel_of, kernel_under, mark_under, steps_under}
 use Rattle.px_table.specs.Marks.{IsKept, marks_from, step_at}
 use Rattle.px_table.specs.OnceLaws.{Contains-from_each_once}
@@ -33,7 +33,7 @@ use Rattle.px_table.specs.UnderLaws.{from_map, step_at-map}
 use Rattle.px_table.specs.WellSorted.{ParametersFit}
 use Rattle.px_table.specs.WellSortedLaws.{places-fit}
 use Rattle.px_edit.specs.EditCauses.{IsEditable}
-use Rattle.px_edit.specs.EditClaims.{AreObjectsLeft, EachMarkIsKept, IsGoalMark, IsOldMark, IsSpoilt, IsUsedAlike, names_left}
+use Rattle.px_edit.specs.EditClaims.{AreObjectsLeft, EachMarkIsKept, IsAskedAtFirst, IsGoalMark, IsOldMark, IsSpoilt, IsUsedAlike, names_left}
 use Rattle.px_edit.specs.Editing.{IsEdited, kept_rows, kept_steps, left_parameters, names_by, new_number, no_step, parameters_in, terms_of_parts, wanted_atom, wanted_atoms}
 use Rattle.px_edit.proofs.Counting.{number-at, number-rises, place-before}
 use Rattle.px_edit.proofs.EditSteps.{taken-has}
@@ -67,7 +67,7 @@ before-by kept a b less = elim (less-or-not a b) [
   | inr after ↦ absurd (omega (arith, less, number-rises kept b a after))
 ]
 
-below-by : (v params : ℕ) → nat_lt v params ≡ true → v < params
+pub below-by : (v params : ℕ) → nat_lt v params ≡ true → v < params
 below-by v params is = grind (arith, nat_tests, is)
 
 -- what holds of the objects that a function gives to the terms holds of the objects
@@ -353,23 +353,25 @@ module _ (problem : Problem) (valid : IsValid problem) (table : Table) (is : IsT
     -- ---- what the first kernel asks for
 
     asked-of : (mark : Mark) → mark.column < 1 → IsOldMark problem table wanted kept mark
-        → Contains (kernel_under table sigma 1) (atom_under left mark.atom)
-    asked-of mark first of =
-        let initial : of.old.column ≡ 0 = elim of.column [
-          | inl none ↦ none
-          | inr some ↦ absurd (omega (arith, first, of.column_is, (number-of of.old.column some).2))
-        ] in
-        subst (Contains (kernel_under table sigma 1)) (sym (ap (atom_under left) of.atom_is ∙ old-under of.old of.has of.row))
-        (Contains-mapped (atom_under sigma) (kernel_of table 1) of.old.atom
-        (kernel-has table 1 of.old of.has (within of.old.row of.row).0 (omega (arith, initial))))
+        → IsAskedAtFirst table prefix sigma (atom_under left mark.atom)
+    asked-of mark first of = record {
+      mark = of.old;
+      has = of.has;
+      row = (within of.old.row of.row).1;
+      column = elim of.column [
+        | inl none ↦ none
+        | inr some ↦ absurd (omega (arith, first, of.column_is, (number-of of.old.column some).2))
+      ];
+      atom_is = sym (ap (atom_under left) of.atom_is ∙ old-under of.old of.has of.row);
+    }
 
-    pub left-asks : (atom : Atom) → Contains (kernel_under edited left 1) atom → Contains (kernel_under table sigma 1) atom
+    pub left-asks : (atom : Atom) → Contains (kernel_under edited left 1) atom → IsAskedAtFirst table prefix sigma atom
     left-asks atom has =
         let own = Contains-from_map (atom_under left) (kernel_of edited 1) atom has in
         let mark = from_kernel edited 1 own.0 own.1 in
         let here : atom_under left mark.0.atom ≡ atom = ap (atom_under left) mark.2 ∙ own.2 in
         elim (each-mark mark.0 mark.1) [
-          | inl of ↦ subst (Contains (kernel_under table sigma 1)) here (asked-of mark.0 mark.4 of)
+          | inl of ↦ subst (IsAskedAtFirst table prefix sigma) here (asked-of mark.0 mark.4 of)
           | inr of ↦ absurd (omega (arith, mark.4, of.column_is, (number-of of.pair.0 of.column).2))
         ]
 

@@ -12,6 +12,7 @@ pub mod Names
 pub mod NameSteps
 pub mod Needed
 pub mod Numbered
+pub mod ObjectsLeft
 pub mod OfParts
 pub mod PartSteps
 pub mod PartsThere

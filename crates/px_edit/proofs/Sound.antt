@@ -37,6 +37,7 @@ use Rattle.px_edit.proofs.KeptParts.{kept-mark, kept-parts, wanted-mark}
 use Rattle.px_edit.proofs.Lists.{place_of}
 use Rattle.px_edit.proofs.Needed.{keeps_wanted, kept_is_one, nothing_missed}
 use Rattle.px_edit.proofs.Numbered.{named-terms, parts-numbered}
+use Rattle.px_edit.proofs.ObjectsLeft.{objects-left}
 use Rattle.px_edit.proofs.PartsThere.{parts-there}
 use Rattle.px_edit.proofs.There.{edited-there}
 use Rattle.px_edit.proofs.TableParts.{mark_named, parts-named, table-of_parts, to_marks-named}
@@ -270,6 +271,7 @@ editing_sound = record {
   marks = λ problem table prefix wanted edited valid is may done. marks-kept problem valid table is prefix wanted may edited done;
   numbered = λ problem table prefix wanted edited valid is may done. edited-numbered problem table prefix wanted edited is may done valid;
   sorts = λ problem table prefix wanted edited valid is may done. edited-sorts problem table prefix wanted edited is may done valid;
+  objects = objects-left;
   alike = λ problem table prefix wanted edited sigma left valid is may done given objects.
       used-alike problem valid table is prefix wanted may edited done sigma left given objects;
   some = λ problem table prefix wanted valid is may. edited-there problem valid table is prefix wanted may;

@@ -97,17 +97,25 @@ pub record IsSpoilt (problem : Problem) (table : Table) (wanted : List (ℕ × �
   pub at : step_at (steps_under table sigma) k ≡ Some inst
   pub deleted : IsDeleted (schema_of problem inst) inst (atom_under sigma (wanted_atom problem table pair))
 
+-- under the objects a row of the first steps rests on the atom in the initial model
+pub record IsAskedAtFirst (table : Table) (prefix : ℕ) (sigma : List ℕ) (atom : Atom) : Type 0 where
+  pub mark : Mark
+  pub has : Contains table.marks mark
+  pub row : mark.row ≤ prefix
+  pub column : mark.column ≡ 0
+  pub atom_is : atom_under sigma mark.atom ≡ atom
+
 -- The edited table under the objects that are left of sigma. They are objects for its parameters. They fit where the first steps fit under
 -- sigma. They are proper where sigma is proper for the first steps and no kept step deletes a wanted add. The first kernel asks for
--- nothing that the table's first kernel doesn't ask for. So the edited table may be used wherever the first steps may be, but
--- where a kept step deletes a wanted add: then the objects are proper at no kernel up to that step.
+-- nothing that the rows of the first steps don't rest on in the initial model. So the edited table may be used wherever the first steps may
+-- be, but where a kept step deletes a wanted add: then the objects are proper at no kernel up to that step.
 pub record IsUsedAlike (problem : Problem) (table : Table) (prefix : ℕ) (wanted : List (ℕ × ℕ)) (kept : List ℕ) (edited : Table)
     (sigma left : List ℕ) : Type 0 where
   pub instantiation : IsInstantiation problem edited left
   pub fits : All (IsWellSorted problem) (take prefix (steps_under table sigma)) → ParametersFit problem.object_sorts edited left
   pub proper : IsProperPrefix problem table prefix sigma → ((k : ℕ) → ¬ IsSpoilt problem table wanted kept sigma k)
       → IsProper problem edited left 1
-  pub asks_no_more : (atom : Atom) → Contains (kernel_under edited left 1) atom → Contains (kernel_under table sigma 1) atom
+  pub asks_no_more : (atom : Atom) → Contains (kernel_under edited left 1) atom → IsAskedAtFirst table prefix sigma atom
   pub spoilt : (k i : ℕ) → IsSpoilt problem table wanted kept sigma k → i ≤ new_number kept k → ¬ IsProper problem edited left i
 
 -- Of what may be edited there is one edited table. It is a table whose steps all serve, and which has all that they rest on. Each of its
@@ -131,6 +139,9 @@ pub record EditingIsSound : Type 0 where
   pub sorts : (problem : Problem) (table : Table) (prefix : ℕ) (wanted : List (ℕ × ℕ)) (edited : Table) → IsValid problem
       → IsTable problem table → IsEditable problem table prefix wanted → IsEdited problem table wanted edited
       → HasSortsOfPlaces problem edited
+  -- there are objects that are left of those for the table's parameters, and where these may be used those may be
+  pub objects : (problem : Problem) (table : Table) (wanted : List (ℕ × ℕ)) (kept sigma : List ℕ) → IsInstantiation problem table sigma
+      → (left : List ℕ) × AreObjectsLeft problem table wanted kept sigma left
   pub alike : (problem : Problem) (table : Table) (prefix : ℕ) (wanted : List (ℕ × ℕ)) (edited : Table) (sigma left : List ℕ)
       → IsValid problem → IsTable problem table → IsEditable problem table prefix wanted → (is : IsEdited problem table wanted edited)
       → IsInstantiation problem table sigma → AreObjectsLeft problem table wanted is.kept sigma left
