@@ -91,7 +91,7 @@ impl RoomWorld {
         }
     }
 
-    /// Returns a world in the same state, in memory of the same allocator. So far only tests call for it.
+    /// Returns a world in the same state, in memory of the same allocator.
     ///
     /// # Errors
     /// `NoMemory` where there is no memory for the copy.

@@ -4,7 +4,7 @@ ghost use Rattle.std.specs.Prelude.{◌≡◌, ◌↔◌, ◌≤◌, length, IsO
 use crate::world::World;
 use px_terms::NoMemory;
 
-/// A world to which room can be added between two runs, and whose true atoms can be counted. So far only tests call for it.
+/// A world to which room can be added between two runs, and whose true atoms can be counted.
 pub trait Regrow: World {
     /// Makes room for at least `spare` further atoms. What is true stays.
     ///

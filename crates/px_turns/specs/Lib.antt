@@ -1,0 +1,4 @@
+-- The files of definitions and laws.
+pub mod Told
+pub mod Turning
+pub mod Vain
