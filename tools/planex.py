@@ -600,6 +600,15 @@ class Pursuit(Reply):
         if self.searches != begun:
             raise Unread(self.line, f'{begun} searches are begun here')
 
+    def runs(self):
+        """The turns of each plan that was found, with the number of the first.
+
+        >>> [(first, len(turns)) for first, turns in read('pursue P 2 searches\\n  turn 1 nokernel\\n  turn 2 kernel 1 goal\\n')[0].runs()]
+        [(1, 1), (2, 1)]
+        """
+        ends = [number for number, turn in enumerate(self.turns, 1) if turn.end in ('goal', 'nokernel')]
+        return [(before + 1, self.turns[before:end]) for before, end in zip([0, *ends], ends)]
+
     @property
     def reached(self):
         """Did the pursuit end at its goal?"""

@@ -136,7 +136,7 @@ def duplicate_objects(names, known):
 def duplicate(line, known, limit):
     names, word = line.names, line.word
     kinds = {'object': known.objects, 'predicate': known.predicates,
-             **{giver: known.results for giver in ('plan', 'learn', 'edit', 'table')},
+             **{giver: known.results for giver in ('plan', 'learn', 'edit', 'table', 'pursue')},
              **{thing: known.objects for thing in ('room', 'door', 'box')}}
     if word == 'operator':
         if names[0] in known.operators:

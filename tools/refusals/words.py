@@ -57,7 +57,7 @@ BUILDING_EDITS = 'disturb NUMBER before EDIT .., or between, each edit robot ROO
 # The words that open a block, with the place of the lines inside.
 BLOCKS = {'operator': OPERATOR, 'building': BUILDING, 'table': TABLE}
 # The words whose lines have atoms, with the number of tokens before these.
-ATOMS = {'pre': 1, 'delete': 1, 'add': 1, 'fact': 1, 'axiom': 1, 'plan': 2, 'disturb': 3, 'goal': 1}
+ATOMS = {'pre': 1, 'delete': 1, 'add': 1, 'fact': 1, 'axiom': 1, 'plan': 2, 'disturb': 3, 'goal': 1, 'pursue': 2}
 # The predicates that a building gives to its script, with their numbers of arguments.
 BUILDING_PREDICATES = {'INROOM': 2, 'NEXTTO': 2, 'CONNECTS': 3, 'OPENED': 1, 'CLOSED': 1, 'ROOM': 1, 'DOOR': 1, 'BOX': 1}
 
@@ -73,7 +73,6 @@ SENTENCES = {
     8: 'a limit is passed',
     9: 'this line may not stand here',
     10: 'the block that opens here is closed by no end: write a line end after its last line',
-    11: 'lines of this word can\'t be answered yet: leave it out',
     12: 'the lines of this block make no table: a goal has to stand in it, and one line proof for each step and one for the goal, '
         'each with proofs of what its row needs',
     13: 'by the lines before it this is no line of a certificate: docs/CERTIFICATES.md shows how each is written',

@@ -86,7 +86,8 @@ filled-items ones last = list_all-append is_filled (map said_view ones) (rest_vi
 pub atoms-items : (ones : List Said) (last : Rest) → flat_map atoms_in (said_items ones last) ≡ flat_map atoms_in (rest_view last)
 atoms-items ones last = none-in atoms_in no-atoms ones (rest_view last)
 
-pub arguments-items : (ones : List Said) (last : Rest) → flat_map arguments_in (said_items ones last) ≡ flat_map arguments_in (rest_view last)
+pub arguments-items : (ones : List Said) (last : Rest)
+    → flat_map arguments_in (said_items ones last) ≡ flat_map arguments_in (rest_view last)
 arguments-items ones last = none-in arguments_in no-arguments ones (rest_view last)
 
 no-parameter : (x : Said) → has_parameter (said_view x) ≡ false

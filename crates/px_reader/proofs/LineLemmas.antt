@@ -2,13 +2,13 @@
 use Rattle.px_reader.proofs.Common.{AllByRecursion, IsNameLexeme, all_scalars, spelling, subst, ◌≡◌, ◌≢◌, ℕ, ◌+◌, ◌-◌, ◌<◌, Bool, true, List, [], ◌∷◌, ◌++◌, take, drop, length, get_or, refl, sym, ap, ◌∙◌, inl, inr, arith, Option, None, Some, Result, Ok, Err, IfOk, slice_index, ◌==◌, bytes_eq, eqb-true, take-append-drop, take_more, take_all, bytes_eq-Decides, Lexeme, Lexes, mark, without_mark, without_return, Statement, Line, line_of, Forms, begins_with_word, is_formed, Declared, coded, Stage, Fails, parse-sound, parse-complete, by_test, parse, HasFault, LineEnds, HasCharAt, after_line, MatchOption}
 use Rattle.std.specs.Prelude.{encode_utf8}
 use Rattle.px_base.specs.declared.no_memory.NoMemory.{NoMemory}
-use Rattle.px_reader.specs.declared.fault.LineFault.{LineFault}
+use Rattle.px_causes.specs.declared.line_fault.LineFault.{LineFault}
 use Rattle.std.specs.Option.{option_and_then}
 use Rattle.px_script.proofs.Forms.{there}
 use Rattle.px_script.proofs.ReadRows.{IsLineOf, formed-sound}
 use Rattle.px_script.proofs.Rows.{formed_line, statement_of}
 use Rattle.px_script.specs.Declarations.{has_building}
-use Rattle.px_reader.proofs.Fresh.{lexemes-named}
+use Rattle.px_effects.proofs.Fresh.{lexemes-named}
 use lib.Utf8.{encode}
 
 mark-encoded : encode_utf8 0xFEFF ≡ mark

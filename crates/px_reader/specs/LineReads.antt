@@ -9,19 +9,14 @@ use Rattle.std.specs.Str.{chars}
 use Rattle.px_script.specs.Faults.{Refusal, fault_at}
 use Rattle.px_script.specs.Lines.{without_return}
 use Rattle.px_script.specs.Scripts.{Passes, PassAll, Fails, FailsIn, FirstFault}
-use Rattle.px_reader.specs.declared.fault.LineFault.{LineFault}
+use Rattle.px_causes.specs.declared.line_fault.LineFault.{LineFault}
 use Rattle.px_reader.specs.declared.refused.Refused.{Refused}
 use Rattle.px_reader.specs.declared.refused.ScriptErr.{ScriptErr}
 use Rattle.px_reader.specs.declared.refused.ScriptErr.TheVariants as script
 use Rattle.px_script.specs.ReadScripts.{content}
 use Rattle.px_script.specs.declared.script.Script.{Script}
-use Rattle.px_reader.specs.FaultViews.{refusal_of}
-use Rattle.px_lines.specs.ItemViews.{text_of}
+use Rattle.px_causes.specs.FaultViews.{refusal_of}
 use denote.Ref.{Bor}
-
--- the words of a stage
-abbrev pub stage_view : List (Bor (List ℕ)) → Stage
-stage_view words = map text_of words
 
 -- this is the first fault of a statement, if it has one
 abbrev pub HasFault : Stage → Declared → Statement → Option LineFault → Type 0

@@ -22,37 +22,14 @@
 //!
 //! # How it is made
 //!
-//! A line is read by `px_lines`. `Reader` has what the lines so far have declared, with the fields of `Declared` of `px_script`
-//! (`declared_of` in `specs/Readers`). The causes to refuse a line are tests of the reader, in the order of their codes (`order`,
-//! `naming`, `duplicates`, `limits`, `closing`): most go over the line's items, whatever its word. What its word alone says, its own
-//! limits, what may stand once, and what it adds, is told by a `Statement` (`statements`), which borrows the line's lists. A line without a
-//! fault is declared (`declaring`, `blocks`, `commands`, over `terms`). Only facts are counted after they are added. The lines of a table's
-//! block add to its `OpenTable` (`open_tables`); the proofs of a row are made of their parts from the last to the first (`rows`), after
-//! their heights (`tables`), so none is made that is higher than 56. Of `specs/`, public clauses
-//! cite only `LineReads`.
+//! A line is read by `px_lines` and named by `px_statements`. `SoFar` of `px_so_far` has what the lines so far have declared. The causes to
+//! refuse a line are tests in the order of their codes (`px_causes`); a line without a fault is declared (`px_effects`). Only facts are
+//! counted after they are added. Of `specs/`, public clauses cite only `LineReads`.
 #![tactic(auto)]
 
-mod blocks;
-mod closing;
-mod commands;
-mod declaring;
-mod duplicates;
-mod fault;
-mod limits;
-mod line_variables;
-mod naming;
-mod open_tables;
-mod order;
-mod problem;
-mod reader;
+mod lines;
 mod reading;
 mod refused;
-mod rows;
-mod sorts;
-mod statement;
-mod statements;
-mod tables;
-mod terms;
 
 pub use reading::read_script;
 pub use refused::{Refused, ScriptErr};

@@ -6,16 +6,16 @@ ghost use Rattle.px_script.specs.Ranges.{IsOfStage};
 ghost use Rattle.px_script.specs.Scripts.{PassAll, IsScript, FirstFault};
 ghost use Rattle.px_reader.specs.Common.{slice_split, AreScript, ScriptValue, nothing_declared, Refusal, stage_now, characters_of, stage_view, LinesFail, HasFirstFault, IsRead, IsLineRefused, content, told, declared_of};
 
-use crate::fault::LineFault;
-use crate::reader::Reader;
+use crate::lines::{finish, read_line};
 use crate::refused::{Refused, ScriptErr};
+use px_causes::LineFault;
 use px_script::Script;
+use px_so_far::SoFar;
 use std::alloc::{AllocError, Global};
 use std::str;
 
-/// The words that are built: all of version 1; of version 2 sorts, tables, what saves, certifies and edits them, and two executors in one
-/// world; and the weight of version 3.
-const STAGE: [&str; 35] = [
+/// The words that are built: all that are described.
+const STAGE: [&str; 36] = [
     "script",
     "object",
     "predicate",
@@ -50,6 +50,7 @@ const STAGE: [&str; 35] = [
     "certify",
     "edit",
     "duo",
+    "pursue",
     "weight",
 ];
 
@@ -87,15 +88,15 @@ fn refused(line: u32, fault: LineFault) -> ScriptErr
     ScriptErr::Refused(Refused { line, code, limit })
 }
 
-fn read_each(stage: &[&str], reader: &mut Reader, lines: &[&str]) -> Result<(), ScriptErr>
-    requires start { declared_of reader.old ≡ nothing_declared }
+fn read_each(stage: &[&str], so_far: &mut SoFar, lines: &[&str]) -> Result<(), ScriptErr>
+    requires start { declared_of so_far.old ≡ nothing_declared }
     requires few { length lines.now ≤ u32_max }
-    ensures passes { OnOk result (PassAll (stage_view stage.now) 1 nothing_declared (characters_of lines.now) (declared_of reader.new)) }
+    ensures passes { OnOk result (PassAll (stage_view stage.now) 1 nothing_declared (characters_of lines.now) (declared_of so_far.new)) }
     ensures fails { IfErr result (LinesFail (stage_view stage.now) (characters_of lines.now)) }
 {
     for (index, line) in lines.iter().enumerate() {
         let number = index as u32 + 1;
-        match reader.read_line(stage, number, without_return(line)) {
+        match read_line(so_far, stage, number, without_return(line)) {
             Ok(None) => {}
             Ok(Some(fault)) => return Err(refused(number, fault)),
             Err(_) => return Err(ScriptErr::NoMemory),
@@ -105,29 +106,29 @@ fn read_each(stage: &[&str], reader: &mut Reader, lines: &[&str]) -> Result<(), 
 }
 
 /// Reads all lines, after which no block may be open.
-fn read_closed(stage: &[&str], reader: &mut Reader, lines: &[&str]) -> Result<(), ScriptErr>
-    requires start { declared_of reader.old ≡ nothing_declared }
+fn read_closed(stage: &[&str], so_far: &mut SoFar, lines: &[&str]) -> Result<(), ScriptErr>
+    requires start { declared_of so_far.old ≡ nothing_declared }
     requires few { length lines.now ≤ u32_max }
-    ensures passes { OnOk result (PassAll (stage_view stage.now) 1 nothing_declared (characters_of lines.now) (declared_of reader.new)) }
-    ensures closed { OnOk result ((declared_of reader.new).block ≡ None) }
+    ensures passes { OnOk result (PassAll (stage_view stage.now) 1 nothing_declared (characters_of lines.now) (declared_of so_far.new)) }
+    ensures closed { OnOk result ((declared_of so_far.new).block ≡ None) }
     ensures fails { IfErr result (LinesFail (stage_view stage.now) (characters_of lines.now)) }
 {
-    read_each(stage, reader, lines)?;
-    match &reader.block {
+    read_each(stage, so_far, lines)?;
+    match &so_far.block {
         Some(block) => Err(refused(block.line, LineFault::MissingEnd)),
         None => Ok(()),
     }
 }
 
 /// Reads all lines, and returns the script that they are.
-fn read_lines(stage: &[&str], reader: &mut Reader, lines: &[&str]) -> Result<Script, ScriptErr>
-    requires start { declared_of reader.old ≡ nothing_declared }
+fn read_lines(stage: &[&str], so_far: &mut SoFar, lines: &[&str]) -> Result<Script, ScriptErr>
+    requires start { declared_of so_far.old ≡ nothing_declared }
     requires few { length lines.now ≤ u32_max }
     ensures script { IfOk result (λ script. AreScript (stage_view stage.now) (characters_of lines.now) (content script)) }
     ensures fails { IfErr result (LinesFail (stage_view stage.now) (characters_of lines.now)) }
 {
-    read_closed(stage, reader, lines)?;
-    match reader.finish() {
+    read_closed(stage, so_far, lines)?;
+    match finish(so_far) {
         Ok(script) => Ok(script),
         Err(_) => Err(ScriptErr::NoMemory),
     }
@@ -141,10 +142,10 @@ fn read_text(alloc: Global, stage: &[&str], text: &str) -> Result<Script, Script
     let Ok(lines) = parts(alloc, without_mark(text)) else {
         return Err(ScriptErr::NoMemory);
     };
-    let Ok(mut reader) = Reader::new(alloc) else {
+    let Ok(mut so_far) = SoFar::new(alloc) else {
         return Err(ScriptErr::NoMemory);
     };
-    read_lines(stage, &mut reader, &lines)
+    read_lines(stage, &mut so_far, &lines)
 }
 
 /// Returns the line of the byte after these.

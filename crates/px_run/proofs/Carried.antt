@@ -22,9 +22,10 @@ use Rattle.px_session.proofs.Certifying.{certificates_are_accepted}
 use Rattle.px_session.proofs.Executing.{own-goals}
 use Rattle.px_session.proofs.Kept.{sessions_are_kept}
 use Rattle.px_session.proofs.KeptRooms.{rooms_are_kept}
+use Rattle.px_session.proofs.ToldPursuits.{told_pursuits}
 use Rattle.px_session.proofs.Undisturbed.{undisturbed_runs}
 use Rattle.px_session.proofs.Writables.{all-ask, certifiable-problem, writable-kept, writable-opened}
-use Rattle.px_run.specs.Laws.{CarriesAfter, CarriesWhereDone, PlanCarries, RunReaches, TranscriptsCarry}
+use Rattle.px_run.specs.Laws.{CarriesAfter, CarriesWhereDone, PlanCarries, PursuitReaches, RunReaches, TranscriptsCarry}
 use Rattle.px_run.specs.Outcomes.{SourceEnds}
 use Rattle.px_run.specs.declared.status.Status.{Status}
 use Rattle.px_run.specs.declared.status.Status.TheVariants as status
@@ -48,6 +49,7 @@ record Carries (problem : Problem) (old : SessionState) (commands : List Command
   left : AreAnswers problem old (take done commands) (take done answers) state
   plan : PlanCarries problem state (get_or commands done command.Facts) (get_or answers done (reply.FactsAre []))
   run : RunReaches state (get_or commands done command.Facts) (get_or answers done (reply.FactsAre []))
+  pursuit : PursuitReaches problem state (get_or commands done command.Facts) (get_or answers done (reply.FactsAre []))
   kernels : All (KernelsCarry problem) (tables_of state)
   certified : ReplyIsAccepted problem state (get_or answers done (reply.FactsAre []))
 
@@ -57,7 +59,15 @@ module _ (problem : Problem) (valid : IsValid problem) (limits : IsCertifiablePr
       → AreAnswers problem old commands answers last → (done : ℕ) → done ≤ length commands → Carries problem old commands answers done
   carried old session writable [] own ask [] last are done below = let none : done ≡ 0 = omega (arith, below) in
       subst (Carries problem old [] []) (sym none)
-      (record { state = old; left = refl; plan = tt; run = tt; kernels = sessions_are_kept.kernels problem old session; certified = tt })
+      (record {
+        state = old;
+        left = refl;
+        plan = tt;
+        run = tt;
+        pursuit = λ new is. tt;
+        kernels = sessions_are_kept.kernels problem old session;
+        certified = tt;
+      })
   carried old session writable [] own ask (a ∷ answers) last are done below = absurd are
   carried old session writable (c ∷ commands) own ask [] last are done below = absurd are
   carried old session writable (c ∷ commands) own ask (a ∷ answers) last are zero below =
@@ -66,6 +76,7 @@ module _ (problem : Problem) (valid : IsValid problem) (limits : IsCertifiablePr
         left = refl;
         plan = plan-carries problem old c a are.0 valid session (All-head (IsOwnGoal problem) c commands own) are.1;
         run = run-reaches problem old c a are.0 valid session are.1;
+        pursuit = λ new is. told_pursuits.worth problem old c a new valid session (All-head (IsOwnGoal problem) c commands own) is;
         kernels = sessions_are_kept.kernels problem old session;
         certified = certificates_are_accepted.replies problem old c a are.0 valid limits session writable are.1;
       }
@@ -79,6 +90,7 @@ module _ (problem : Problem) (valid : IsValid problem) (limits : IsCertifiablePr
         left = (are.0, are.1, rest.left);
         plan = rest.plan;
         run = rest.run;
+        pursuit = rest.pursuit;
         kernels = rest.kernels;
         certified = rest.certified;
       }
@@ -97,6 +109,7 @@ carry bytes text transcript done below =
       left = is.left;
       plan = is.plan;
       run = is.run;
+      pursuit = is.pursuit;
       kernels = is.kernels;
       certified = is.certified;
       rooms = λ things building.

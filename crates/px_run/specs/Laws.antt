@@ -16,7 +16,9 @@ use Rattle.px_script.specs.Content.{ScriptValue}
 use Rattle.px_session.specs.CertifiedReplies.{ReplyIsAccepted}
 use Rattle.px_session.specs.Opened.{tables_of}
 use Rattle.px_session.specs.RoomRuns.{AreAnswersIn, IsInBuilding}
+use Rattle.px_session.specs.Lawful.{Lawful}
 use Rattle.px_session.specs.Sessions.{SessionState, any_table, opening}
+use Rattle.px_session.specs.ToldPursuits.{PursuitIsWorth}
 use Rattle.px_session.specs.Transcripts.{AreAnswers, Transcript}
 use Rattle.px_session.specs.Undisturbed.{ReachesGoal}
 use Rattle.px_run.specs.Outcomes.{Came, IsCheckText, IsVerdict, SourceEnds}
@@ -24,7 +26,8 @@ use Rattle.px_run.specs.Transcripts.{Begun}
 use Rattle.px_run.specs.declared.status.Status.{Status}
 use Rattle.px_run.specs.declared.status.Status.TheVariants as status
 
--- The bytes determine the whole text. The text of the first commands begins it, and so is no longer. They determine what `check` writes, too.
+-- The bytes determine the whole text. The text of the first commands begins it, and so is no longer. They determine what `check` writes,
+-- too.
 pub record TextsAreOne : Type 0 where
   pub whole : (bytes text other : List ℕ) → Transcript bytes text → Transcript bytes other → text ≡ other
   pub front : (bytes begun text : List ℕ) → Begun bytes begun → Transcript bytes text → (rest : List ℕ) × (text ≡ begun ++ rest)
@@ -42,6 +45,12 @@ RunReaches state (Run name bound) (reply.Ran given told) = (table : Table) → a
     → ReachesGoal table state.recorded told
 RunReaches state _ _ = Unit {0}
 
+-- Each state that the reply leaves is worth what is said of a pursuit: it made at most one search more than disturbances are recorded, and
+-- where it ends at the goal, the world's atoms carry no step to the goal that was asked for.
+abbrev pub PursuitReaches : Problem → SessionState → Command → Reply → Type 0
+PursuitReaches problem state command answer = (new : SessionState) → Lawful problem state command answer new
+    → PursuitIsWorth problem state command answer new
+
 -- From the first state of a building the replies leave one state of it after the other, each run by the edits and steps of its turns. The
 -- session is in the last of these states: the world's atoms are its facts.
 pub record AreInBuilding (script : ScriptValue) (things : List Thing) (done : ℕ) (answers : List Reply)
@@ -54,13 +63,16 @@ pub record AreInBuilding (script : ScriptValue) (things : List Thing) (done : �
 -- `done` commands are done. In the state that their replies leave, the next command is answered by a plan only where the world's atoms
 -- carry its steps to the goal; and each proper instance of each kernel of each stored and each learned table carries the steps that are
 -- left to that table's goal. It is answered by a run only if that reaches the goal, once it has sensed a kernel and nothing disturbs it
--- after that. The bytes by which it is answered where a certificate is asked for are one, of the script's problem but for its limits, and
--- what they claim is so. With a building the replies leave a state of it.
+-- after that. It is answered by a pursuit only if that made at most one search more than disturbances are recorded, and where it ended at
+-- the goal, that holds wherever the axioms and the world's atoms do. The bytes by which it is answered where a certificate is asked for are
+-- one, of the script's problem but for its limits, and what they claim is so. With a building the replies leave a state of it.
 pub record CarriesAfter (script : ScriptValue) (answers : List Reply) (done : ℕ) : Type 0 where
   pub state : SessionState
   pub left : AreAnswers script.problem (opening script.facts script.saved) (take done script.commands) (take done answers) state
   pub plan : PlanCarries script.problem state (slice_index_or script.commands done Facts) (slice_index_or answers done (reply.FactsAre []))
   pub run : RunReaches state (slice_index_or script.commands done Facts) (slice_index_or answers done (reply.FactsAre []))
+  pub pursuit : PursuitReaches script.problem state (slice_index_or script.commands done Facts)
+      (slice_index_or answers done (reply.FactsAre []))
   pub kernels : All (KernelsCarry script.problem) (tables_of state)
   pub certified : ReplyIsAccepted script.problem state (slice_index_or answers done (reply.FactsAre []))
   pub rooms : (things : List Thing) → script.building ≡ Some things → AreInBuilding script things done answers state

@@ -10,6 +10,8 @@ pub fn texts_are_one()
 /// Each plan of a transcript carries: in every run from a state in which the world's atoms hold, in whose states the axioms hold and
 /// whose steps leave what the operators describe, each precondition is met where it is reached, and a run of all steps ends in the goal.
 /// So does, to its table's goal, the rest of each stored and each learned table from each proper instance of each of its kernels.
+/// Where a pursuit of a transcript ends at the goal, the goal holds wherever the axioms and the world's atoms do, and it made at most one
+/// search more than disturbances were recorded.
 /// The bytes of each certificate of a transcript are one, and what they claim is so. With a building the world's atoms are the facts of a
 /// state of it, which the replies so far have left.
 pub fn transcripts_carry()

@@ -9,20 +9,20 @@ use std::process::ExitCode;
 /// How the top call ends.
 #[derive(Clone, Copy, Debug, PartialEq, Eq)]
 pub enum Status {
-    /// Every command was answered.
+    /// Every command was answered, or the certificate was.
     Done,
     /// The words aren't taken.
     Usage,
-    /// The bytes are no script.
+    /// The bytes are no script, or no certificate.
     Refused(Refused),
     /// A read failed.
     ReadFault,
     /// A write failed.
     WriteFault,
-    /// There was no memory for the words, the script, a reply or its text, or the demo's script or line. No read failed, and no more
-    /// bytes came than a script may have.
+    /// There was no memory for the words, the script, a reply or its text, the demo's script or line, or the certificate or its answer. No
+    /// read failed, and no more bytes came than a script or a certificate may have.
     NoMemory,
-    /// More bytes came than a script may have.
+    /// More bytes came than a script or a certificate may have.
     TooLong,
 }
 

@@ -36,7 +36,9 @@ const LIMIT: usize = 1_048_576;
 /// highest kernel that fits, and the replies that no plan was found, that a limit was met or that no kernel fits come exactly where their
 /// definitions hold (laws of `px_session`). So the world's atoms carry the steps of each plan that a reply prints to its goal, and each
 /// proper instance of each kernel of each table that is kept carries the steps that are left (`carries`). A run that has sensed a kernel,
-/// and that nothing disturbs after that, ends at the goal, after no more turns than its table has kernels above that one (`carries`, too).
+/// and that nothing disturbs after that, ends at the goal, after no more turns than its table has kernels above that one. A pursuit makes
+/// at most one search more than disturbances are recorded, and where it ends at the goal, that holds wherever the axioms and the world's
+/// atoms do (`carries`, too).
 ///
 /// A certificate is answered `yes` exactly where its table is one for its problem, and then each proper instance of each of its kernels
 /// carries the steps that are left (`certifies`); and `no` where it isn't. Bytes that aren't a certificate are refused with their first bad

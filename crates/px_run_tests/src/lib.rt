@@ -11,6 +11,8 @@ mod executor_tests;
 #[cfg(test)]
 mod failing_tests;
 #[cfg(test)]
+mod pursuit_tests;
+#[cfg(test)]
 mod reading_tests;
 #[cfg(test)]
 mod runs;

@@ -1,6 +1,6 @@
 -- One more command keeps commands in range, and so does another problem with the same objects.
 use Rattle.std.proofs.lemmas.List.FromFn.{map-range_with_len_more}
-use Rattle.px_script.proofs.Common.{flat_map-append, append_assoc, append-nil, length, Bool, Option, ◌≡◌, ℕ, ◌+◌, ◌≤◌, true, false, ◌||◌, ◌==◌, List, [], ◌∷◌, ◌++◌, refl, sym, ap, ◌∙◌, subst, arith, map-id, All, Some, fold, flat_map, list_any, range_with_len, scan, nat_tests, or_right, list_any-append, Problem, Thing, Command, Plan, Learn, Show, Save, Certify, DisturbAtoms, Run, Duo, Edit, CommandsInRange, IsCommandOf, IsAmong, disturbs_after}
+use Rattle.px_script.proofs.Common.{flat_map-append, append_assoc, append-nil, length, Bool, Option, ◌≡◌, ℕ, ◌+◌, ◌≤◌, true, false, ◌||◌, ◌==◌, List, [], ◌∷◌, ◌++◌, refl, sym, ap, ◌∙◌, subst, arith, map-id, All, Some, fold, flat_map, list_any, range_with_len, scan, nat_tests, or_right, list_any-append, Problem, Thing, Command, Plan, Learn, Show, Save, Certify, DisturbAtoms, Run, Duo, Edit, Pursue, CommandsInRange, IsCommandOf, IsAmong, disturbs_after}
 use Rattle.px_script.proofs.Problems.{Grows, atoms-kept}
 
 pub one-more-result : (old : ℕ) → range_with_len 0 old ++ old ∷ [] ≡ range_with_len 0 (old + 1)
@@ -15,13 +15,15 @@ scan-more n (x ∷ xs) c = ap (λ t. disturbs_after n x ∷ t) (scan-more (distu
 pub more-results : (version : ℕ) (problem : Problem) (building : Option (List Thing)) (old new : ℕ) → old ≤ new → (command : Command)
     → IsCommandOf version problem building old command → IsCommandOf version problem building new command
 more-results version problem building old new le (Plan name goal vars) h = (omega (arith, h.0, le), h.1)
+more-results version problem building old new le (Pursue name goal vars) h = (omega (arith, h.0, le), h.1)
 more-results version problem building old new le (Learn name source) h = (omega (arith, h.0, le), omega (arith, h.1, le))
 more-results version problem building old new le (Show name) h = omega (arith, h, le)
 more-results version problem building old new le (Save name) h = omega (arith, h, le)
 more-results version problem building old new le (Certify name) h = omega (arith, h, le)
 more-results version problem building old new le (Run name bindings) h = (omega (arith, h.0, le), h.1, h.2)
 more-results version problem building old new le (Duo first second events) h = (omega (arith, h.0, le), omega (arith, h.1, le), h.2)
-more-results version problem building old new le (Edit name source prefix wanted) h = (omega (arith, h.0, le), omega (arith, h.1, le), h.2, h.3)
+more-results version problem building old new le (Edit name source prefix wanted) h =
+    (omega (arith, h.0, le), omega (arith, h.1, le), h.2, h.3)
 more-results version problem building old new le _ h = h
 
 -- what commands give, with one more of them
@@ -64,9 +66,12 @@ none-given gives (c ∷ commands) none = absurd (omega (arith, none))
 
 -- commands of a script with a building, where another problem has the same objects and predicates
 
-module _ (version : ℕ) (p q : Problem) (things : List Thing) (first : List ℕ) (results : ℕ) (objects : p.objects ≡ q.objects) (more : Grows p q) where
+module _ (version : ℕ) (p q : Problem) (things : List Thing) (first : List ℕ) (results : ℕ) (objects : p.objects ≡ q.objects)
+    (more : Grows p q) where
   command-moved : (c : Command) → IsCommandOf version p (Some things) results c → IsCommandOf version q (Some things) results c
   command-moved (Plan name goal vars) h =
+      (h.0, assumption (atoms-kept p q more vars goal h.1.atoms, λ (none : q.objects ≡ 0). h.1.no_objects (objects ∙ none)))
+  command-moved (Pursue name goal vars) h =
       (h.0, assumption (atoms-kept p q more vars goal h.1.atoms, λ (none : q.objects ≡ 0). h.1.no_objects (objects ∙ none)))
   command-moved (DisturbAtoms turn between edits) h = let no = h.1 in cc
   command-moved (Run name bindings) h = (h.0, (λ k d below. let is = h.1 k d below in (is.0, is.1, omega (arith, is.2, objects))), h.2)

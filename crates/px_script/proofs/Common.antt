@@ -34,15 +34,15 @@ pub use Rattle.px_script.specs.Lines.{lines_of}
 pub use Rattle.px_script.specs.Items.{SignedAtom, is_empty, Named, Sign, WrittenRoomEdit, Binding, bare, robot_to, box_to, door_to, is_parameter_number, wanted_by_edit, an_object, Argument, named, open_variable, anything, is_variable, WrittenAtom, spell, spell_argument, spell_sign, spell_atom, spell_room_edit, spell_binding, is_filled, parameter_name, open_word, with_commas, parenthesised, negated, added, removed, spell_pair, Part, a_fact, an_ancestor, an_axiom, spell_part, spell_terms}
 pub use Rattle.px_script.specs.Statements.{Statement, Block, plain, inside, operator_block, building_block, line_of, script, object, predicate, «axiom», operator, pre, delete, add, building, room, door, box, robot, end, fact, height, nodes, shapes, weight, plan, learn, show, disturb_atoms, disturb_rooms, run, facts, sort, param, literals, goals, atom_changes, Line, Place, Manner, patterns, spelling, time_word, duo, save, certify, edit, pursue, table, step, goal, proof, table_terms, table_goals, table_steps, table_rows}
 pub use Rattle.px_script.specs.Limits.{greatest, words_of_all, words_of_two, words_of_three, default_nodes, default_weight, from_three, of_weight, of_height, of_nodes, of_shapes, of_version, Bounds, of_turn, is_word, of_executor, last_number}
-pub use Rattle.px_script.specs.Commands.{Command, Show, Save, Certify, Facts, Plan, Learn, DisturbAtoms, DisturbRooms, Run, Duo, Edit}
+pub use Rattle.px_script.specs.Commands.{Command, Show, Save, Certify, Facts, Plan, Learn, DisturbAtoms, DisturbRooms, Run, Duo, Edit, Pursue}
 pub use Rattle.px_script.specs.Declarations.{Declared, Roles, OpenBlock, BlockKind, OpenOperator, of_operator, of_building, block_here, kind_of_block, number_in, atom_of, nothing_declared, after_line, predicate_names, predicate_arities, operator_names, operator_here, parameters_here, parameters_of, names_here, variable_names_of, literal_of, clause_of, atom_edit_of, edit_by, room_edit_of, binding_of, declared_by, with_variable, term_of, has_building, filled_up, object_sorts_here, with_sort, give_sort, WrittenTable, table_closed, table_in, problem_here, problem_of, building_with, of_table_steps, of_table_rows, table_made, table_variables, letter_numbers, goal_number, goal_variables, proofs_read, table_term, instance_of_step, table_parameters_here, own_problem}
 pub use Rattle.px_script.specs.Content.{ScriptValue, content_of}
 pub use Rattle.px_script.specs.Forms.{is_formed, Forms, begins_with_word, is_signed, is_of_script}
-pub use Rattle.px_script.specs.Stages.{Stage, whole_language, is_built, is_unbuilt, stage_now, words_to_come}
+pub use Rattle.px_script.specs.Stages.{Stage, whole_language, is_built, is_unbuilt, stage_now}
 pub use Rattle.px_script.specs.Causes.{is_robot, may_stand, is_long, repeats, same_block, has_two_domains, stands_twice, is_out_of_order, declares_after_command, is_late, varies_too_early, lacks_robot, has_unknown_name, wanted_by, repeats_name, taken_here, has_wrong_arity, is_unbound, has_long_name, is_numbered, is_known_argument, takes, varies}
 pub use Rattle.px_script.specs.Faults.{fault_at, disturbance_limits, causes_with, first_of, passed, own_limits, has_duplicate, repeats_itself, OnlyTakesAway, Refusal, coded, has_sort, sorts_twice, outside, is_bad_table, heights_of, highest, has_great_number, numbers_of_part}
 pub use Rattle.px_script.specs.Scripts.{PassesLexemes, PassAll, IsScript, Passes, Fails, FailsIn, Spells, FirstFault, ReadsOneWay}
-pub use Rattle.px_script.specs.Ranges.{AreNamesOf, AreNumbered, HasShortLists, IsAmong, IsInRange, IsThingAfter, plan_given, AreRoomEditsOf, CommandsInRange, HasTurn, IsBindingOf, IsCommandOf, IsEditOf, IsWithin, NamesEarlier, disturbs_after, result_given, all_disturbs, NamesInRange, ProblemInRange, FactsInRange, variable_in, first_occurrences, IsBuiltCommand, IsOfStage, table_given, IsSavedTable, goal_place, IsTableBefore, last_goal_variable}
+pub use Rattle.px_script.specs.Ranges.{AreNamesOf, AreNumbered, HasShortLists, IsAmong, IsInRange, IsThingAfter, plan_given, AreRoomEditsOf, CommandsInRange, HasTurn, IsGoalOf, IsBindingOf, IsCommandOf, IsEditOf, IsWithin, NamesEarlier, disturbs_after, result_given, all_disturbs, NamesInRange, ProblemInRange, FactsInRange, variable_in, first_occurrences, IsBuiltCommand, IsOfStage, table_given, IsSavedTable, goal_place, IsTableBefore, last_goal_variable}
 pub use Rattle.px_rooms.specs.Domain.{both_ways, room_schemas}
 pub use Rattle.px_script.specs.WorkedLines.{After, Fit, RefuseWhere, lines, Spell}
 pub use Rattle.px_terms.specs.Clauses.{IsClause, HasClauseLength}

@@ -1,6 +1,6 @@
 -- A line without a fault: what each cause says where it isn't there.
 use Rattle.px_script.specs.Faults as faults
-use Rattle.px_script.proofs.Common.{◌≡◌, ℕ, Bool, true, false, not, ◌&&◌, List, [], ◌∷◌, map, refl, sym, ◌∙◌, inl, inr, Option, None, Some, AllByRecursion, list_any, option_map, not-false, or_parts, both_answers, has_name, Statement, Line, Block, line_of, pursue, words_to_come, Declared, OpenBlock, block_here, declared_by, names_here, kind_of_block, Stage, whole_language, is_unbuilt, is_out_of_order, declares_after_command, may_stand, is_late, has_two_domains, varies_too_early, lacks_robot, has_unknown_name, wanted_by, repeats, repeats_name, taken_here, has_wrong_arity, is_unbound, has_long_name, is_long, is_numbered, causes_with, fault_at, first_of, passed, own_limits, has_duplicate, repeats_itself, OnlyTakesAway, ◌++◌, Refusal, is_bad_table}
+use Rattle.px_script.proofs.Common.{◌≡◌, ℕ, Bool, true, false, not, ◌&&◌, List, [], ◌∷◌, map, refl, sym, ◌∙◌, inl, inr, Option, None, Some, AllByRecursion, list_any, option_map, not-false, or_parts, both_answers, has_name, Statement, Line, Block, line_of, script, Declared, OpenBlock, block_here, declared_by, names_here, kind_of_block, Stage, whole_language, is_unbuilt, is_out_of_order, declares_after_command, may_stand, is_late, has_two_domains, varies_too_early, lacks_robot, has_unknown_name, wanted_by, repeats, repeats_name, taken_here, has_wrong_arity, is_unbound, has_long_name, is_long, is_numbered, causes_with, fault_at, first_of, passed, own_limits, has_duplicate, repeats_itself, OnlyTakesAway, ◌++◌, Refusal, is_bad_table}
 use Rattle.px_script.proofs.Lists.{by_test, none-passes, passes-test}
 
 -- No cause to refuse the line is there but for limits and for what isn't built.
@@ -22,7 +22,6 @@ pub record StandsRight (d : Declared) (l : Line) : Type 0 where
 
 -- No cause is there but that the stage hasn't got the word: what each says, name by name and limit by limit.
 pub record IsFaultless (d : Declared) (s : Statement) : Type 0 where
-  pub has_come : has_name (line_of s).word words_to_come ≡ false
   pub right : IsRight d s
   pub order : StandsRight d (line_of s)
   pub known : AllByRecursion (λ w. has_name w.1 (names_here d w.0) ≡ true) (wanted_by (line_of s))
@@ -67,7 +66,6 @@ no-fault stage d s e = let l = line_of s in let first = none-first (causes_with 
     let none = no-cause stage d s (faults.limits d s) first.0 in let r : IsRight d s = none.1 in
     let k = passes-test (has_long_name d l) _ _ none.2 in let twice = or_parts (repeats_name d l) (repeats_itself d s) r.single in
     let is : IsFaultless d s = record {
-      has_come = come (has_name l.word words_to_come) (has_name l.word stage) none.0;
       right = r;
       order = stands-right d l r.order;
       known = none-passes (λ w. not (has_name w.1 (names_here d w.0))) _ (λ w e. not-false _ e) (wanted_by l) (or_parts _ _ r.known).1;
@@ -77,20 +75,16 @@ no-fault stage d s e = let l = line_of s in let first = none-first (causes_with 
       limits = none-passed (own_limits d s) k.1;
       no_bad_table = (passes-test (is_bad_table d s) _ _ first.1).0;
     } in (none.0, is)
-  where
-    come : (b c : Bool) → not (not b && c) ≡ false → b ≡ false
-    come true c e = cc
-    come false c e = refl
 
--- each line that is built somewhere is built in the whole language
-whole-built : (stage : Stage) (s : Statement) → is_unbuilt stage s ≡ false → is_unbuilt whole_language s ≡ false
-whole-built stage (pursue n xs) built = cc
-whole-built stage _ built = refl
+-- each line is built in the whole language
+whole-built : (s : Statement) → is_unbuilt whole_language s ≡ false
+whole-built (script version) = refl
+whole-built _ = refl
 
 pub only-takes-away : (stage : Stage) (d : Declared) (s : Statement) → OnlyTakesAway stage d s
 only-takes-away stage d s = by_test (is_unbuilt stage s)
     (λ unbuilt. by_test (is_out_of_order d (line_of s)) (λ late. inl (rw late refl)) (λ right. inr (rw (right, unbuilt) refl)))
-    (λ built. inl (rw (built, whole-built stage s built) refl))
+    (λ built. inl (rw (built, whole-built s) refl))
 
 -- a line that has no fault there has none in the whole language
 pub stage-takes-away : (stage : Stage) (d : Declared) (s : Statement) → fault_at stage d s ≡ None → fault_at whole_language d s ≡ None

@@ -319,7 +319,8 @@ binding-sound _ = tt
 terms-after-sound : (lexemes : List Lexeme)
     → IfSome (terms_after lexemes) (λ r. sign 40 ∷ lexemes ≡ spell_terms r.0 ++ r.1)
 terms-after-sound (sign s ∷ rest) = if-there _ _ _ (s == 41) (λ e. rw (eqb-true s 41 e) refl)
-    (λ e. IfSome_then (items_after argument_of (sign s ∷ rest)) (items-sound (sign s ∷ rest)) (λ r read. opened (sign s ∷ rest) r.0 r.1 read))
+    (λ e. IfSome_then (items_after argument_of (sign s ∷ rest)) (items-sound (sign s ∷ rest))
+    (λ r read. opened (sign s ∷ rest) r.0 r.1 read))
 terms-after-sound lexemes = IfSome_then (items_after argument_of lexemes) (items-sound lexemes) (λ r read. opened lexemes r.0 r.1 read)
 
 terms-sound : (lexemes : List Lexeme) → IfSome (terms_at lexemes) (λ r. lexemes ≡ spell_terms r.0 ++ r.1)

@@ -13,7 +13,7 @@ use Rattle.px_script.proofs.Buildings.{rooms-kind, doors-kind, boxes-kind, IsKin
 use Rattle.px_script.proofs.Commands.{commands-moved}
 use Rattle.px_script.proofs.Faultless.{IsFaultless, no-fault, only-takes-away, stage-takes-away}
 use Rattle.px_script.proofs.Forms.{IsWellFormed, well-formed}
-use Rattle.px_script.proofs.KeptLines.{more-objects, saved-kept, in-version, sorts-filled, still-sorted, script-kept, sort-kept, few-objects, no-own, settings-kept, in-bounds, still-none, carried, Keeps, object-kept, predicate-kept, axiom-kept, fact-kept, operator-kept, show-kept, save-kept, certify-kept, facts-kept, disturb-atoms-kept, disturb-rooms-kept, run-kept, learn-kept, plan-kept, duo-kept, edit-kept}
+use Rattle.px_script.proofs.KeptLines.{more-objects, saved-kept, in-version, sorts-filled, still-sorted, script-kept, sort-kept, few-objects, no-own, settings-kept, in-bounds, still-none, carried, Keeps, object-kept, predicate-kept, axiom-kept, fact-kept, operator-kept, show-kept, save-kept, certify-kept, facts-kept, disturb-atoms-kept, disturb-rooms-kept, run-kept, learn-kept, plan-kept, pursue-kept, duo-kept, edit-kept}
 use Rattle.px_proof.specs.Derivation.{no_atom}
 use Rattle.px_terms.specs.Validity.{IsValid}
 use Rattle.px_table.proofs.DecidingLaws.{tables_are_decided}
@@ -115,7 +115,13 @@ module _ (n : ℕ) (d : Declared) (line : ℕ) (o : OpenOperator) where
 -- a building's block is closed
 end-building : (d : Declared) (line : ℕ) → AreInRange (record d { block = Some (record { line = line; kind = of_building }) })
     → OperatorsInRange d.version d.names (own_problem d) d.things None → IfSome d.things (λ things. list_any is_robot things ≡ true)
-    → AreInRange (record d { schemas = d.schemas ++ []; saved = d.saved ++ []; block = None; own_domain = d.own_domain || false; begun = true })
+    → AreInRange (record d {
+      schemas = d.schemas ++ [];
+      saved = d.saved ++ [];
+      block = None;
+      own_domain = d.own_domain || false;
+      begun = true;
+    })
 end-building d line r operators has_robot =
     let closed = record d { block = None; own_domain = d.own_domain || false; begun = true } in
     subst (λ schemas. AreInRange (record closed { schemas = schemas; saved = d.saved ++ [] })) (sym (append-nil d.schemas))
@@ -161,7 +167,8 @@ module _ (n : ℕ) (d : Declared) where
       λ k one below. no-table (own_problem e) _ refl (r.saved k one below) in
       let still = still-sorted d.version 0 1 d.sorts d.object_sorts (omega arith) r.sorts in
       let sorts = sorts-filled q 1 d.object_sorts still.count r.sorts.numbers (omega arith) in
-      let one : 1 ≤ greatest d.version limit.objects = by_test (nat_le d.version 1) (λ two. rw two (omega arith)) (λ old. rw old (omega arith)) in
+      let one : 1 ≤ greatest d.version limit.objects =
+      by_test (nat_le d.version 1) (λ two. rw two (omega arith)) (λ old. rw old (omega arith)) in
       let few_predicates : length predicate_names ≤ 64 = omega arith in let few_operators : length operator_names ≤ 32 = omega arith in
       let short : length predicate_arities < u32_max = omega arith in let standing : AreStanding [] = search (All-nil, leb-true) in
       let objects_are = names-more d.version [] (robot_name ∷ []) r.names.objects refl refl in
@@ -233,7 +240,8 @@ module _ (n : ℕ) (d : Declared) (line : ℕ) (things : List Thing) where
       (get_or-append d.names.objects (name ∷ []) [] 0 (omega (arith, is.objects_are)) ∙ is.robot_first) in
       let none = no-own (things ++ t ∷ []) (d.own_domain || false) (record d.names { objects = objects }) d.arities d.version d.facts in
       let names = names-more d.version d.names.objects (name ∷ []) r.names.objects single short in
-      assumption (names, carried b q (Some (things ++ t ∷ [])) r more (saved-kept b q (Some (things ++ t ∷ [])) refl r more) early, begun, sorts, none, still, in-version b r)
+      let saved = saved-kept b q (Some (things ++ t ∷ [])) refl r more in
+      assumption (names, carried b q (Some (things ++ t ∷ [])) r more saved early, begun, sorts, none, still, in-version b r)
 
   -- a name of a room
   room-at : AreInRange b → (name : List ℕ) → has_name name d.roles.rooms ≡ true
@@ -407,7 +415,8 @@ module _ (n : ℕ) (d : Declared) where
   line-kept r (shapes most) w = outside _ (λ b. refl) d.block d.things (λ r f. let v = r.problem.valid in settings-kept n d r
       d.height d.nodes (Some most) d.weight f.order.after v.height r.problem.nodes (in-bounds of_shapes most f.limits.0) r.problem.weight) r
   line-kept r (weight most) w = outside _ (λ b. refl) d.block d.things (λ r f. let v = r.problem.valid in settings-kept n d r
-      d.height d.nodes d.shapes (Some most) f.order.after v.height r.problem.nodes v.shapes (in-bounds (of_weight d.version) most f.limits.0)) r
+      d.height d.nodes d.shapes (Some most) f.order.after v.height r.problem.nodes v.shapes
+      (in-bounds (of_weight d.version) most f.limits.0)) r
   line-kept r (plan name xs) w = outside _ (λ b. refl) d.block d.things (λ r. plan-kept n d r name xs w.filled) r
   line-kept r (learn name source) w = outside _ (λ b. refl) d.block d.things (λ r. learn-kept n d r name source) r
   line-kept r (show name) w = outside _ (λ b. refl) d.block d.things (λ r. show-kept n d r name) r
@@ -426,7 +435,7 @@ module _ (n : ℕ) (d : Declared) where
   line-kept r (proof parts) w = λ f. inside-rows n d (proof parts) (λ line t r. proof-kept n d line t r parts) d.block f.order.stands r f
   line-kept r (save name) w = outside _ (λ b. refl) d.block d.things (λ r. save-kept n d r name) r
   line-kept r (certify name) w = outside _ (λ b. refl) d.block d.things (λ r. certify-kept n d r name) r
-  line-kept r (pursue name xs) w = λ f. let no = f.has_come in cc
+  line-kept r (pursue name xs) w = outside _ (λ b. refl) d.block d.things (λ r. pursue-kept n d r name xs w.filled) r
 
 -- what a line without a fault keeps, all lines keep
 
@@ -469,7 +478,8 @@ module _ (d : Declared) where
   plain-blocks : {problem : Problem} {building : Option (List Thing)}
       → CommandsInRange d.version problem building (map (λ one. one.0) d.saved ++ []) (length d.names.results) d.commands
       → CommandsInRange d.version problem building (map (λ one. one.0) d.saved) (length d.names.results) d.commands
-  plain-blocks {problem} {building} is = subst (λ first. CommandsInRange d.version problem building first (length d.names.results) d.commands)
+  plain-blocks {problem} {building} is =
+      subst (λ first. CommandsInRange d.version problem building first (length d.names.results) d.commands)
       (append-nil (map (λ one. one.0) d.saved)) is
 
   few-left : length (map (λ (one : ℕ × Table). one.0) d.saved ++ []) ≤ greatest d.version limit.tables

@@ -1,7 +1,7 @@
 -- Each line of a domain, each setting and each command keeps what was declared in range.
 use Rattle.std.proofs.lemmas.List.Kept.{AllPairs-cons}
 use Rattle.px_base.specs.Bounds.{u32_max}
-use Rattle.px_script.proofs.Common.{table_given, IsTableBefore, IsSavedTable, problem_of, problem_here, replicate-append-replicate, replicate, ◌-◌, fold-append, flat_map-append, IsClause, no_schema, ◌≡◌, ◌≢◌, ℕ, suc, ◌+◌, ◌<◌, ◌≤◌, Bool, true, false, not, ◌&&◌, ◌||◌, ◌==◌, List, [], ◌∷◌, ◌++◌, map, length, refl, sym, ap, ◌∙◌, subst, arith, leb-true, length-append, nat_lt, nat_le, Option, None, Some, is_some, unwrap_or, All, AllPairs, AllByRecursion, slice_index_or, list_any, list_all, flat_map, filter, range_with_len, append_assoc, get_or-map, and_parts, or_parts, or_right, nat_tests, length-map, All-append, All-cons, All-map, All-nil, All-push, both_answers, All-at, All-each, set_of-is_sorted, set_of-members, has_name, IsBoxAt, IsDoorAt, IsRoomAt, first_state, standings, Clause, Schema, Problem, atom_set, atom_cmp, atom_cmp-total, atom_cmp-same, IsAtomOf, Thing, EachIndex, NameLists, IsAxiomOf, append-nil, IsSchemaOf, Standing, Atom, Named, SignedAtom, Sign, WrittenRoomEdit, Binding, bare, robot_to, box_to, door_to, is_empty, is_parameter_number, wanted_by_edit, an_object, plain, literals, goals, atom_changes, line_of, script, object, predicate, «axiom», operator, fact, plan, learn, disturb_atoms, disturb_rooms, run, Statement, show, save, certify, Save, Certify, sort, filled_up, of_version, Bounds, greatest, of_height, of_nodes, of_shapes, of_turn, facts, Command, Plan, Learn, DisturbAtoms, DisturbRooms, Run, Facts, Show, Declared, Roles, operator_here, parameters_here, parameters_of, names_here, number_in, variable_names_of, atom_of, literal_of, clause_of, atom_edit_of, edit_by, room_edit_of, binding_of, after_line, own_problem, is_long, repeats, disturbance_limits, AreNumbered, AreRoomEditsOf, CommandsInRange, HasTurn, IsAmong, IsBindingOf, IsCommandOf, IsEditOf, IsWithin, NamesEarlier, disturbs_after, plan_given, result_given, AreNamesOf, all_disturbs, duo, Duo, edit, Edit, of_executor, outside}
+use Rattle.px_script.proofs.Common.{table_given, IsTableBefore, IsSavedTable, problem_of, problem_here, replicate-append-replicate, replicate, ◌-◌, fold-append, flat_map-append, IsClause, no_schema, ◌≡◌, ◌≢◌, ℕ, suc, ◌+◌, ◌<◌, ◌≤◌, Bool, true, false, not, ◌&&◌, ◌||◌, ◌==◌, List, [], ◌∷◌, ◌++◌, map, length, refl, sym, ap, ◌∙◌, subst, arith, leb-true, length-append, nat_lt, nat_le, Option, None, Some, is_some, unwrap_or, All, AllPairs, AllByRecursion, slice_index_or, list_any, list_all, flat_map, filter, range_with_len, append_assoc, get_or-map, and_parts, or_parts, or_right, nat_tests, length-map, All-append, All-cons, All-map, All-nil, All-push, both_answers, All-at, All-each, set_of-is_sorted, set_of-members, has_name, IsBoxAt, IsDoorAt, IsRoomAt, first_state, standings, Clause, Schema, Problem, atom_set, atom_cmp, atom_cmp-total, atom_cmp-same, IsAtomOf, Thing, EachIndex, NameLists, IsAxiomOf, append-nil, IsSchemaOf, Standing, Atom, Named, SignedAtom, Sign, WrittenRoomEdit, Binding, bare, robot_to, box_to, door_to, is_empty, is_parameter_number, wanted_by_edit, an_object, plain, literals, goals, atom_changes, line_of, script, object, predicate, «axiom», operator, fact, plan, learn, disturb_atoms, disturb_rooms, run, Statement, show, save, certify, pursue, Save, Certify, Pursue, IsGoalOf, Line, varies_too_early, sort, filled_up, of_version, Bounds, greatest, of_height, of_nodes, of_shapes, of_turn, facts, Command, Plan, Learn, DisturbAtoms, DisturbRooms, Run, Facts, Show, Declared, Roles, operator_here, parameters_here, parameters_of, names_here, number_in, variable_names_of, atom_of, literal_of, clause_of, atom_edit_of, edit_by, room_edit_of, binding_of, after_line, own_problem, is_long, repeats, disturbance_limits, AreNumbered, AreRoomEditsOf, CommandsInRange, HasTurn, IsAmong, IsBindingOf, IsCommandOf, IsEditOf, IsWithin, NamesEarlier, disturbs_after, plan_given, result_given, AreNamesOf, all_disturbs, duo, Duo, edit, Edit, of_executor, outside}
 use Rattle.px_script.specs.Items.{last_parameter}
 use Rattle.px_rooms.specs.Changes.{IsAdmitted}
 use Rattle.px_terms.specs.Limits.{most_nodes, most_weight}
@@ -10,7 +10,7 @@ use Rattle.px_terms.specs.Validity.{AreSortsOf, IsShort}
 use Rattle.std.proofs.lemmas.List.{get_or-replicate, length-replicate}
 use Rattle.px_script.specs.Limits.{default_height, default_nodes, default_shapes, default_weight, from_three, of_weight, last_number}
 use Rattle.px_script.specs.Limits as limit
-use Rattle.px_script.proofs.Atoms.{HasAtoms, numbered, atoms-right, atoms-with, atoms-open, no-variables, empty-length}
+use Rattle.px_script.proofs.Atoms.{HasAtoms, AreRight, numbered, atoms-right, atoms-with, atoms-open, no-variables, empty-length}
 use Rattle.px_script.proofs.Buildings.{roles-kept, AreOfKind}
 use Rattle.px_script.proofs.Commands.{one-more-result, among-still, among-last, more-results, scan-more}
 use Rattle.px_script.proofs.Faultless.{IsFaultless}
@@ -279,7 +279,8 @@ module _ (n : ℕ) (d : Declared) where
         let short : length arities < u32_max = omega (arith, same, few) in
         let names = names-more d.version d.names.predicates (name ∷ []) r.names.predicates f.single.0 f.short.0 in
         let small = All-push (λ k. k ≤ greatest d.version limit.arity) d.arities arity r.problem.arities (at-most _ _ f.limits.1.0) in
-        assumption (names, carried alone q None r more (saved-kept alone q None refl r more) f.order.after, small, in-version alone r, owned (record d.names { predicates = all }) arities)
+        let same_rest = carried alone q None r more (saved-kept alone q None refl r more) f.order.after in
+        assumption (names, same_rest, small, in-version alone r, owned (record d.names { predicates = all }) arities)
 
     pub axiom-kept : (xs : List SignedAtom) → (not (is_empty xs) && true) ≡ true → Keeps n alone («axiom» xs)
     axiom-kept xs filled f = let has : HasAtoms (line_of («axiom» xs)) xs = record { atoms = refl; arguments = refl } in
@@ -394,7 +395,8 @@ module _ (n : ℕ) (d : Declared) where
         } in
         let more = same-lists p q refl refl refl refl (omega arith) refl in
         let grown = carried top q d.things r more (saved-kept top q d.things refl r more) f.order.after in
-        let in_nodes = nodes-in version first d.nodes r.problem.nodes in let in_weight = weight-in version first d.weight r.problem.weight in
+        let in_nodes = nodes-in version first d.nodes r.problem.nodes in
+        let in_weight = weight-in version first d.weight r.problem.weight in
         let most : q.nodes ≤ most_nodes = three-most version q.nodes 50000 most_nodes (omega arith) in_nodes.1 in
         let most_heavy : q.weight ≤ most_weight = three-most version q.weight 0 most_weight (omega arith) in_weight.1 in
         let few_objects = version-more d.version version _ 256 1024 first (omega arith) r.names.few_objects in
@@ -427,7 +429,8 @@ module _ (n : ℕ) (d : Declared) where
         -- what a script may ask for in version 1 it may ask for in each
         nodes-in : (version : ℕ) → d.version ≡ 1 → (o : Option ℕ) → IsWithin (of_nodes d.version) (unwrap_or o (default_nodes d.version))
             → IsWithin (of_nodes version) (unwrap_or o (default_nodes version))
-        nodes-in version first None is = defaults-in version 1 10000 100000 50000 most_nodes (omega arith) (omega arith) (omega arith) (omega arith)
+        nodes-in version first None is =
+            defaults-in version 1 10000 100000 50000 most_nodes (omega arith) (omega arith) (omega arith) (omega arith)
         nodes-in version first (Some n) is = (is.0, three-more d.version version n 50000 most_nodes first (omega arith) is.1)
 
         weight-in : (version : ℕ) → d.version ≡ 1 → (o : Option ℕ) → IsWithin (of_weight d.version) (unwrap_or o (default_weight d.version))
@@ -717,9 +720,11 @@ module _ (n : ℕ) (d : Declared) where
     abbrev AreSmall : ℕ × ℕ → Type 0
     AreSmall pair = (pair.0 ≤ last_number) × (pair.1 ≤ last_number)
 
-    small-pairs : (ps : List (ℕ × ℕ)) → list_any (nat_lt last_number) (flat_map (λ (p : ℕ × ℕ). p.0 ∷ p.1 ∷ []) ps) ≡ false → All AreSmall ps
+    small-pairs : (ps : List (ℕ × ℕ)) → list_any (nat_lt last_number) (flat_map (λ (p : ℕ × ℕ). p.0 ∷ p.1 ∷ []) ps) ≡ false
+        → All AreSmall ps
     small-pairs [] e = All-nil _
-    small-pairs (pair ∷ ps) e = let first = or_parts (nat_lt last_number pair.0) _ e in let second = or_parts (nat_lt last_number pair.1) _ first.1 in
+    small-pairs (pair ∷ ps) e = let first = or_parts (nat_lt last_number pair.0) _ e in
+        let second = or_parts (nat_lt last_number pair.1) _ first.1 in
         All-cons AreSmall _ _ (at-most _ _ first.0, at-most _ _ second.0) (small-pairs ps second.1)
 
     pub edit-kept : (name source : List ℕ) (prefix : ℕ) (ps : List (ℕ × ℕ)) → (not (is_empty ps) && true) ≡ true
@@ -734,21 +739,38 @@ module _ (n : ℕ) (d : Declared) where
           record { some = some-items ps filled; few = at-most _ _ f.limits.1.1.0; numbers = small-pairs ps great.1 },
         ) (named-earlier source f.known.0)
 
+    -- the goal of a plan, or of a pursuit
+    goal-is : (l : Line) (xs : List SignedAtom) → (not (is_empty xs) && true) ≡ true → HasAtoms l xs → AreRight top goals xs
+        → varies_too_early top l ≡ false → nat_lt (greatest d.version limit.variables) (length (variable_names_of xs)) ≡ false
+        → nat_lt (greatest d.version limit.goal_atoms) (length xs) ≡ false
+        → IsGoalOf d.version p (map (atom_of top (variable_names_of xs)) xs) (length (variable_names_of xs))
+    goal-is l xs filled has right early few_variables few =
+        let size = length-map xs (atom_of top (variable_names_of xs)) in let least = some-items xs filled in let most = at-most _ _ few in
+        record {
+          some = omega (arith, size, least);
+          few = omega (arith, size, most);
+          few_variables = at-most _ _ few_variables;
+          no_objects = λ none. no-variables top l xs has early none;
+          atoms = atoms-open top r xs refl goals refl right;
+          numbered = numbered top xs refl;
+        }
+
     pub plan-kept : (name : List ℕ) (xs : List SignedAtom) → (not (is_empty xs) && true) ≡ true → Keeps n top (plan name xs)
     plan-kept name xs filled f = let has : HasAtoms (line_of (plan name xs)) xs = record { atoms = refl; arguments = refl } in
-        let variables = variable_names_of xs in let goal = map (atom_of top variables) xs in
-        let size : length goal ≡ length xs = length-map xs (atom_of top variables) in let least = some-items xs filled in
-        let most : length xs ≤ greatest d.version limit.goal_atoms = at-most _ _ f.limits.1.0 in
-        let count = length-append d.names.results (name ∷ []) in let c = Plan results goal (length variables) in
-        result-kept name c (d.roles.plans ++ name ∷ []) (d.roles.tables ++ name ∷ []) refl refl f.single.0 f.short.0 f.limits.1.1.0 (
-          omega (arith, count),
-          record {
-            some = omega (arith, size, least);
-            few = omega (arith, size, most);
-            few_variables = at-most _ _ f.limits.0;
-            no_objects = λ none. no-variables top (line_of (plan name xs)) xs has f.order.early none;
-            atoms = atoms-open top r xs refl goals refl (atoms-right top (plan name xs) xs has f.right);
-            numbered = numbered top xs refl;
-          },
-        ) tt (new-given name c plan_given [] d.roles.plans refl f.single.0 (plans-now name c))
+        let variables = variable_names_of xs in let count = length-append d.names.results (name ∷ []) in
+        let c = Plan results (map (atom_of top variables) xs) (length variables) in
+        let goal = goal-is (line_of (plan name xs)) xs filled has (atoms-right top (plan name xs) xs has f.right) f.order.early f.limits.0
+        f.limits.1.0 in
+        result-kept name c (d.roles.plans ++ name ∷ []) (d.roles.tables ++ name ∷ []) refl refl f.single.0 f.short.0 f.limits.1.1.0
+        (omega (arith, count), goal) tt (new-given name c plan_given [] d.roles.plans refl f.single.0 (plans-now name c))
         (new-given name c table_given first d.roles.tables refl f.single.0 (tables-now name c))
+
+    -- a pursuit gives a result that is no table
+    pub pursue-kept : (name : List ℕ) (xs : List SignedAtom) → (not (is_empty xs) && true) ≡ true → Keeps n top (pursue name xs)
+    pursue-kept name xs filled f = let has : HasAtoms (line_of (pursue name xs)) xs = record { atoms = refl; arguments = refl } in
+        let variables = variable_names_of xs in let count = length-append d.names.results (name ∷ []) in
+        let c = Pursue results (map (atom_of top variables) xs) (length variables) in
+        let goal = goal-is (line_of (pursue name xs)) xs filled has (atoms-right top (pursue name xs) xs has f.right) f.order.early
+        f.limits.0 f.limits.1.0 in
+        result-kept name c d.roles.plans d.roles.tables refl refl f.single.0 f.short.0 f.limits.1.1.0 (omega (arith, count), goal) tt
+        (plans-now name c) (tables-now name c)

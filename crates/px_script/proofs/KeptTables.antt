@@ -35,12 +35,14 @@ proofs-closed d (an_axiom k place count ts ∷ parts) = let after = proofs-close
 -- so they are those of their terms
 row-back : (row : List Derivation) → All HasNoOpenPlace row → map derivation_of (map proof_of row) ≡ row
 row-back [] closed = refl
-row-back (d ∷ row) closed = ap (λ e. e ∷ map derivation_of (map proof_of row)) (derivation_of-proof_of d (All-head HasNoOpenPlace d row closed))
+row-back (d ∷ row) closed =
+    ap (λ e. e ∷ map derivation_of (map proof_of row)) (derivation_of-proof_of d (All-head HasNoOpenPlace d row closed))
     ∙ ap (λ t. d ∷ t) (row-back row (All-tail HasNoOpenPlace d row closed))
 
 rows-back : (rows : List (List Derivation)) → All (All HasNoOpenPlace) rows → rows_of (map (map proof_of) rows) ≡ rows
 rows-back [] closed = refl
-rows-back (row ∷ rows) closed = ap (λ t. t ∷ rows_of (map (map proof_of) rows)) (row-back row (All-head (All HasNoOpenPlace) row rows closed))
+rows-back (row ∷ rows) closed =
+    ap (λ t. t ∷ rows_of (map (map proof_of) rows)) (row-back row (All-head (All HasNoOpenPlace) row rows closed))
     ∙ ap (λ t. row ∷ t) (rows-back rows (All-tail (All HasNoOpenPlace) row rows closed))
 
 -- ---- heights
@@ -257,7 +259,8 @@ module _ (n : ℕ) (d : Declared) (line : ℕ) (t : WrittenTable) where
       } in assumption (begun, still-none steps_block r, in-version steps_block r)
 
   pub goal-kept : AreInRange steps_block → (xs : List SignedAtom) → (not (is_empty xs) && true) ≡ true → Keeps n steps_block (goal xs)
-  goal-kept r xs filled f = let is = r.table_block in let has : HasAtoms (line_of (goal xs)) xs = record { atoms = refl; arguments = refl } in
+  goal-kept r xs filled f = let is = r.table_block in
+      let has : HasAtoms (line_of (goal xs)) xs = record { atoms = refl; arguments = refl } in
       let right = atoms-right steps_block (goal xs) xs has f.right in
       let terms = args-of steps_block (table_variables steps_block) xs in
       let numbers = goal-numbers d line t (arguments_of xs) right.bound in

@@ -130,7 +130,8 @@ row-is_word version b w = all-of version w (entries_of_all b) (entries_of_two ++
         ∙ ap (λ c. word_in w entries_of_two || c) (or-false (word_in w entries_of_three))
         ∙ sym (list_any-append (bytes_eq w) words_of_two words_of_three)
     newer-words true false two three = all-of version w entries_of_two entries_of_three (search depth 20)
-        ∙ ap (λ c. word_in w entries_of_two || c) (none-of version w entries_of_three [] (search depth 6) ∙ and-false (not (word_in w entries_of_three)))
+        ∙ ap (λ c. word_in w entries_of_two || c)
+        (none-of version w entries_of_three [] (search depth 6) ∙ and-false (not (word_in w entries_of_three)))
         ∙ sym (list_any-append (bytes_eq w) words_of_two [])
     newer-words false false two three = none-of version w entries_of_two entries_of_three (search depth 20)
         ∙ ap (λ c. not (word_in w entries_of_two) && c)
@@ -274,8 +275,9 @@ all-made b = also (made-number script _ (λ n. refl)) (also made-object (also ma
     (also (made-atoms fact _ (λ xs. refl)) (also (made-number height _ (λ n. refl)) (also (made-number nodes _ (λ n. refl)) (also
     (made-number shapes _ (λ n. refl)) (also made-plan (also made-learn (also made-show (also (made-disturb b) (also made-run (also
     (made-nothing facts _ refl) (also made-sort (also made-param (also made-table (also made-step
-    (also (made-atoms goal _ (λ xs. refl)) (also made-proof (also (made-of-table save _ (λ n. refl)) (also (made-of-table certify _ (λ n. refl))
-    (also made-edit (also made-duo (also made-pursue (also (made-number weight _ (λ n. refl)) tt)))))))))))))))))))))))))))))))))))
+    (also (made-atoms goal _ (λ xs. refl)) (also made-proof (also (made-of-table save _ (λ n. refl)) (also
+    (made-of-table certify _ (λ n. refl)) (also made-edit (also made-duo (also made-pursue (also
+    (made-number weight _ (λ n. refl)) tt)))))))))))))))))))))))))))))))))))
 
 -- the row of a word is the row of its own word
 pub has-row : (b : Bool) (w : List ℕ) → IfSome (row_of b w) (λ r. row_of b r.word ≡ Some r)

@@ -224,7 +224,8 @@ entries_of_all b =
 
 -- those of a table's block
 abbrev pub entries_of_tables : List Entry
-entries_of_tables = entry (newer 2 (row (codes "table") (opens table_steps) plain (one.New a_table ∷ one.Number ∷ []) last.Nothing)) make_table
+entries_of_tables =
+    entry (newer 2 (row (codes "table") (opens table_steps) plain (one.New a_table ∷ one.Number ∷ []) last.Nothing)) make_table
     ∷ entry (newer 2 (row (codes "step") (inside table_steps) table_terms (one.Known an_operator ∷ []) last.Arguments)) make_step
     ∷ entry (newer 2 (row (codes "goal") (inside table_steps) table_goals [] last.Atoms)) (make_atoms goal)
     ∷ entry (newer 2 (row (codes "proof") (inside table_rows) table_terms [] last.Proofs)) make_proof

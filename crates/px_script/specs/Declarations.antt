@@ -19,7 +19,7 @@ use Rattle.px_script.specs.Items.{Named, Argument, SignedAtom, Sign, WrittenRoom
 use Rattle.px_script.specs.Statements.{Statement, Line, Place, Block, line_of, domain, opens, operator_block, building_block, table_steps, table_rows, script, object, predicate, «axiom», operator, pre, delete, add, building, room, door, box, robot, end, fact, height, nodes, shapes, weight, plan, learn, show, disturb_atoms, disturb_rooms, run, facts, sort, param, duo, save, certify, edit, pursue, table, step, goal, proof}
 use Rattle.px_script.specs.Limits as limit
 use Rattle.px_script.specs.Limits.{greatest, default_height, default_nodes, default_shapes, default_weight}
-use Rattle.px_script.specs.Commands.{Command, Plan, Learn, Show, Save, Certify, DisturbAtoms, DisturbRooms, Run, Facts, Duo, Edit}
+use Rattle.px_script.specs.Commands.{Command, Plan, Learn, Show, Save, Certify, DisturbAtoms, DisturbRooms, Run, Facts, Duo, Edit, Pursue}
 
 -- the operator whose block is open: its parameters' names, and its schema so far
 pub record OpenOperator : Type 0 where
@@ -462,9 +462,11 @@ declares n d (goal xs) = in_block (λ kind. after_goal (change_table
 declares n d (proof parts) = in_block (change_table (λ t. record t { rows = t.rows ++ proofs_read d parts ∷ [] })) d
 declares n d (save m) = with_command (Save (number_in m d.names.results)) d
 declares n d (certify m) = with_command (Certify (number_in m d.names.results)) d
-declares n d (pursue m xs) = d
-declares n d (param m ps) =
-    record d { block = option_map {T = OpenBlock} (λ block. record block { kind = give_sort (number_in m d.sorts + 1) ps block.kind }) d.block }
+declares n d (pursue m xs) =
+    with_command (Pursue (length d.names.results) (map (atom_of d (variable_names_of xs)) xs) (length (variable_names_of xs))) d
+declares n d (param m ps) = record d {
+  block = option_map {T = OpenBlock} (λ block. record block { kind = give_sort (number_in m d.sorts + 1) ps block.kind }) d.block;
+}
 
 -- what a line without a fault leaves, where it is line number n
 abbrev pub after_line : ℕ → Declared → Statement → Declared

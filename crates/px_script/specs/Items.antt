@@ -63,8 +63,8 @@ pub data Item : Type 0 where
   bindings : List Binding → Item
   -- one or more edits of a building
   room_edits : List WrittenRoomEdit → Item
-  -- These stand only in lines from version 2 on: arguments in parentheses with commas, nothing where there are none; the proofs of one row, or
-  -- none; one or more pairs of numbers.
+  -- These stand only in lines from version 2 on: arguments in parentheses with commas, nothing where there are none; the proofs of one
+  -- row, or none; one or more pairs of numbers.
   arguments : List Argument → Item
   proofs : List Part → Item
   pairs : List (ℕ × ℕ) → Item

@@ -12,7 +12,7 @@ use Rattle.px_world.specs.declared.thing.Thing.TheVariants.{Room, Door, Box, Rob
 use Rattle.px_script.specs.Items.{last_parameter}
 use Rattle.px_script.specs.Limits as limit
 use Rattle.px_script.specs.Limits.{Bounds, greatest, of_nodes, of_weight, of_turn, of_version, of_executor, last_number}
-use Rattle.px_script.specs.Commands.{Command, Plan, Learn, Show, Save, Certify, DisturbAtoms, DisturbRooms, Run, Facts, Duo, Edit}
+use Rattle.px_script.specs.Commands.{Command, Plan, Learn, Show, Save, Certify, DisturbAtoms, DisturbRooms, Run, Facts, Duo, Edit, Pursue}
 use Rattle.px_script.specs.Declarations.{building_with, operator_names, predicate_names}
 use Rattle.px_script.specs.Content.{ScriptValue}
 use Rattle.px_script.specs.Stages.{Stage, is_built}
@@ -56,8 +56,8 @@ HasShortLists version schema =
     (length schema.pre ≤ greatest version limit.operator_atoms) × (length schema.del ≤ greatest version limit.operator_atoms)
     × (length schema.add ≤ greatest version limit.operator_atoms)
 
--- The problem is valid, with no more nodes and no more weight than a script of the version may ask for, and its objects and predicates have names. Variables of axioms are
--- numbered as they occur.
+-- The problem is valid, with no more nodes and no more weight than a script of the version may ask for, and its objects and predicates
+-- have names. Variables of axioms are numbered as they occur.
 pub record ProblemInRange (version : ℕ) (names : NameLists) (problem : Problem) : Type 0 where
   pub valid : IsValid problem
   pub nodes : IsWithin (of_nodes version) problem.nodes
@@ -163,6 +163,7 @@ pub record ArePairsOf (version : ℕ) (wanted : List (ℕ × ℕ)) : Type 0 wher
 -- edits are of rooms, and without one of atoms. No parameter is bound twice.
 abbrev pub IsCommandOf : ℕ → Problem → Option (List Thing) → ℕ → Command → Type 0
 IsCommandOf version problem building results (Plan name goal vars) = (name < results) × IsGoalOf version problem goal vars
+IsCommandOf version problem building results (Pursue name goal vars) = (name < results) × IsGoalOf version problem goal vars
 IsCommandOf version problem building results (Learn name source) = (name < results) × (source < results)
 IsCommandOf version problem building results (Show name) = name < results
 IsCommandOf version problem building results (Save name) = name < results
@@ -183,6 +184,7 @@ abbrev pub result_given : Command → List ℕ
 result_given (Plan name goal vars) = name ∷ []
 result_given (Learn name source) = name ∷ []
 result_given (Edit name source prefix wanted) = name ∷ []
+result_given (Pursue name goal vars) = name ∷ []
 result_given _ = []
 
 -- the result that a plan gives
@@ -192,6 +194,7 @@ plan_given _ = []
 
 -- the result that a command gives, if it is a table
 abbrev pub table_given : Command → List ℕ
+table_given (Pursue name goal vars) = []
 table_given command = result_given command
 
 abbrev pub IsAmong : List ℕ → ℕ → Type 0
@@ -249,6 +252,7 @@ pub record IsInRange (script : ScriptValue) : Type 0 where
 -- the word of a command
 abbrev pub word_of : Command → List ℕ
 word_of (Plan name goal vars) = codes "plan"
+word_of (Pursue name goal vars) = codes "pursue"
 word_of (Learn name source) = codes "learn"
 word_of (Show name) = codes "show"
 word_of (Save name) = codes "save"

@@ -231,9 +231,11 @@ pub record WorkedSorts : Type 0 where
   -- what lines leave: a sort may be called as an object, and an object without a sort stands among those that have one
   pub two_sorts : LeaveBoth (codes "script 2\nsort S S b\nobject a\nsort T c") (λ d. d.sorts) (codes "S" ∷ codes "T" ∷ [])
       (λ d. d.object_sorts) (1 ∷ 1 ∷ 0 ∷ 2 ∷ [])
-  pub sorted_objects : LeaveBoth (codes "script 2\nobject a\nsort S b") (λ d. d.names.objects) (codes "a" ∷ codes "b" ∷ []) (λ d. d.version) 2
+  pub sorted_objects : LeaveBoth (codes "script 2\nobject a\nsort S b") (λ d. d.names.objects) (codes "a" ∷ codes "b" ∷ [])
+      (λ d. d.version) 2
   pub sorted_parameter : Leave (in_sorted ++ codes "\nparam S y\nend") (λ d. map (λ s. s.param_sorts) d.schemas) ((0 ∷ 1 ∷ []) ∷ [])
-  pub sorted_parameters : Leave (in_sorted ++ codes "\nparam S y\nparam S x\nend") (λ d. map (λ s. s.param_sorts) d.schemas) ((1 ∷ 1 ∷ []) ∷ [])
+  pub sorted_parameters : Leave (in_sorted ++ codes "\nparam S y\nparam S x\nend") (λ d. map (λ s. s.param_sorts) d.schemas)
+      ((1 ∷ 1 ∷ []) ∷ [])
   pub last_sort : Fit [] (sorts 31) (codes "sort a a")
   pub more_objects : Fit [] (λ d. objects 1023 (in_two d)) (codes "object a\nsort S a")
   pub more_facts : Fit small (λ d. facts 1023 (in_two d)) (codes "fact Q")
@@ -248,7 +250,8 @@ pub record WorkedSorts : Type 0 where
       ∷ (in_sorted ++ codes "\nparam S x", codes "param S x\nparam S y x\nparam S y y") ∷ [])
   -- lines out of order
   pub out_of_order : Refuse 9 ((codes "script 2\nobject a", codes "param S x") ∷ (codes "script 2\nfacts", codes "sort S a")
-      ∷ (in_sorted, codes "sort T d") ∷ (codes "script 2\n" ++ closed_building, codes "sort S a") ∷ (codes "script 2\nsort S a", codes "building") ∷ [])
+      ∷ (in_sorted, codes "sort T d") ∷ (codes "script 2\n" ++ closed_building, codes "sort S a")
+      ∷ (codes "script 2\nsort S a", codes "building") ∷ [])
   -- limits
   pub long_sort : Exceed ((1, codes "script 2", codes "sort " ++ long_name ++ codes " a\nsort S " ++ long_name) ∷ [])
   pub many_sorts : RefuseWhere [] (sorts 32) 8 17 (codes "sort a a")

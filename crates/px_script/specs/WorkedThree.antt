@@ -23,4 +23,5 @@ pub record WorkedWeights : Type 0 where
   pub out_of_order : Refuse 9 ((codes "script 3\nfacts", codes "weight 3") ∷ (codes "script 3\nbuilding", codes "weight 3") ∷ [])
   -- duplicates, also before limits; and limits
   pub twice : Refuse 5 ((codes "script 3\nweight 3", codes "weight 3\nweight 1001") ∷ [])
-  pub limits : Exceed ((16, codes "script 3", codes "weight 1001\nnodes 1000001\nnodes 0") ∷ (16, codes "script 2", codes "nodes 50001") ∷ [])
+  pub limits : Exceed ((16, codes "script 3", codes "weight 1001\nnodes 1000001\nnodes 0")
+      ∷ (16, codes "script 2", codes "nodes 50001") ∷ [])

@@ -95,6 +95,12 @@ pub enum Command {
         prefix: u32,
         wanted: Sequence<(u32, u32)>,
     },
+    /// Plan for a goal, execute the plan, and plan again from what is sensed where no kernel is true. It gives no table.
+    Pursue {
+        name: u32,
+        goal: Sequence<Atom>,
+        vars: u32,
+    },
     /// Answer the facts.
     Facts,
 }

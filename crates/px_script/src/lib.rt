@@ -32,8 +32,7 @@
 //! - [`only_takes_away`]: where only some words are built, a line is refused as where all are, or as not built, and a
 //!   script is a script of the whole of it.
 //! - [`is_in_range`]: what a script is about is in range, and of the language as far as it is built (`IsOfStage`), so a caller may
-//!   hand its numbers on. What is built is one list of words, `stage_now`: all that are described but `pursue`; all laws hold of any
-//!   list.
+//!   hand its numbers on. What is built is one list of words, `stage_now`: all that are described; all laws hold of any list.
 //! - [`worked_lines`] and [`worked_texts`]: what the definition says of small lines, and of small texts from their bytes, to be
 //!   compared with what a reader expects.
 //!
@@ -53,7 +52,7 @@ ghost use Rattle.px_script.specs.Worked.{WorkedScripts, WorkedRefusals};
 ghost use Rattle.px_script.specs.WorkedLines.{WorkedBuildings, WorkedCommands, WorkedDomains, WorkedDuos, WorkedEdits, WorkedLimits, WorkedSorts, WorkedSpellings};
 ghost use Rattle.px_script.specs.WorkedTables.{WorkedSaves, WorkedTables};
 ghost use Rattle.px_script.specs.WorkedThree.{WorkedWeights};
-ghost use Rattle.px_script.specs.WorkedLater.{WorkedLater, WorkedUnbuilt};
+ghost use Rattle.px_script.specs.WorkedLater.{WorkedLater, WorkedPursuits};
 
 mod command;
 mod kinds;
@@ -81,7 +80,7 @@ pub fn worked_lines()
     ensures sorts { WorkedSorts }
     ensures duos { WorkedDuos }
     ensures edits { WorkedEdits }
-    ensures unbuilt { WorkedUnbuilt }
+    ensures pursuits { WorkedPursuits }
     ensures tables { WorkedTables }
     ensures saves { WorkedSaves }
     ensures weights { WorkedWeights }

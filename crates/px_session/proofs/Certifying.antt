@@ -1,5 +1,5 @@
 -- The bytes of certificates are accepted, since the tables of a session can be written.
-use Rattle.std.specs.Prelude.{◌≡◌, ◌≤◌, ◌<◌, ℕ, Option, Some, None, List, [], ◌∷◌, length, take, slice_index_or, All, Any}
+use Rattle.std.specs.Prelude.{◌≡◌, ◌≤◌, ◌<◌, ℕ, Option, Some, None, List, [], ◌∷◌, take, slice_index_or, All, Any}
 use Rattle.std.proofs.Common.{refl, sym, ◌∙◌, subst, arith}
 use Rattle.std.proofs.lemmas.List.Elements.{All-head, All-tail, All-take}
 use Rattle.px_base.specs.ListLaws.{All-at, All-each}
@@ -133,6 +133,7 @@ module _ (problem : Problem) (old : SessionState) (new : SessionState) (valid : 
   of-command (command.DisturbRooms turn between edits) name bytes is = absurd is
   of-command (command.Run n bound) name bytes is = absurd is
   of-command (command.Duo first second numbers) name bytes is = absurd is
+  of-command (command.Pursue n goal vars) name bytes is = absurd is
   of-command command.Facts name bytes is = absurd is
 
   pub reply-accepted : (given : Command) (answer : Reply) → Lawful problem old given answer new → ReplyIsAccepted problem old answer

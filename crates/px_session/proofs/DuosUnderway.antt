@@ -22,7 +22,8 @@ use Rattle.px_printer.specs.declared.duo_line.DuoLine.{DuoLine}
 use Rattle.px_session.specs.declared.place.Place.{Place}
 use Rattle.px_session.specs.DuoRuns.{AreDuoLines, IsDuoLine, event_of, next_event, outcome_told, step_told, who_of}
 use Rattle.px_session.specs.Places.{TakeSame, building_of, place_atoms}
-use Rattle.px_session.specs.Running.{HasDuoPlaces, HasTaken, adds_most}
+use Rattle.px_turns.specs.Turning.{adds_most}
+use Rattle.px_session.specs.Running.{HasDuoPlaces, TookPlaces}
 use Rattle.px_session.specs.Sessions.{Edit, leaves_edit}
 use Rattle.px_session.proofs.Placing.{same-both, same_taken}
 use Rattle.px_session.proofs.TwoRunning.{lines-more}
@@ -139,12 +140,12 @@ module _ (duo : DuoValue) (numbers : List ℕ) where
       → made < length numbers → number ≡ get_or numbers made number → AreUnderway start made lines now world
       → IsDuoLine leaves_edit now.problem now.tables number (duo_running (place_atoms world) now.memories) line
       (duo_running (place_atoms new) next.memories)
-      → next ≡ record now { memories = next.memories } → HasTaken (adds_most now.problem.schemas) world new
+      → next ≡ record now { memories = next.memories } → TookPlaces (adds_most now.problem.schemas) world new
       → AreUnderway start (made + 1) (lines ++ line ∷ []) next new
   duos-next start made lines now next world new number line below at is here frame taken =
       let m = adds_most duo.problem.schemas in
       let left = left-more made below in
-      let used = subst (λ (d : DuoValue). HasTaken (adds_most d.problem.schemas) world new) is.same taken in
+      let used = subst (λ (d : DuoValue). TookPlaces (adds_most d.problem.schemas) world new) is.same taken in
       let leads = subst (λ (d : DuoValue). IsDuoLine leaves_edit d.problem d.tables number (duo_running (place_atoms world) now.memories) line
       (duo_running (place_atoms new) next.memories)) is.same here in
       record {
@@ -158,7 +159,7 @@ module _ (duo : DuoValue) (numbers : List ℕ) where
           spare = omega (arith, is.places.spare, left, used.spare);
           room = omega (arith, is.places.room, left, used.number);
         };
-        takes = same-both (building_of start) (building_of world) (building_of new) is.takes used.takes;
+        takes = same-both (building_of start) (building_of world) (building_of new) is.takes used.edits;
       }
 
   pub duos-last : (start : Place) (made : ℕ) (lines : List DuoLine) (now : DuoValue) (world : Place) → length numbers ≤ made

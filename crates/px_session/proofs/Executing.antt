@@ -6,6 +6,7 @@ use Rattle.std.proofs.lemmas.List.Elements.{All-nil, All-weaker, Contains-append
 use Rattle.px_base.specs.Bounds.{u32_max}
 use Rattle.px_names.specs.Lists.{AreNameLists}
 use Rattle.px_terms.specs.declared.problem.Problem.{Problem}
+use Rattle.px_terms.specs.Validity.{IsValid}
 use Rattle.px_table.specs.declared.table.Table.{Table}
 use Rattle.px_table.specs.Kernels.{KernelsCarry}
 use Rattle.px_printer.specs.Replies.{IsReplyNamed}
@@ -23,7 +24,7 @@ use Rattle.px_session.specs.KeptSessions.{AreAddsToWant, AreEditsToNote, IsBindi
 use Rattle.px_session.specs.Lawful.{Lawful, recorded_for}
 use Rattle.px_session.specs.Named.{IsTellable}
 use Rattle.px_session.specs.Opened.{SessionValue, opened_session, tables_of}
-use Rattle.px_session.specs.OwnStates.{IsOwnEdit, IsOwnGoal, edits_given}
+use Rattle.px_session.specs.OwnStates.{IsOwnEdit, IsOwnGoal, IsOwnPursuit, edits_given}
 use Rattle.px_session.specs.Places.{IsPlaced, TakeSame, Takes}
 use Rattle.px_session.specs.Sessions.{SessionState}
 use Rattle.px_session.specs.Writable.{AsksWritable}
@@ -82,6 +83,13 @@ ready version problem building results (command.Run name bindings) owns of =
     ((binding-ready problem bindings of.1 of.2, no-edits problem (at_first building)), of.0)
 ready version problem building results (command.Duo first second numbers) owns of =
     ((tt, no-edits problem (at_first building)), (of.0, of.1))
+ready version problem building results (command.Pursue name goal vars) owns of = (
+  (
+    record { atoms = of.1.atoms; few = of.1.few_variables; some_object = some-object problem.objects vars of.1.no_objects },
+    no-edits problem (at_first building),
+  ),
+  (of.0, of.1.atoms),
+)
 ready version problem building results command.Facts owns of = ((tt, no-edits problem (at_first building)), tt)
 
 pub ready-at : (script : ScriptValue) → IsInRange script → (k : ℕ) (c : Command) → k < length script.commands
@@ -155,6 +163,8 @@ keeps-parts problem old given answer new is =
     (record { recorded = omega arith; learned = λ n has. inl has }))
     (λ first second numbers lines new by is. subst (KeepsParts (result_given given) old) (sym is.changed)
     (record { recorded = omega arith; learned = λ n has. inl has }))
+    (λ name goal vars searches told end new by is. subst (KeepsParts (result_given given) old) (sym is.changed)
+    (record { recorded = omega arith; learned = λ n has. inl has }))
     answer new is
 
 -- the goal of a command that can be run is one of the problem
@@ -170,7 +180,13 @@ own-goal problem building (command.DisturbAtoms turn between edits) runs = tt
 own-goal problem building (command.DisturbRooms turn between edits) runs = tt
 own-goal problem building (command.Run name bound) runs = tt
 own-goal problem building (command.Duo first second numbers) runs = tt
+own-goal problem building (command.Pursue name goal vars) runs = runs.0.atoms
 own-goal problem building command.Facts runs = tt
+
+-- a pursuit's goal is so where the problem is valid
+pub own-pursuit : (problem : Problem) → IsValid problem → (given : Command) → IsOwnGoal problem given → IsOwnPursuit problem given
+own-pursuit problem valid (command.Pursue name goal vars) own = (valid, own)
+own-pursuit problem valid given own = tt
 
 -- so are those of a script
 pub own-goals : (script : ScriptValue) → IsInRange script → All (IsOwnGoal script.problem) script.commands
@@ -203,7 +219,8 @@ kept-after building left session given answer new done kept more below is runs a
       names = kept.names;
       state = sessions_are_kept.kept session.problem session.state given answer new kept.problem kept.state
           (own-goal session.problem building given runs) lawful;
-      own = sessions_are_kept.own session.problem session.state given answer new kept.problem kept.state kept.own runs.1.own lawful;
+      own = sessions_are_kept.own session.problem session.state given answer new kept.problem kept.state kept.own runs.1.own
+          (own-pursuit session.problem kept.problem given (own-goal session.problem building given runs)) lawful;
       placed = placed;
       commands = All-weaker (IsRunnable session.problem building) (IsRunnable session.problem left)
           (runnable-later session.problem building left same)

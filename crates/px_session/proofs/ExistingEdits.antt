@@ -5,10 +5,11 @@ use Rattle.px_terms.specs.declared.problem.Problem.{Problem}
 use Rattle.px_terms.specs.Validity.{IsValid}
 use Rattle.px_table.specs.Limits.{most_tables}
 use Rattle.px_table.specs.declared.table.Table.{Table}
-use Rattle.px_edit.specs.EditCauses.{IsBadPrefix, IsBadWantAt, IsEditable, IsFirstBadWant, KeepsTooDeep, KeepsTooMany}
+use Rattle.px_edit.specs.EditCauses.{IsBadWantAt, IsEditable, IsFirstBadWant, KeepsTooDeep, KeepsTooMany}
 use Rattle.px_edit.specs.Editing.{IsEdited}
 use Rattle.px_edit.proofs.EditLimits.{good-prefix}
 use Rattle.px_edit.proofs.EditSteps.{all-editable}
+use Rattle.px_edit.proofs.There.{edited-there}
 use Rattle.px_library.specs.Libraries.{with_table}
 use Rattle.px_printer.specs.declared.reply.EditWhy.{EditWhy}
 use Rattle.px_printer.specs.declared.reply.EditWhy.TheVariants.{Prefix, Want, TooLong, TooDeep, Full}
@@ -17,7 +18,6 @@ use Rattle.px_script.specs.declared.command.Command.TheVariants as command
 use Rattle.px_session.specs.Existing.{HasReply}
 use Rattle.px_session.specs.Lawful.{RefusesEditing}
 use Rattle.px_session.specs.Sessions.{IsSession, SessionState, any_table}
-use Rattle.px_session.proofs.EditedTables.{edited-there}
 use Rattle.px_session.proofs.OneLearning.{any-right}
 
 module _ (problem : Problem) (old : SessionState) (name source prefix : ℕ) (wanted : List (ℕ × ℕ)) where
@@ -84,5 +84,5 @@ module _ (problem : Problem) (old : SessionState) (name source prefix : ℕ) (wa
       by None named never = never (reply.Unknown source, (old, (refl, named, refl)))
       by (Some table) named never =
           let right = any-right problem old session.plans session.learned source table named in
-          edited-there problem valid table right prefix wanted (editable table named never)
-          (λ edited. made table named never edited.0 edited.1)
+          let there = edited-there problem valid table right prefix wanted (editable table named never) in
+          made table named never there.0 there.1

@@ -20,6 +20,7 @@ use Rattle.px_printer.specs.declared.reply.Why.{Why}
 use Rattle.px_printer.specs.declared.turn.Turn.{Turn}
 use Rattle.px_printer.specs.declared.turn.TurnEnd.{TurnEnd}
 use Rattle.px_printer.specs.declared.turn.TurnEnd.TheVariants.{Acted, Slipped, Goal, NoKernel}
+use Rattle.px_pursue.specs.Pursuits.{IsPursuit}
 use Rattle.px_script.specs.declared.command.Command.{Command}
 use Rattle.px_script.specs.declared.command.Command.TheVariants as command
 use Rattle.px_script.specs.Stages.{stage_now}
@@ -41,6 +42,7 @@ use Rattle.px_session.proofs.Learned.{are-learned}
 use Rattle.px_session.proofs.OneLearning.{any-right}
 use Rattle.px_session.proofs.OneSaving.{certify-reply, save-reply}
 use Rattle.px_session.proofs.OwnDuos.{each_table}
+use Rattle.px_session.proofs.PursuitsEnd.{pursuits_end}
 
 -- ---- turns are told
 
@@ -165,6 +167,7 @@ module _ (traces-exist : TracesExist leaves_edit) (duo-traces-exist : DuoTracesE
     other-reply (command.Plan name goal vars) asks = absurd asks
     other-reply (command.Learn name source) asks = absurd asks
     other-reply (command.Edit name source prefix wanted) asks = absurd asks
+    other-reply (command.Pursue name goal vars) asks = absurd asks
     other-reply (command.Show name) asks = shown name
     other-reply (command.Save name) asks = save-reply problem old name
     other-reply (command.Certify name) asks = certify-reply problem old name
@@ -200,8 +203,28 @@ module _ (traces-exist : TracesExist leaves_edit) (duo-traces-exist : DuoTracesE
       plan-reply : ¬ ¬ HasReply problem old (command.Plan name goal vars)
       plan-reply never = searches_end task problem.weight (λ end. never (by-end end))
 
+      pursuit-reply : ¬ ¬ HasReply problem old (command.Pursue name goal vars)
+      pursuit-reply never =
+          pursuits_end traces-exist problem valid old.learned.tables (are-learned problem old session) goal vars own old.recorded old.atoms
+          (λ found. never (
+            reply.Pursuit name found.0 (map told_of found.1) found.2.0,
+            (
+              record old { atoms = found.2.1; recorded = [] },
+              (
+                refl,
+                record {
+                  after = found.2.1;
+                  pursues = subst (λ (ts : List TurnValue). IsPursuit leaves_edit problem old.learned.tables goal vars old.recorded old.atoms
+                      found.0 ts found.2.0 found.2.1) (sym (turns-back found.1)) found.2.2;
+                  changed = refl;
+                },
+              ),
+            ),
+          ))
+
     no-learning : (given : Command) → LearnsNothing given → IsOwnGoal problem given → ¬ ¬ HasReply problem old given
     no-learning (command.Plan name goal vars) learns own = plan-reply name goal vars own
+    no-learning (command.Pursue name goal vars) learns own = pursuit-reply name goal vars own
     no-learning (command.Learn name source) learns own = absurd learns
     no-learning (command.Edit name source prefix wanted) learns own = edit-reply problem old name source prefix wanted valid session
     no-learning (command.Show name) learns own = λ never. never (other-reply (command.Show name) tt)
@@ -300,6 +323,8 @@ module _ (traces-exist : TracesExist leaves_edit) (duo-traces-exist : DuoTracesE
         other-reply traces-exist duo-traces-exist stay-ready problem old valid session given asks;
     plans = λ problem old name goal vars valid session own.
         plan-reply traces-exist duo-traces-exist stay-ready problem old valid session name goal vars own;
+    pursued = λ problem old name goal vars valid session own.
+        pursuit-reply traces-exist duo-traces-exist stay-ready problem old valid session name goal vars own;
     learned = learn-reply;
     edited = λ problem old name source prefix wanted valid session. edit-reply problem old name source prefix wanted valid session;
   }

@@ -33,6 +33,7 @@ use Rattle.px_session.proofs.Learned.{are-learned}
 use Rattle.px_session.proofs.OneEditing.{edited-learned}
 use Rattle.px_session.proofs.OneLearning.{any-right, plan-right}
 use Rattle.px_session.proofs.OwnKept.{own-kept}
+use Rattle.px_session.proofs.PursuitRuns.{pursuit-set}
 use Rattle.px_session.proofs.Replied.{replied}
 use Rattle.px_session.proofs.Shapes.{general-alike, general-low, general-short}
 
@@ -135,6 +136,14 @@ kept problem old given answer new valid session own is =
     (λ first second numbers lines new by is. subst (IsSession problem) (sym is.changed)
     (record {
       atoms = duo-set problem (both is.one is.other) old.atoms numbers lines is.after is.runs session.atoms;
+      plans = session.plans;
+      learned = session.learned;
+      few = session.few;
+    }))
+    (λ name goal vars searches told end new by is. subst (IsSession problem) (sym is.changed)
+    (record {
+      atoms = pursuit-set problem old.learned.tables goal vars old.recorded old.atoms searches (map turn_told told) end is.after is.pursues
+          session.atoms;
       plans = session.plans;
       learned = session.learned;
       few = session.few;

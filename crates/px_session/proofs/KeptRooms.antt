@@ -3,6 +3,7 @@ use Rattle.std.specs.Prelude.{◌≡◌, ℕ, Option, Some, IfSome, List, [], �
 use Rattle.std.proofs.Common.{refl, sym, ap, subst, get_or}
 use Rattle.std.proofs.lemmas.List.Elements.{All-head, All-nil, All-tail, All-take, All-weaker}
 use Rattle.px_terms.specs.declared.problem.Problem.{Problem}
+use Rattle.px_terms.specs.declared.atom.Atom.{Atom}
 use Rattle.px_terms.specs.Validity.{IsValid}
 use Rattle.px_world.specs.declared.thing.Thing.{Thing}
 use Rattle.px_rooms.specs.States.{RoomState, first_state}
@@ -14,18 +15,20 @@ use Rattle.px_script.specs.declared.command.Command.{Command}
 use Rattle.px_script.specs.declared.command.Command.TheVariants as command
 use Rattle.px_script.specs.Content.{ScriptValue}
 use Rattle.px_script.specs.Ranges.{IsBuildingOf, IsInRange}
-use Rattle.px_session.specs.Lawful.{Lawful, TellsDuo, TellsRun, turn_told}
-use Rattle.px_session.specs.OwnStates.{IsOwnGoal, edits_given}
+use Rattle.px_session.specs.Lawful.{Lawful, TellsDuo, TellsPursuit, TellsRun, turn_told}
+use Rattle.px_session.specs.OwnStates.{IsOwnGoal, IsOwnPursuit, edits_given}
 use Rattle.px_session.specs.Places.{IsPlaced, Takes}
 use Rattle.px_session.specs.RoomRuns.{AreAnswersIn, HasTakenEdits, IsAnsweredInBuilding, IsInBuilding, LeavesRooms, RoomsAreKept}
 use Rattle.px_session.specs.Sessions.{Edit, IsSession, SessionState, opening}
 use Rattle.px_session.specs.Transcripts.{AreAnswers}
 use Rattle.px_session.proofs.DuoRooms.{duo-in}
-use Rattle.px_session.proofs.Executing.{own-goals, ready-at}
+use Rattle.px_session.proofs.Executing.{own-goals, own-pursuit, ready-at}
 use Rattle.px_session.proofs.Kept.{sessions_are_kept}
+use Rattle.px_session.proofs.Learned.{are-learned}
 use Rattle.px_session.proofs.OneLearning.{any-right}
 use Rattle.px_session.proofs.OwnDuos.{each_table}
 use Rattle.px_session.proofs.Placing.{RunsNothing, placed-duo, placed-later, placed-run, same_taken, takes-later}
+use Rattle.px_session.proofs.PursuitRooms.{pursuit-in}
 use Rattle.px_session.proofs.RoomEdits.{at_first, placed-first}
 use Rattle.px_session.proofs.RoomRuns.{rules-left, run-in, same-left}
 
@@ -101,29 +104,52 @@ module _ (problem : Problem) (old : SessionState) (building : RoomState) (sessio
       )
   duo-answered first second numbers answer new is = absurd is
 
+  pursuit-answered : (name : ℕ) (goal : List Atom) (vars : ℕ) → IsOwnPursuit problem (command.Pursue name goal vars) → (answer : Reply)
+      (new : SessionState) → TellsPursuit problem old name goal vars answer new → Answered (command.Pursue name goal vars) answer new
+  pursuit-answered name goal vars own (reply.Pursuit given searches told end) new is =
+      let run = pursuit-in problem own.0 old.learned.tables (are-learned problem old session) goal vars own.1 old.recorded building old.atoms
+      searches (map turn_told told) end is.1.after
+      (record { is_state = inside.is_state; rules = inside.placed.place.1; taken = inside.placed.edits; facts = inside.placed.place.0 })
+      is.1.pursues in (
+        run.after,
+        record {
+          lawful = is;
+          leaves = run.turned;
+          inside = record {
+            is_state = run.left.state;
+            placed = placed-run problem (Some run.after) new is.1.after (ap (λ (s : SessionState). s.atoms) is.1.changed)
+                (ap (λ (s : SessionState). s.recorded) is.1.changed)
+                (run.facts, rules-left problem building run.after run.left inside.placed.place.1);
+          };
+          same = same-left building run.after run.left;
+        },
+      )
+  pursuit-answered name goal vars own answer new is = absurd is
+
   unmoved : (given : Command) → RunsNothing given → (answer : Reply) (new : SessionState)
       → LeavesRooms old given answer building building
       → HasTakenEdits (Some building) given → Lawful problem old given answer new → Answered given answer new
   unmoved given no_run answer new leaves taken is =
       as-it-was given answer new is leaves (placed-later problem (Some building) old inside.placed given no_run taken answer new is)
 
-  answered : (given : Command) (answer : Reply) (new : SessionState) → HasTakenEdits (Some building) given
+  answered : (given : Command) (answer : Reply) (new : SessionState) → HasTakenEdits (Some building) given → IsOwnPursuit problem given
       → Lawful problem old given answer new
       → Answered given answer new
-  answered (command.Plan name goal vars) answer new taken is = unmoved (command.Plan name goal vars) tt answer new refl taken is
-  answered (command.Learn name source) answer new taken is = unmoved (command.Learn name source) tt answer new refl taken is
-  answered (command.Edit name source prefix wanted) answer new taken is =
+  answered (command.Plan name goal vars) answer new taken own is = unmoved (command.Plan name goal vars) tt answer new refl taken is
+  answered (command.Learn name source) answer new taken own is = unmoved (command.Learn name source) tt answer new refl taken is
+  answered (command.Edit name source prefix wanted) answer new taken own is =
       unmoved (command.Edit name source prefix wanted) tt answer new refl taken is
-  answered (command.Show name) answer new taken is = unmoved (command.Show name) tt answer new refl taken is
-  answered (command.Save name) answer new taken is = unmoved (command.Save name) tt answer new refl taken is
-  answered (command.Certify name) answer new taken is = unmoved (command.Certify name) tt answer new refl taken is
-  answered (command.DisturbAtoms turn between edits) answer new taken is =
+  answered (command.Show name) answer new taken own is = unmoved (command.Show name) tt answer new refl taken is
+  answered (command.Save name) answer new taken own is = unmoved (command.Save name) tt answer new refl taken is
+  answered (command.Certify name) answer new taken own is = unmoved (command.Certify name) tt answer new refl taken is
+  answered (command.DisturbAtoms turn between edits) answer new taken own is =
       unmoved (command.DisturbAtoms turn between edits) tt answer new refl taken is
-  answered (command.DisturbRooms turn between edits) answer new taken is =
+  answered (command.DisturbRooms turn between edits) answer new taken own is =
       unmoved (command.DisturbRooms turn between edits) tt answer new refl taken is
-  answered (command.Run name bound) answer new taken is = run-answered name bound answer new is
-  answered (command.Duo first second numbers) answer new taken is = duo-answered first second numbers answer new is
-  answered command.Facts answer new taken is = unmoved command.Facts tt answer new refl taken is
+  answered (command.Run name bound) answer new taken own is = run-answered name bound answer new is
+  answered (command.Duo first second numbers) answer new taken own is = duo-answered first second numbers answer new is
+  answered (command.Pursue name goal vars) answer new taken own is = pursuit-answered name goal vars own answer new is
+  answered command.Facts answer new taken own is = unmoved command.Facts tt answer new refl taken is
 
 -- ---- all commands
 
@@ -141,7 +167,8 @@ module _ (problem : Problem) (valid : IsValid problem) where
   all-answered (first ∷ commands) [] old building last session inside taken own is = absurd is
   all-answered (first ∷ commands) (answer ∷ answers) old building last session inside taken own (next, lawful, later) =
       let here = answered problem old building session inside first answer next
-      (All-head (HasTakenEdits (Some building)) first commands taken) lawful in
+      (All-head (HasTakenEdits (Some building)) first commands taken)
+      (own-pursuit problem valid first (All-head (IsOwnGoal problem) first commands own)) lawful in
       let rest = all-answered commands answers next here.0 last
       (sessions_are_kept.kept problem old first answer next valid session (All-head (IsOwnGoal problem) first commands own) lawful)
       here.1.inside
@@ -173,8 +200,8 @@ module _ (script : ScriptValue) (things : List Thing) (range : IsInRange script)
 pub rooms_are_kept : RoomsAreKept
 rooms_are_kept = record {
   opened = opens;
-  kept = λ problem old building given answer new session inside taken is. answered problem old building session inside given answer new
-      taken is;
+  kept = λ problem old building given answer new session inside taken own is.
+      answered problem old building session inside given answer new taken own is;
   answers = λ script things count answers last range has is.
       all-answered script.problem range.problem.valid (take count script.commands) answers (opening script.facts script.saved)
       (first_state things) last (sessions_are_kept.scripts script range) (opens script things range has)

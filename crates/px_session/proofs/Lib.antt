@@ -4,10 +4,10 @@ pub mod OneLearning
 pub mod OneEditing
 pub mod OneSaving
 pub mod ExistingEdits
-pub mod EditedTables
 pub mod OneRunning
 pub mod ToldRuns
 pub mod Undisturbed
+pub mod OnePursuit
 pub mod OneReply
 pub mod GivenNames
 pub mod Opening
@@ -22,6 +22,10 @@ pub mod ToldDuos
 pub mod DuoRooms
 pub mod DuosUnderway
 pub mod Ascending
+pub mod PursuitRuns
+pub mod Shifted
+pub mod PursuitsEnd
+pub mod ToldPursuits
 pub mod Kept
 pub mod WritableGoals
 pub mod Writables
@@ -37,10 +41,6 @@ pub mod NamedTerms
 pub mod NamedBlocks
 pub mod NamedReplies
 pub mod Executing
-pub mod Disturbed
-pub mod RunPlaces
-pub mod Underway
-pub mod Acting
 pub mod OwnRuns
 pub mod OwnKept
 pub mod RunReplies
@@ -48,6 +48,7 @@ pub mod Placing
 pub mod RoomEdits
 pub mod Noting
 pub mod RoomRuns
+pub mod PursuitRooms
 pub mod KeptRooms
 pub mod WorkedRoomRuns
 pub mod DuosEnd

@@ -1,20 +1,15 @@
 -- Each lawful reply to a command that is built has its names.
-use Rattle.std.specs.Prelude.{◌≡◌, ◌<◌, ◌+◌, ℕ, cond, not, Option, Some, None, is_some, List, [], ◌∷◌, length, map, All}
-use Rattle.std.proofs.Common.{refl, sym, ap, ◌∙◌, subst, arith}
-use Rattle.std.proofs.lemmas.List.Elements.{All-cons, All-head, All-nil, All-tail, All-weaker}
+use Rattle.std.specs.Prelude.{◌≡◌, ◌<◌, ℕ, cond, not, Option, Some, None, is_some, List, length, map, All}
+use Rattle.std.proofs.Common.{sym, ap, ◌∙◌, subst, arith}
+use Rattle.std.proofs.lemmas.List.Elements.{All-weaker}
 use Rattle.px_base.specs.Answers.{some_same}
-use Rattle.px_base.specs.ListLaws.{All-at, All-each}
 use Rattle.px_names.specs.Lists.{NameLists}
 use Rattle.px_terms.specs.declared.atom.Atom.{Atom}
 use Rattle.px_terms.specs.declared.instance.OpInst.{OpInst}
 use Rattle.px_terms.specs.declared.problem.Problem.{Problem}
-use Rattle.px_terms.specs.declared.term.Term.{Term}
-use Rattle.px_terms.specs.declared.term.Term.TheVariants.{Obj, Var, Any}
-use Rattle.px_terms.specs.Validity.{IsAtomOf, IsTermOf, IsValid}
-use Rattle.px_table.specs.declared.mark.Mark.{Mark}
+use Rattle.px_terms.specs.Validity.{IsAtomOf, IsValid}
 use Rattle.px_table.specs.declared.table.Table.{Table}
-use Rattle.px_table.specs.Tables.{IsStepOf, IsTable}
-use Rattle.px_planex.specs.Turns.{Recorded, TurnValue}
+use Rattle.px_planex.specs.Turns.{Recorded}
 use Rattle.px_ends.specs.Tasks.{Task, task_of}
 use Rattle.px_duo.specs.Duos.{both}
 use Rattle.px_printer.specs.DuoLines.{IsNamedDuoLine}
@@ -22,12 +17,10 @@ use Rattle.px_printer.specs.declared.reply.Reply.{Reply}
 use Rattle.px_printer.specs.declared.reply.Reply.TheVariants as reply
 use Rattle.px_printer.specs.Replies.{IsReplyNamed}
 use Rattle.px_printer.specs.Rows.{IsNamedTable}
-use Rattle.px_printer.specs.Texts.{IsNamedAtom, IsNamedInstance, IsNamedTerm}
-use Rattle.px_printer.specs.Turns.{IsNamedStep, IsNamedTurn}
-use Rattle.px_printer.specs.declared.turn.Turn.{Turn}
+use Rattle.px_printer.specs.Texts.{IsNamedAtom, IsNamedInstance}
 use Rattle.px_script.specs.declared.command.Command.{Command}
 use Rattle.px_script.specs.declared.command.Command.TheVariants as command
-use Rattle.px_session.specs.Lawful.{FindsPlan, Lawful, Notes, TellsCertifying, TellsDuo, TellsEditing, TellsFacts, TellsLearning, TellsRun, TellsSaving, TellsSearch, TellsShow, recorded_for, turn_told}
+use Rattle.px_session.specs.Lawful.{FindsPlan, Lawful, Notes, TellsCertifying, TellsDuo, TellsEditing, TellsFacts, TellsLearning, TellsPursuit, TellsRun, TellsSaving, TellsSearch, TellsShow, recorded_for, turn_told}
 use Rattle.px_session.specs.Named.{AreNamesOfProblem, IsTellable, RepliesAreNamed}
 use Rattle.px_session.specs.Sessions.{Edit, IsLearnedTable, IsPlanTable, IsSession, SessionState, any_table, of_atoms, of_rooms}
 use Rattle.px_session.proofs.FoundTables.{found-table}
@@ -37,6 +30,7 @@ use Rattle.px_session.proofs.NamedTerms.{named-atoms, named-step-of, named-steps
 use Rattle.px_session.proofs.OneLearning.{any-right}
 use Rattle.px_session.proofs.OwnDuos.{duo-steps, each_table}
 use Rattle.px_session.proofs.OwnRuns.{IsOwnStep, run-steps}
+use Rattle.px_session.proofs.PursuitRuns.{pursuit-steps}
 
 -- a result of the same number has its name
 same-result : (given name results : ℕ) → given ≡ name → name < results → given < results
@@ -76,6 +70,14 @@ module _ (problem : Problem) (names : NameLists) (all : AreNamesOfProblem proble
     named-search (reply.NodeLimit given nodes moves) new below is = same-result given name (length names.results) is.0 below
     named-search (reply.ShapeLimit given node formula shapes) new below is = same-result given name (length names.results) is.0 below
     named-search answer new below is = absurd is
+
+    named-pursuit : (answer : Reply) (new : SessionState) → name < length names.results
+        → TellsPursuit problem old name goal vars answer new → IsReplyNamed names answer
+    named-pursuit (reply.Pursuit given searches told end) new below is =
+        let steps = pursuit-steps problem old.learned.tables goal vars old.recorded valid (are-learned problem old session) own old.atoms
+        searches (map turn_told told) end is.1.after is.1.pursues in
+        (same-result given name (length names.results) is.0 below, named-turns problem names all told steps)
+    named-pursuit answer new below is = absurd is
 
   module _ (old : SessionState) (plans : All (IsPlanTable problem) old.plans.tables)
       (learned : All (IsLearnedTable problem) old.learned.tables) where
@@ -177,6 +179,8 @@ pub named-each : (problem : Problem) (names : NameLists) (old : SessionState) (g
     → IsTellable problem (length names.results) given → Lawful problem old given answer new → IsReplyNamed names answer
 named-each problem names old (command.Plan name goal vars) answer new valid all atoms session tellable is =
     named-search problem names all valid old session goal vars tellable.1 name answer new tellable.0 is
+named-each problem names old (command.Pursue name goal vars) answer new valid all atoms session tellable is =
+    named-pursuit problem names all valid old session goal vars tellable.1 name answer new tellable.0 is
 named-each problem names old (command.Show name) answer new valid all atoms session tellable is =
     named-show problem names all old session.plans session.learned name answer new tellable is
 named-each problem names old (command.Save name) answer new valid all atoms session tellable is =

@@ -20,6 +20,7 @@ use Rattle.px_session.specs.Sessions.{Edit, IsSession, SessionState, any_table, 
 use Rattle.px_session.proofs.OneDuo.{duo-one}
 use Rattle.px_session.proofs.OneEditing.{editing-one}
 use Rattle.px_session.proofs.OneLearning.{learning-one, none_or_some, one_some}
+use Rattle.px_session.proofs.OnePursuit.{pursuit-one, pursuit-text}
 use Rattle.px_session.proofs.OneRunning.{run-one}
 use Rattle.px_session.proofs.OneSaving.{certifying-one, saving-one}
 use Rattle.px_session.proofs.OneSearch.{search-one}
@@ -74,15 +75,17 @@ reply-one problem old (command.Run name bound) one other new later valid session
     run-one problem old name bound one other new later p q
 reply-one problem old (command.Duo first second numbers) one other new later valid session p q =
     duo-one problem old first second numbers one other new later p q
+reply-one problem old (command.Pursue name goal vars) one other new later valid session p q =
+    pursuit-one problem old name goal vars one other new later p q
 reply-one problem old command.Facts one other new later valid session p q = facts-one old one other new later p q
 
 pub text-one : (names : NameLists) (one other : Reply) → SameReply one other → reply_text names one ≡ reply_text names other
-text-one names one other same = elim same [
-  | inl is ↦ ap (reply_text names) is
-  | inr are ↦ ap (reply_text names) are.one_is
-      ∙ ap (λ n. text_line (codes "shapelimit" ∷ name_text names kind.Result are.name ∷ decimal n ∷ codes "shapes" ∷ [])) are.as_many
-      ∙ sym (ap (reply_text names) are.other_is)
-]
+text-one names one other (inl is) = ap (reply_text names) is
+text-one names one other (inr (inl are)) =
+    ap (reply_text names) are.one_is
+    ∙ ap (λ n. text_line (codes "shapelimit" ∷ name_text names kind.Result are.name ∷ decimal n ∷ codes "shapes" ∷ [])) are.as_many
+    ∙ sym (ap (reply_text names) are.other_is)
+text-one names one other (inr (inr are)) = pursuit-text names one other are
 
 pub lawful_is_one : LawfulIsOne
 lawful_is_one = record { replies = reply-one; texts = text-one }

@@ -41,7 +41,7 @@ turns_told (turn ∷ turns) =
     let rest = turns_told turns in
     λ i. one i ∷ rest i
 
-same-told : (turns others : List Turn) → map turn_told turns ≡ map turn_told others → turns ≡ others
+pub same-told : (turns others : List Turn) → map turn_told turns ≡ map turn_told others → turns ≡ others
 same-told turns others same = turns_told turns ∙ ap (map told_turn) same ∙ sym (turns_told others)
 
 -- ---- replies

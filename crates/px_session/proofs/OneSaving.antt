@@ -1,5 +1,5 @@
 -- Commands to save and to certify have one lawful reply each.
-use Rattle.std.specs.Prelude.{◌≡◌, ◌⊎◌, ◌<◌, ◌≤◌, ℕ, Option, Some, None, List, [], ◌∷◌, length, Any}
+use Rattle.std.specs.Prelude.{◌≡◌, ◌⊎◌, ◌<◌, ℕ, Option, Some, None, List, [], ◌∷◌, length, Any}
 use Rattle.std.proofs.Common.{zero, suc, refl, sym, ap, ◌∙◌, subst, arith, inl, inr}
 use Rattle.px_terms.specs.declared.problem.Problem.{Problem}
 use Rattle.px_proof.specs.Derivation.{Derivation, height}
@@ -16,7 +16,7 @@ use Rattle.px_script.specs.declared.command.Command.TheVariants as command
 use Rattle.px_script.specs.declared.limits.TheConstants.{LAST_NUMBER as last_number}
 use Rattle.px_session.specs.Determined.{SameReply}
 use Rattle.px_session.specs.Existing.{HasReply}
-use Rattle.px_session.specs.Lawful.{IsCertified, IsNotSaved, IsSaved, RefusesSaving, TellsCertifying, TellsSaving}
+use Rattle.px_session.specs.Lawful.{IsNotSaved, IsSaved, RefusesSaving, TellsCertifying, TellsSaving}
 use Rattle.px_session.specs.Sessions.{SessionState, any_table}
 use Rattle.px_session.proofs.OneLearning.{none_or_some, one_some}
 

@@ -65,7 +65,7 @@ search-one task name old (reply.ShapeLimit n node formula shapes) (reply.Exhaust
 search-one task name old (reply.ShapeLimit n node formula shapes) (reply.NodeLimit m nodes d) new later p q =
     absurd (value_ends_are_one.shape_limit_or_node_limit task task.problem.weight node formula shapes nodes d p.1 q.1)
 search-one task name old (reply.ShapeLimit n node formula shapes) (reply.ShapeLimit m other others kept) new later p q = (
-  inr (record {
+  inr (inl (record {
     name = n;
     node = node;
     also_node = other;
@@ -76,7 +76,7 @@ search-one task name old (reply.ShapeLimit n node formula shapes) (reply.ShapeLi
     one_is = refl;
     other_is = ap (λ x. reply.ShapeLimit x other others kept) (q.0 ∙ sym p.0);
     as_many = value_ends_are_one.shapes task task.problem.weight node formula shapes p.1 ∙ sym (value_ends_are_one.shapes task task.problem.weight other others kept q.1);
-  }),
+  })),
   p.2 ∙ sym q.2,
 )
 search-one task name old (reply.Plan n c s) other new later p q = absurd q

@@ -8,21 +8,23 @@ use Rattle.px_planex.specs.Turns.{Recorded}
 use Rattle.px_printer.specs.declared.reply.Reply.{Reply}
 use Rattle.px_script.specs.declared.command.Command.{Command}
 use Rattle.px_session.specs.Lawful.{Lawful, recorded_for, turn_told}
-use Rattle.px_session.specs.OwnStates.{HasOwnEdits, IsOwnEdit, IsOwnState, edits_given}
+use Rattle.px_session.specs.OwnStates.{HasOwnEdits, IsOwnEdit, IsOwnPursuit, IsOwnState, edits_given}
 use Rattle.px_session.specs.Sessions.{Edit, IsSession, SessionState}
 use Rattle.px_session.proofs.OneLearning.{any-right}
 use Rattle.px_duo.specs.Duos.{both}
 use Rattle.px_session.proofs.OwnRuns.{run-own}
+use Rattle.px_session.proofs.Learned.{are-learned}
 use Rattle.px_session.proofs.OwnDuos.{duo-own, each_table}
+use Rattle.px_session.proofs.PursuitRuns.{pursuit-own}
 use Rattle.px_session.proofs.Replied.{replied}
 
 abbrev HasOwn : Problem → Recorded Edit → Type 0
 HasOwn problem one = All (IsOwnEdit problem) one.edits
 
 pub own-kept : (problem : Problem) (old : SessionState) (given : Command) (answer : Reply) (new : SessionState) → IsValid problem
-    → IsSession problem old → IsOwnState problem old → HasOwnEdits problem given → Lawful problem old given answer new
+    → IsSession problem old → IsOwnState problem old → HasOwnEdits problem given → IsOwnPursuit problem given → Lawful problem old given answer new
     → IsOwnState problem new
-own-kept problem old given answer new valid session own edits is =
+own-kept problem old given answer new valid session own edits pursuit is =
     replied problem old given (IsOwnState problem) own
     (λ name goal vars count steps new by is. record { atoms = own.atoms; edits = own.edits })
     (λ name source params steps new by is. subst (IsOwnState problem) (sym is.learned) (record { atoms = own.atoms; edits = own.edits }))
@@ -48,5 +50,11 @@ own-kept problem old given answer new valid session own edits is =
       atoms = duo-own problem (both is.one is.other) (each_table problem is.one is.other one other) valid old.atoms numbers lines is.after
           is.runs own.atoms;
       edits = own.edits;
+    }))
+    (λ name goal vars searches told end new by is. subst (IsOwnState problem) (sym is.changed)
+    (record {
+      atoms = pursuit-own problem old.learned.tables goal vars old.recorded valid (are-learned problem old session)
+          (subst (IsOwnPursuit problem) by pursuit).1 old.atoms searches (map turn_told told) end is.after is.pursues own.edits own.atoms;
+      edits = All-nil (HasOwn problem);
     }))
     answer new is

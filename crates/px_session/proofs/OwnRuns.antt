@@ -34,7 +34,7 @@ use Rattle.px_planex.specs.Executors.{IsActable}
 use Rattle.px_planex.specs.Turns.{EndsTurn, Recorded, RunsTable, TakesTurn, TakesTurns, TurnValue, disturbed_by, edits_at}
 use Rattle.px_session.specs.OwnStates.{AreOwnEdits, IsOwnEdit}
 use Rattle.px_session.specs.Sessions.{Edit, leaves_edit, of_atoms, of_rooms}
-use Rattle.px_session.proofs.Walks.{run-keeps}
+use Rattle.px_session.proofs.Walks.{turns-keep}
 
 -- the step, if there is one, is an instance of an operator of the problem
 abbrev pub IsOwnStep : Problem → Option OpInst → Type 0
@@ -111,7 +111,7 @@ module _ (problem : Problem) (table : Table) (is_table : IsTable problem table) 
   turn-step before between old turn new (outcome, (sensed, senses, ends)) =
       ends-step between sensed outcome turn new ends (sense-can outcome (disturbed_by leaves_edit before old) sensed senses)
 
-  turns-steps : (recorded : List (Recorded Edit)) (number : ℕ) (old : Running) (turns : List TurnValue) (new : Running)
+  pub turns-steps : (recorded : List (Recorded Edit)) (number : ℕ) (old : Running) (turns : List TurnValue) (new : Running)
       → TakesTurns leaves_edit problem table bound recorded number old turns new → All HasOwnStep turns
   turns-steps recorded number old [] new is = absurd is
   turns-steps recorded number old (turn ∷ turns) new (mid, takes, inl (last, none, same)) =
@@ -176,8 +176,14 @@ module _ (problem : Problem) where
           subst (λ (r : Running). AreOwn r.atoms) (sym left)
           (result-own before.atoms inst (kernel-own problem table is_table bound kernel inst able.2 at) own)
 
+      -- turns from any number on
+      pub turns-own : (recorded : List (Recorded Edit)) (number : ℕ) (old : Running) (turns : List TurnValue) (new : Running)
+          → AreOwnEdits problem recorded
+          → TakesTurns leaves_edit problem table bound recorded number old turns new → AreOwn old.atoms → AreOwn new.atoms
+      turns-own recorded number old turns new edits takes own =
+          turns-keep leaves_edit problem table bound AreOwn (IsOwnEdit problem) edit-own acts-own recorded number old turns new edits takes own
+
       pub run-own : (recorded : List (Recorded Edit)) (atoms : List Atom) (turns : List TurnValue) (after : List Atom)
           → AreOwnEdits problem recorded
           → RunsTable leaves_edit problem table bound recorded atoms turns after → AreOwn atoms → AreOwn after
-      run-own recorded atoms turns after edits runs own =
-          run-keeps leaves_edit problem table bound AreOwn (IsOwnEdit problem) edit-own acts-own recorded atoms turns after edits runs own
+      run-own recorded atoms turns after edits (memory, takes) own = turns-own recorded 1 _ turns _ edits takes own

@@ -1,7 +1,7 @@
 -- Which edits a session's world takes, and that its atoms are its building's facts.
 use Rattle.std.specs.Prelude.{◌≡◌, ℕ, Bool, Option, Result, Ok, Err, IfOk, OnOk, List, [], All}
 use Rattle.std.proofs.Common.{refl, sym, subst}
-use Rattle.std.proofs.lemmas.List.Elements.{All-nil, All-push, All-weaker}
+use Rattle.std.proofs.lemmas.List.Elements.{All-nil, All-push}
 use Rattle.px_terms.specs.declared.atom.Atom.{Atom}
 use Rattle.px_terms.specs.declared.problem.Problem.{Problem}
 use Rattle.px_world.specs.Worlds.{HaveSameRules}
@@ -18,26 +18,23 @@ use Rattle.px_session.specs.OwnStates.{edits_given}
 use Rattle.px_session.specs.Places.{IsPlaceInBuilding, IsPlaced, TakeSame, Takes, TakesAll, building_of, place_atoms, place_rules}
 use Rattle.px_session.specs.RoomRuns.{HasTakenEdits}
 use Rattle.px_session.specs.Sessions.{Edit, SessionState}
+use Rattle.px_turns.proofs.Admitting.{admit-both, admit-same, admitted-later, all-later}
 use Rattle.px_session.proofs.Replied.{replied}
 
 -- ---- the same edits
 
 pub same_taken : (building : Option RoomState) → TakeSame building building
-same_taken building = record { same = λ edit. (λ is. is, λ is. is) }
+same_taken building = admit-same (Takes building)
 
 pub same-both : (old mid new : Option RoomState) → TakeSame old mid → TakeSame mid new → TakeSame old new
-same-both old mid new first second = record {
-  same = λ edit. (λ is. (first.same edit).0 ((second.same edit).0 is), λ is. (second.same edit).1 ((first.same edit).1 is));
-}
+same-both old mid new first second = admit-both (Takes old) (Takes mid) (Takes new) first second
 
 pub takes-later : (old new : Option RoomState) (edits : List Edit) → TakeSame old new → All (Takes old) edits → All (Takes new) edits
-takes-later old new edits same all = All-weaker (Takes old) (Takes new) (λ edit is. (same.same edit).1 is) edits all
+takes-later old new edits same all = admitted-later (Takes old) (Takes new) edits same all
 
 pub takes-all-later : (old new : Option RoomState) (recorded : List (Recorded Edit)) → TakeSame old new → TakesAll old recorded
     → TakesAll new recorded
-takes-all-later old new recorded same all =
-    All-weaker (λ (one : Recorded Edit). All (Takes old) one.edits) (λ (one : Recorded Edit). All (Takes new) one.edits)
-    (λ one is. takes-later old new one.edits same is) recorded all
+takes-all-later old new recorded same all = all-later (Takes old) (Takes new) recorded same all
 
 -- ---- the building
 
@@ -53,6 +50,7 @@ place-left problem (Rooms building) same = (refl, same)
 abbrev pub RunsNothing : Command → Type 0
 RunsNothing (command.Run name bound) = ⊥
 RunsNothing (command.Duo first second numbers) = ⊥
+RunsNothing (command.Pursue name goal vars) = ⊥
 RunsNothing _ = Unit {0}
 
 pub placed-later : (problem : Problem) (building : Option RoomState) (old : SessionState) → IsPlaced problem building old
@@ -73,6 +71,7 @@ placed-later problem building old placed given no_run taken answer new is =
     })
     (λ name bound told new by is. absurd (subst RunsNothing by no_run))
     (λ first second numbers lines new by is. absurd (subst RunsNothing by no_run))
+    (λ name goal vars searches told end new by is. absurd (subst RunsNothing by no_run))
     answer new is
 
 -- what is noted is placed, where its edits are taken

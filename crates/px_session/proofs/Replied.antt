@@ -7,17 +7,18 @@ use Rattle.px_terms.specs.declared.problem.Problem.{Problem}
 use Rattle.px_library.specs.Libraries.{with_table}
 use Rattle.px_ends.specs.Tasks.{task_of}
 use Rattle.px_printer.specs.declared.duo_line.DuoLine.{DuoLine}
+use Rattle.px_printer.specs.declared.pursue_end.PursueEnd.{PursueEnd}
 use Rattle.px_printer.specs.declared.reply.Reply.{Reply}
 use Rattle.px_printer.specs.declared.reply.Reply.TheVariants as reply
 use Rattle.px_printer.specs.declared.turn.Turn.{Turn}
 use Rattle.px_script.specs.declared.command.Command.{Command}
 use Rattle.px_script.specs.declared.command.Command.TheVariants as command
-use Rattle.px_session.specs.Lawful.{FindsPlan, IsDuoOf, IsEditedInto, IsLearned, IsRunOf, Lawful, Notes, TellsCertifying, TellsDuo, TellsEditing, TellsFacts, TellsLearning, TellsRun, TellsSaving, TellsSearch, TellsShow, recorded_for}
+use Rattle.px_session.specs.Lawful.{FindsPlan, IsDuoOf, IsEditedInto, IsLearned, IsPursuitOf, IsRunOf, Lawful, Notes, TellsCertifying, TellsDuo, TellsEditing, TellsFacts, TellsLearning, TellsPursuit, TellsRun, TellsSaving, TellsSearch, TellsShow, recorded_for}
 use Rattle.px_session.specs.OwnStates.{edits_given}
 use Rattle.px_session.specs.Sessions.{Edit, SessionState, of_atoms, of_rooms}
 
--- What holds of the state, and of each state that one more plan, one more learned or edited table, one more disturbance, a run or two executors leave of it, holds
--- of the state after each lawful reply.
+-- What holds of the state, and of each state that one more plan, one more learned or edited table, one more disturbance, a run, two
+-- executors or a pursuit leave of it, holds of the state after each lawful reply.
 module _ (problem : Problem) (old : SessionState) (given : Command) (P : SessionState → Type 0) (same : P old)
     (stored : (name : ℕ) (goal : List Atom) (vars count : ℕ) (steps : List OpInst) (new : SessionState) → given ≡ command.Plan name goal vars
     → (is : FindsPlan (task_of problem old.learned.tables old.atoms goal vars) name old count steps new)
@@ -30,7 +31,9 @@ module _ (problem : Problem) (old : SessionState) (given : Command) (P : Session
     (ran : (name : ℕ) (bound : List (ℕ × ℕ)) (told : List Turn) (new : SessionState) → given ≡ command.Run name bound
     → IsRunOf problem name bound old told new → P new)
     (dual : (first second : ℕ) (numbers : List ℕ) (lines : List DuoLine) (new : SessionState) → given ≡ command.Duo first second numbers
-    → IsDuoOf problem first second numbers old lines new → P new) where
+    → IsDuoOf problem first second numbers old lines new → P new)
+    (pursued : (name : ℕ) (goal : List Atom) (vars searches : ℕ) (told : List Turn) (end : PursueEnd) (new : SessionState)
+    → given ≡ command.Pursue name goal vars → IsPursuitOf problem goal vars old searches told end new → P new) where
   unchanged : (new : SessionState) → new ≡ old → P new
   unchanged new is = subst P (sym is) same
 
@@ -94,6 +97,11 @@ module _ (problem : Problem) (old : SessionState) (given : Command) (P : Session
   after-duo first second numbers by (reply.DuoRan one other lines) new is = dual first second numbers lines new by is.2
   after-duo first second numbers by answer new is = absurd is
 
+  after-pursuit : (name : ℕ) (goal : List Atom) (vars : ℕ) → given ≡ command.Pursue name goal vars → (answer : Reply) (new : SessionState)
+      → TellsPursuit problem old name goal vars answer new → P new
+  after-pursuit name goal vars by (reply.Pursuit told searches turns end) new is = pursued name goal vars searches turns end new by is.1
+  after-pursuit name goal vars by answer new is = absurd is
+
   after-facts : (answer : Reply) (new : SessionState) → TellsFacts old answer new → P new
   after-facts (reply.FactsAre atoms) new is = unchanged new is.2
   after-facts answer new is = absurd is
@@ -112,6 +120,7 @@ module _ (problem : Problem) (old : SessionState) (given : Command) (P : Session
       after-notes turn between (map of_rooms edits) (ap edits_given by) answer new is
   after-reply (command.Run name bound) by answer new is = after-run name bound by answer new is
   after-reply (command.Duo first second numbers) by answer new is = after-duo first second numbers by answer new is
+  after-reply (command.Pursue name goal vars) by answer new is = after-pursuit name goal vars by answer new is
   after-reply command.Facts by answer new is = after-facts answer new is
 
   pub replied : (answer : Reply) (new : SessionState) → Lawful problem old given answer new → P new

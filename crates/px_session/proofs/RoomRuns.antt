@@ -104,6 +104,14 @@ pub record Does (problem : Problem) (inst : OpInst) (building : RoomState) : Typ
   pub left : IsLeft building after
   pub facts : rendering after ≡ result_of problem (rendering building) inst
 
+-- turns leave a state, and these atoms are its facts
+pub record RunLeaves (recorded : List (Recorded Edit)) (number : ℕ) (turns : List TurnValue) (building : RoomState)
+    (atoms : List Atom) : Type 0 where
+  pub after : RoomState
+  pub turned : AreTurnsInRooms recorded number turns building after
+  pub left : IsLeft building after
+  pub facts : atoms ≡ rendering after
+
 module _ (problem : Problem) (table : Table) (is_table : IsTable problem table) (bound : List (ℕ × ℕ)) where
   -- where the marks of a kernel's row are facts, the precondition of its step is met
   row-meets : (building : RoomState) → IsRoomState building → HaveSameRules (building_rules building) problem
@@ -223,15 +231,7 @@ module _ (problem : Problem) (table : Table) (is_table : IsTable problem table) 
         facts = rest.facts;
       }
 
-  -- turns leave a state, and these atoms are its facts
-  pub record RunLeaves (recorded : List (Recorded Edit)) (number : ℕ) (turns : List TurnValue) (building : RoomState)
-      (atoms : List Atom) : Type 0 where
-    pub after : RoomState
-    pub turned : AreTurnsInRooms recorded number turns building after
-    pub left : IsLeft building after
-    pub facts : atoms ≡ rendering after
-
-  turns-in : (recorded : List (Recorded Edit)) (number : ℕ) (building : RoomState) (old : Running) (turns : List TurnValue) (new : Running)
+  pub turns-in : (recorded : List (Recorded Edit)) (number : ℕ) (building : RoomState) (old : Running) (turns : List TurnValue) (new : Running)
       → IsRoomState building → HaveSameRules (building_rules building) problem → TakesAll (Some building) recorded
       → old.atoms ≡ rendering building
       → TakesTurns leaves_edit problem table bound recorded number old turns new → RunLeaves recorded number turns building new.atoms

@@ -10,7 +10,7 @@ use Rattle.px_match.specs.Matching.{first_bad}
 use Rattle.px_planex.specs.Turns.{RunsTable}
 use Rattle.px_printer.specs.declared.turn.Turn.{Turn}
 use Rattle.px_session.specs.Lawful.{IsRunOf, first_unknown}
-use Rattle.px_session.specs.Running.{turn_told}
+use Rattle.px_turns.specs.Told.{turn_told}
 use Rattle.px_session.specs.Sessions.{SessionState, any_table, leaves_edit}
 
 -- ---- parameters from 1 on are bad where they are above the table's

@@ -10,7 +10,7 @@ use Rattle.px_planex.specs.declared.event.Event.TheVariants.{Sense, Act}
 use Rattle.px_planex.specs.declared.event.Outcome.{Outcome}
 use Rattle.px_planex.specs.declared.event.Outcome.TheVariants.{Disturbed, Sensed, Acted, Slipped, Goal, NoKernel, NotSensed}
 use Rattle.px_planex.specs.Execution.{Happens, Running}
-use Rattle.px_planex.specs.Turns.{EndsTurn, Recorded, RunsTable, TakesTurn, TakesTurns, TurnValue, after_edits, disturbed_by, edits_at, is_at}
+use Rattle.px_planex.specs.Turns.{EndsTurn, Recorded, TakesTurn, TakesTurns, TurnValue, after_edits, disturbed_by, edits_at, is_at}
 
 module _ {E : Type 0} (P : E → Type 0) where
   abbrev pub OfAll : Recorded E → Type 0
@@ -74,7 +74,7 @@ module _ {E : Type 0} (leaves : E → List Atom → List Atom) (problem : Proble
         ends-keep between disturbed sensed outcome turn new second senses ends
         (subst P (sym (sense-atoms outcome disturbed sensed senses)) (edits-keep before old.atoms first holds))
 
-    turns-keep : (recorded : List (Recorded E)) (number : ℕ) (old : Running) (turns : List TurnValue) (new : Running)
+    pub turns-keep : (recorded : List (Recorded E)) (number : ℕ) (old : Running) (turns : List TurnValue) (new : Running)
         → All (OfAll Own) recorded
         → TakesTurns leaves problem table bound recorded number old turns new → Holds old → Holds new
     turns-keep recorded number old [] new own is holds = absurd is
@@ -86,8 +86,3 @@ module _ {E : Type 0} (leaves : E → List Atom → List Atom) (problem : Proble
         turns-keep recorded (suc number) mid turns new own later
         (turn-keeps (edits_at recorded number false) (edits_at recorded number true) old turn mid (all-at Own recorded number false own)
         (all-at Own recorded number true own) takes holds)
-
-    pub run-keeps : (recorded : List (Recorded E)) (atoms : List Atom) (turns : List TurnValue) (after : List Atom)
-        → All (OfAll Own) recorded
-        → RunsTable leaves problem table bound recorded atoms turns after → P atoms → P after
-    run-keeps recorded atoms turns after own (memory, takes) holds = turns-keep recorded 1 _ turns _ own takes holds

@@ -1,11 +1,11 @@
 -- The last variable of a goal, and what becomes of the goal under objects.
-use Rattle.std.specs.Prelude.{◌≡◌, ◌≤◌, ◌<◌, ◌+◌, ◌-◌, ◌==◌, ℕ, not, max, fold, Some, List, [], ◌∷◌, ◌++◌, length, map, flat_map, filter, All, Contains}
+use Rattle.std.specs.Prelude.{◌≡◌, ◌≤◌, ◌<◌, ◌+◌, ◌-◌, ◌==◌, ℕ, not, max, fold, List, [], ◌∷◌, ◌++◌, length, map, flat_map, filter, All, Contains}
 use Rattle.std.specs.List.{filter_map, range_with_len}
 use Rattle.std.proofs.Common.{zero, suc, refl, sym, ap, ◌∙◌, subst, arith, inl, inr}
 use Rattle.std.proofs.lemmas.List.{length-map}
 use Rattle.std.proofs.lemmas.List.Elements.{All-head, All-map, All-tail}
 use Rattle.std.proofs.lemmas.List.FromFn.{get_or-range_with_len, length-range_with_len}
-use Rattle.px_base.specs.ListLaws.{All-at, All-each, Contains-cases, Contains-filter, Contains-first, Contains-later, Contains-none}
+use Rattle.px_base.specs.ListLaws.{All-at, Contains-cases, Contains-filter, Contains-first, Contains-later, Contains-none}
 use Rattle.px_terms.specs.declared.atom.Atom.{Atom}
 use Rattle.px_terms.specs.declared.problem.Problem.{Problem}
 use Rattle.px_terms.specs.declared.term.Term.{Term}

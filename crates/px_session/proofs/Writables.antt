@@ -1,6 +1,5 @@
 -- Each table that a session keeps can be written.
-use Rattle.std.specs.Prelude.{◌≡◌, ◌≤◌, ◌<◌, ◌+◌, ◌-◌, ℕ, Option, List, [], ◌∷◌, ◌++◌, length, map, flat_map, slice_index_or, All, Contains}
-use Rattle.std.specs.List.{range_with_len}
+use Rattle.std.specs.Prelude.{◌≡◌, ◌≤◌, ◌+◌, ◌-◌, ℕ, Option, List, [], ◌∷◌, ◌++◌, length, map, slice_index_or, All}
 use Rattle.std.proofs.Common.{zero, suc, refl, sym, ap, ◌∙◌, subst, arith, inl, inr}
 use Rattle.std.proofs.lemmas.List.{length-map}
 use Rattle.std.proofs.lemmas.List.Elements.{All-append, All-cons, All-head, All-map, All-nil, All-tail, All-weaker}
@@ -14,7 +13,7 @@ use Rattle.px_terms.specs.declared.term.Term.TheVariants.{Obj}
 use Rattle.px_terms.specs.Language.{substitute}
 use Rattle.px_terms.specs.Operators.{adds, no_schema, schema_of}
 use Rattle.px_terms.specs.Substitution.{substitute_atom}
-use Rattle.px_terms.specs.Validity.{IsAtomOf, IsSchemaOf, IsValid}
+use Rattle.px_terms.specs.Validity.{IsAtomOf, IsValid}
 use Rattle.px_proof.specs.Derivation.{no_atom}
 use Rattle.px_table.specs.declared.table.Table.{Table}
 use Rattle.px_table.specs.Kernels.{IsProper, goal_under}
@@ -233,6 +232,8 @@ writable-kept problem old given answer new valid session written asks is =
     (λ name bound told new by is. subst (HasWritableTables problem) (sym is.changed)
     (record { plans = written.plans; learned = written.learned }))
     (λ first second numbers lines new by is. subst (HasWritableTables problem) (sym is.changed)
+    (record { plans = written.plans; learned = written.learned }))
+    (λ name goal vars searches told end new by is. subst (HasWritableTables problem) (sym is.changed)
     (record { plans = written.plans; learned = written.learned }))
     answer new is
 

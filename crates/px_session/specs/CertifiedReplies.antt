@@ -43,8 +43,8 @@ pub record IsCertifiableProblem (problem : Problem) : Type 0 where
   pub predicates : AreAtMost most_predicates (λ arity. arity ≤ most_arguments) problem.arities
   pub operators : AreAtMost most_operators IsShortSchema problem.schemas
 
--- Where a session's tables can be written and its problem is within the limits of certificates, the bytes of a lawful reply to `certify` are
--- accepted. So are those of each script, after however many of its commands.
+-- Where a session's tables can be written and its problem is within the limits of certificates, the bytes of a lawful reply to `certify`
+-- are accepted. So are those of each script, after however many of its commands.
 pub record CertificatesAreAccepted : Type 0 where
   pub replies : (problem : Problem) (old : SessionState) (given : Command) (answer : Reply) (new : SessionState) → IsValid problem
       → IsCertifiableProblem problem → IsSession problem old → HasWritableTables problem old → Lawful problem old given answer new

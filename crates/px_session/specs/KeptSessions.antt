@@ -8,7 +8,7 @@ use Rattle.px_terms.specs.declared.atom.Atom.{Atom}
 use Rattle.px_terms.specs.declared.problem.Problem.{Problem}
 use Rattle.px_terms.specs.Validity.{IsAtomOf, IsValid}
 use Rattle.px_script.specs.declared.command.Command.{Command}
-use Rattle.px_script.specs.declared.command.Command.TheVariants.{Plan, Run}
+use Rattle.px_script.specs.declared.command.Command.TheVariants.{Plan, Pursue, Run}
 use Rattle.px_script.specs.declared.command.Command.TheVariants as command
 use Rattle.px_rooms.specs.States.{RoomState}
 use Rattle.px_script.specs.Ranges.{result_given}
@@ -45,6 +45,7 @@ pub record AreAddsToWant (wanted : List (ℕ × ℕ)) : Type 0 where
 -- what running a command asks of the problem's numbers in it
 abbrev pub IsAnswerable : Problem → Command → Type 0
 IsAnswerable problem (Plan name goal vars) = IsGoalToPlan problem goal vars
+IsAnswerable problem (Pursue name goal vars) = IsGoalToPlan problem goal vars
 IsAnswerable problem (Run name bound) = IsBindingToRun problem bound
 IsAnswerable problem (command.Edit name source prefix wanted) = AreAddsToWant wanted
 IsAnswerable problem _ = Unit {0}

@@ -10,9 +10,9 @@ use Rattle.px_table.specs.declared.table.Table.{Table}
 use Rattle.px_general.specs.General.{Generalises}
 use Rattle.px_general.specs.Limits.{IsTooDeep, IsTooLong, IsTooWide}
 use Rattle.px_library.specs.Libraries.{table_named, with_table}
-use Rattle.px_planex.specs.Turns.{AtGoal, AtNoKernel, ByActing, BySlipping, Recorded, RunsTable, TurnValue}
-use Rattle.px_planex.specs.Turns as executed
+use Rattle.px_planex.specs.Turns.{Recorded, RunsTable}
 use Rattle.px_duo.specs.Duos.{both}
+use Rattle.px_pursue.specs.Pursuits.{IsPursuit}
 use Rattle.px_cert.specs.Certificates.{certificate_text}
 use Rattle.px_edit.specs.EditCauses.{IsBadPrefix, IsEditable, IsFirstBadWant, KeepsTooDeep, KeepsTooMany}
 use Rattle.px_edit.specs.Editing.{IsEdited}
@@ -20,6 +20,7 @@ use Rattle.px_ends.specs.ByValue.{IsExhausted, IsFound, IsNodeLimit, IsShapeLimi
 use Rattle.px_ends.specs.Made.{IsTableOfMoves}
 use Rattle.px_ends.specs.Tasks.{Task, steps_of, task_of}
 use Rattle.px_printer.specs.declared.duo_line.DuoLine.{DuoLine}
+use Rattle.px_printer.specs.declared.pursue_end.PursueEnd.{PursueEnd}
 use Rattle.px_printer.specs.declared.reply.EditWhy.{EditWhy}
 use Rattle.px_printer.specs.declared.reply.EditWhy.TheVariants as edit_why
 use Rattle.px_printer.specs.declared.reply.Reply.{Reply}
@@ -29,8 +30,7 @@ use Rattle.px_printer.specs.declared.reply.SaveWhy.TheVariants as save_why
 use Rattle.px_printer.specs.declared.reply.Why.{Why}
 use Rattle.px_printer.specs.declared.reply.Why.TheVariants.{TooLong, TooDeep, TooWide, Full}
 use Rattle.px_printer.specs.declared.turn.Turn.{Turn}
-use Rattle.px_printer.specs.declared.turn.TurnEnd.{TurnEnd}
-use Rattle.px_printer.specs.declared.turn.TurnEnd.TheVariants.{Acted, Slipped, Goal, NoKernel}
+pub use Rattle.px_turns.specs.Told.{end_told, turn_told}
 use Rattle.px_script.specs.declared.command.Command.{Command}
 use Rattle.px_script.specs.declared.command.Command.TheVariants as command
 use Rattle.px_script.specs.declared.limits.TheConstants.{LAST_NUMBER as last_number}
@@ -206,17 +206,6 @@ Notes old one answer new = ⊥
 abbrev pub first_unknown : Table → List (ℕ × ℕ) → Option ℕ
 first_unknown table bound = option_map (λ (pair : ℕ × ℕ). pair.0) (find (λ (pair : ℕ × ℕ). nat_lt table.params pair.0) bound)
 
--- how a turn that a reply prints ended
-abbrev pub end_told : TurnEnd → executed.TurnEnd
-end_told Goal = AtGoal
-end_told NoKernel = AtNoKernel
-end_told Acted = ByActing
-end_told Slipped = BySlipping
-
--- the turn that is printed like this
-abbrev pub turn_told : Turn → TurnValue
-turn_told turn = record { kernel = turn.kernel; op = turn.op; end = end_told turn.end }
-
 -- the name's table does not have this parameter, the first of those that are bound; nothing changes, so what is recorded stays
 pub record HasNoParameter (name : ℕ) (bound : List (ℕ × ℕ)) (old : SessionState) (param : ℕ) (new : SessionState) : Type 0 where
   pub table : Table
@@ -268,6 +257,22 @@ TellsDuo problem old first second numbers (reply.DuoRan one other lines) new =
     (one ≡ first) × (other ≡ second) × IsDuoOf problem first second numbers old lines new
 TellsDuo problem old first second numbers answer new = ⊥
 
+-- ---- pursue
+
+-- The goal is pursued from the world's atoms, with the learned tables and all that is recorded, by so many searches and in the turns that
+-- the reply prints. The world is then the one after it, nothing is recorded, and no table is stored or learned.
+pub record IsPursuitOf (problem : Problem) (goal : List Atom) (vars : ℕ)
+    (old : SessionState) (searches : ℕ) (told : List Turn) (end : PursueEnd) (new : SessionState) : Type 0 where
+  pub after : List Atom
+  pub pursues : IsPursuit leaves_edit problem old.learned.tables goal vars old.recorded old.atoms searches (map turn_told told) end after
+  pub changed : new ≡ record old { atoms = after; recorded = [] }
+
+-- to `pursue NAME ..`: such a pursuit
+abbrev pub TellsPursuit : Problem → SessionState → ℕ → List Atom → ℕ → Reply → SessionState → Type 0
+TellsPursuit problem old name goal vars (reply.Pursuit given searches told end) new =
+    (given ≡ name) × IsPursuitOf problem goal vars old searches told end new
+TellsPursuit problem old name goal vars answer new = ⊥
+
 -- ---- facts
 
 -- the world's atoms, ascending
@@ -296,4 +301,5 @@ Lawful problem old (command.DisturbRooms turn between edits) answer new =
     Notes old (recorded_for turn between (map of_rooms edits)) answer new
 Lawful problem old (command.Run name bound) answer new = TellsRun problem old name bound answer new
 Lawful problem old (command.Duo first second numbers) answer new = TellsDuo problem old first second numbers answer new
+Lawful problem old (command.Pursue name goal vars) answer new = TellsPursuit problem old name goal vars answer new
 Lawful problem old command.Facts answer new = TellsFacts old answer new

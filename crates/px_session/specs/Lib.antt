@@ -7,6 +7,7 @@ pub mod Demo
 pub mod Runs
 pub mod ToldRuns
 pub mod ToldDuos
+pub mod ToldPursuits
 pub mod Undisturbed
 pub mod Planning
 pub mod Learning

@@ -6,7 +6,7 @@ use Rattle.px_terms.specs.Validity.{IsAtomOf, IsValid}
 use Rattle.px_printer.specs.Replies.{IsReplyNamed}
 use Rattle.px_printer.specs.declared.reply.Reply.{Reply}
 use Rattle.px_script.specs.declared.command.Command.{Command}
-use Rattle.px_script.specs.declared.command.Command.TheVariants.{Plan, Learn, Show, Save, Certify, DisturbAtoms, DisturbRooms, Run, Duo, Edit, Facts}
+use Rattle.px_script.specs.declared.command.Command.TheVariants.{Plan, Learn, Show, Save, Certify, DisturbAtoms, DisturbRooms, Run, Duo, Edit, Pursue, Facts}
 use Rattle.px_session.specs.Lawful.{Lawful}
 use Rattle.px_session.specs.Sessions.{IsSession, SessionState}
 
@@ -16,11 +16,12 @@ pub record AreNamesOfProblem (problem : Problem) (names : NameLists) : Type 0 wh
   pub predicates : length names.predicates ≡ length problem.arities
   pub operators : length names.operators ≡ length problem.schemas
 
--- A plan has the name of a result, and a goal of atoms of the problem with these variables; `learn` takes the names of two results, and so
--- does `edit`; `show`, `save`, `certify` and `run` each take the name of a result, and `duo` takes two. Edits and the facts have no names of
--- results.
+-- A plan and a pursuit each have the name of a result, and a goal of atoms of the problem with these variables; `learn` takes the names of
+-- two results, and so does `edit`; `show`, `save`, `certify` and `run` each take the name of a result, and `duo` takes two. Edits and the
+-- facts have no names of results.
 abbrev pub IsTellable : Problem → ℕ → Command → Type 0
 IsTellable problem results (Plan name goal vars) = (name < results) × All (IsAtomOf problem vars) goal
+IsTellable problem results (Pursue name goal vars) = (name < results) × All (IsAtomOf problem vars) goal
 IsTellable problem results (Learn name source) = (name < results) × (source < results)
 IsTellable problem results (Show name) = name < results
 IsTellable problem results (Save name) = name < results

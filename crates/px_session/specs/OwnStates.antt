@@ -1,11 +1,11 @@
 -- Where a session's atoms, and the edits that it has recorded, are of the problem.
 use Rattle.std.specs.Prelude.{List, [], map, All}
 use Rattle.px_terms.specs.declared.problem.Problem.{Problem}
-use Rattle.px_terms.specs.Validity.{IsAtomOf}
+use Rattle.px_terms.specs.Validity.{IsAtomOf, IsValid}
 use Rattle.px_rooms.specs.Changes.{edit_schema}
 use Rattle.px_planex.specs.Turns.{Recorded}
 use Rattle.px_script.specs.declared.command.Command.{Command}
-use Rattle.px_script.specs.declared.command.Command.TheVariants.{DisturbAtoms, DisturbRooms, Plan}
+use Rattle.px_script.specs.declared.command.Command.TheVariants.{DisturbAtoms, DisturbRooms, Plan, Pursue}
 use Rattle.px_script.specs.Ranges.{IsEditOf}
 use Rattle.px_session.specs.Sessions.{Edit, SessionState, of_atoms, of_rooms}
 
@@ -31,7 +31,13 @@ HasOwnEdits problem command = All (IsOwnEdit problem) (edits_given command)
 -- a goal is one of the problem
 abbrev pub IsOwnGoal : Problem → Command → Type 0
 IsOwnGoal problem (Plan name goal vars) = All (IsAtomOf problem vars) goal
+IsOwnGoal problem (Pursue name goal vars) = All (IsAtomOf problem vars) goal
 IsOwnGoal problem _ = Unit {0}
+
+-- a goal that is pursued is one of the problem, which is valid
+abbrev pub IsOwnPursuit : Problem → Command → Type 0
+IsOwnPursuit problem (Pursue name goal vars) = IsValid problem × All (IsAtomOf problem vars) goal
+IsOwnPursuit problem _ = Unit {0}
 
 -- the world's atoms, and the edits that are recorded for the next run, are of the problem
 pub record IsOwnState (problem : Problem) (state : SessionState) : Type 0 where

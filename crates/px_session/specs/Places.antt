@@ -1,5 +1,5 @@
 -- The world of a session's run: the session's atoms, or its building.
-use Rattle.std.specs.Prelude.{◌≡◌, ◌↔◌, ℕ, Option, Some, None, List, All}
+use Rattle.std.specs.Prelude.{◌≡◌, ℕ, Option, Some, None, List}
 use Rattle.px_base.specs.Bounds.{u64_max}
 use Rattle.px_terms.specs.declared.atom.Atom.{Atom}
 use Rattle.px_terms.specs.declared.problem.Problem.{Problem}
@@ -7,6 +7,7 @@ use Rattle.px_world.specs.Worlds.{HaveSameRules, IsGroundEdit}
 use Rattle.px_rooms.specs.Changes.{IsAdmitted}
 use Rattle.px_rooms.specs.States.{RoomState, building_rules, rendering}
 use Rattle.px_planex.specs.Turns.{Recorded}
+use Rattle.px_turns.specs.Told.{AdmitSame, AdmitsAll}
 use Rattle.px_session.specs.declared.place.Place.{Place}
 use Rattle.px_session.specs.declared.place.Place.TheVariants.{Atoms, Rooms}
 use Rattle.px_session.specs.Sessions.{Edit, SessionState, of_atoms, of_rooms}
@@ -22,11 +23,11 @@ Takes (Some building) (of_rooms one) = IsAdmitted building one
 
 -- it takes all that are recorded
 abbrev pub TakesAll : Option RoomState → List (Recorded Edit) → Type 0
-TakesAll building recorded = All (λ one. All (Takes building) one.edits) recorded
+TakesAll building recorded = AdmitsAll (Takes building) recorded
 
 -- both take the same edits
-pub record TakeSame (old new : Option RoomState) : Type 0 where
-  pub same : (edit : Edit) → Takes new edit ↔ Takes old edit
+abbrev pub TakeSame : Option RoomState → Option RoomState → Type 0
+TakeSame old new = AdmitSame (Takes old) (Takes new)
 
 -- ---- the world of a run
 

@@ -15,12 +15,12 @@ use Rattle.px_printer.specs.declared.duo_line.DuoLine.{DuoLine}
 use Rattle.px_printer.specs.declared.reply.Reply.{Reply}
 use Rattle.px_printer.specs.declared.reply.Reply.TheVariants as reply
 use Rattle.px_script.specs.declared.command.Command.{Command}
-use Rattle.px_script.specs.declared.command.Command.TheVariants.{Run, Duo}
+use Rattle.px_script.specs.declared.command.Command.TheVariants.{Run, Duo, Pursue}
 use Rattle.px_script.specs.Content.{ScriptValue}
 use Rattle.px_script.specs.Ranges.{IsInRange}
 use Rattle.px_session.specs.DuoRuns.{who_of}
 use Rattle.px_session.specs.Lawful.{Lawful, turn_told}
-use Rattle.px_session.specs.OwnStates.{edits_given}
+use Rattle.px_session.specs.OwnStates.{IsOwnPursuit, edits_given}
 use Rattle.px_session.specs.Places.{IsPlaced, TakeSame, Takes}
 use Rattle.px_session.specs.Sessions.{Edit, IsSession, SessionState, of_atoms, of_rooms, opening}
 use Rattle.px_session.specs.Transcripts.{AreAnswers}
@@ -82,13 +82,15 @@ pub record IsInBuilding (problem : Problem) (building : RoomState) (state : Sess
 abbrev pub HasTakenEdits : Option RoomState → Command → Type 0
 HasTakenEdits building command = All (Takes building) (edits_given command)
 
--- what a reply leaves of the building: a run that a reply prints leaves what its turns leave, two executors what the steps leave that their
--- lines print, and any other reply the building as it was
+-- what a reply leaves of the building: a run that a reply prints leaves what its turns leave, and so does a pursuit; two executors what the
+-- steps leave that their lines print; and any other reply the building as it was
 abbrev pub LeavesRooms : SessionState → Command → Reply → RoomState → RoomState → Type 0
 LeavesRooms old (Run name bound) (reply.Ran given told) building left =
     AreTurnsInRooms old.recorded 1 (map turn_told told) building left
 LeavesRooms old (Duo first second numbers) (reply.DuoRan one other lines) building left =
     AreDuoLinesInRooms (both None None) lines building left
+LeavesRooms old (Pursue name goal vars) (reply.Pursuit given searches told end) building left =
+    AreTurnsInRooms old.recorded 1 (map turn_told told) building left
 LeavesRooms old command answer building left = left ≡ building
 
 -- a lawful reply in a building leaves a state of it, in which the session is then, and which takes the same edits
@@ -114,7 +116,7 @@ pub record RoomsAreKept : Type 0 where
   pub opened : (script : ScriptValue) (things : List Thing) → IsInRange script → script.building ≡ Some things
       → IsInBuilding script.problem (first_state things) (opening script.facts script.saved)
   pub kept : (problem : Problem) (old : SessionState) (building : RoomState) (command : Command) (answer : Reply) (new : SessionState)
-      → IsSession problem old → IsInBuilding problem building old → HasTakenEdits (Some building) command
+      → IsSession problem old → IsInBuilding problem building old → HasTakenEdits (Some building) command → IsOwnPursuit problem command
       → Lawful problem old command answer new → (left : RoomState) × IsAnsweredInBuilding problem old building command answer new left
   pub answers : (script : ScriptValue) (things : List Thing) (count : ℕ) (answers : List Reply) (last : SessionState)
       → IsInRange script → script.building ≡ Some things

@@ -1,6 +1,6 @@
--- Which tables can be written in a block or a certificate, whatever their numbers of steps and parameters and the heights of their proofs; and
--- that all tables of a session are so.
-use Rattle.std.specs.Prelude.{◌≡◌, ◌≤◌, ℕ, List, [], length, flat_map, All}
+-- Which tables can be written in a block or a certificate, whatever their numbers of steps and parameters and the heights of their
+-- proofs; and that all tables of a session are so.
+use Rattle.std.specs.Prelude.{◌≡◌, ◌≤◌, [], length, flat_map, All}
 use Rattle.px_terms.specs.declared.problem.Problem.{Problem}
 use Rattle.px_table.specs.declared.table.Table.{Table}
 use Rattle.px_table.specs.WellSorted.{sorts_by_places}

@@ -75,6 +75,9 @@ pub(crate) fn run_command(
             second,
             events,
         } => state.duo(alloc, problem, *first, *second, events.as_slice(), building),
+        Command::Pursue { name, goal, vars } => {
+            state.pursue(alloc, problem, *name, goal.as_slice(), *vars, building)
+        }
         Command::Edit {
             name,
             from,

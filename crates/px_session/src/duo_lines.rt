@@ -2,9 +2,10 @@
 ghost use Rattle.std.specs.Prelude.{◌≡◌, ◌≢◌, ◌≤◌, ◌*◌, [], None, length, vec_capacity};
 ghost use Rattle.px_world.specs.Worlds.{HaveSameRules};
 ghost use Rattle.px_duo.specs.Duos.{duo_running, own};
+ghost use Rattle.px_turns.specs.Turning.{adds_most};
 ghost use Rattle.px_session.specs.DuoRuns.{AreDuoLines, IsDuoLine, who_of};
 ghost use Rattle.px_session.specs.Places.{TakeSame, building_of, place_atoms, place_rules};
-ghost use Rattle.px_session.specs.Running.{HasDuoPlaces, HasTaken, adds_most};
+ghost use Rattle.px_session.specs.Running.{HasDuoPlaces, TookPlaces};
 ghost use Rattle.px_session.specs.Sessions.{leaves_edit};
 
 use crate::place::Place;
@@ -27,7 +28,7 @@ fn sense_line(duo: &mut Duo<'_>, world: &mut Place<'_>, number: u32) -> DuoLine
     ensures line { IsDuoLine leaves_edit duo.old.problem duo.old.tables number (duo_running (place_atoms world.old) duo.old.memories)
         result (duo_running (place_atoms world.new) duo.new.memories) }
     ensures frame { duo.new ≡ record duo.old { memories = duo.new.memories } }
-    ensures taken { HasTaken (adds_most duo.old.problem.schemas) world.old world.new }
+    ensures taken { TookPlaces (adds_most duo.old.problem.schemas) world.old world.new }
 {
     let who = who_of(number);
     match duo.step(world, DuoEvent::Sense(who)) {
@@ -57,7 +58,7 @@ fn act_line(duo: &mut Duo<'_>, world: &mut Place<'_>, number: u32) -> DuoLine
     ensures line { IsDuoLine leaves_edit duo.old.problem duo.old.tables number (duo_running (place_atoms world.old) duo.old.memories)
         result (duo_running (place_atoms world.new) duo.new.memories) }
     ensures frame { duo.new ≡ record duo.old { memories = duo.new.memories } }
-    ensures taken { HasTaken (adds_most duo.old.problem.schemas) world.old world.new }
+    ensures taken { TookPlaces (adds_most duo.old.problem.schemas) world.old world.new }
 {
     let end = match duo.step(world, DuoEvent::Act(who_of(number))) {
         Outcome::Acted => DuoEnd::Acted,
@@ -77,7 +78,7 @@ fn take_line(duo: &mut Duo<'_>, world: &mut Place<'_>, number: u32) -> DuoLine
     ensures line { IsDuoLine leaves_edit duo.old.problem duo.old.tables number (duo_running (place_atoms world.old) duo.old.memories)
         result (duo_running (place_atoms world.new) duo.new.memories) }
     ensures frame { duo.new ≡ record duo.old { memories = duo.new.memories } }
-    ensures taken { HasTaken (adds_most duo.old.problem.schemas) world.old world.new }
+    ensures taken { TookPlaces (adds_most duo.old.problem.schemas) world.old world.new }
 {
     match duo.action(who_of(number)) {
         None => sense_line(duo, world, number),

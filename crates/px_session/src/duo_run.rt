@@ -3,15 +3,14 @@ ghost use Rattle.std.specs.Prelude.{◌≡◌, ◌≤◌, ◌*◌, [], IfOk, IfS
 ghost use Rattle.px_terms.specs.Validity.{IsValid};
 ghost use Rattle.px_table.specs.Tables.{IsTable};
 ghost use Rattle.px_duo.specs.Duos.{both};
+ghost use Rattle.px_turns.specs.Turning.{adds_most};
 ghost use Rattle.px_session.specs.DuoRuns.{RunsDuo};
 ghost use Rattle.px_session.specs.Lawful.{TellsDuo};
 ghost use Rattle.px_session.specs.Places.{IsPlaceInBuilding, IsPlaced, TakeSame};
-ghost use Rattle.px_session.specs.Running.{adds_most};
 ghost use Rattle.px_session.specs.Sessions.{IsSession, leaves_edit};
 
 use crate::duo_lines::take_lines;
 use crate::place::{enter, leave};
-use crate::running::most_adds;
 use crate::state::State;
 use px_base::{NoMemory, Sequence};
 use px_duo::Duo;
@@ -20,6 +19,7 @@ use px_printer::{DuoLine, Reply};
 use px_rooms::RoomWorld;
 use px_table::Table;
 use px_terms::Problem;
+use px_turns::most_adds;
 use px_world::World;
 use std::alloc::Global;
 

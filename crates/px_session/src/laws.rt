@@ -7,6 +7,7 @@ ghost use Rattle.px_session.specs.Named.{RepliesAreNamed};
 ghost use Rattle.px_session.specs.RoomRuns.{RoomsAreKept};
 ghost use Rattle.px_session.specs.Runs.{OneKindRuns};
 ghost use Rattle.px_session.specs.ToldDuos.{ToldDuos};
+ghost use Rattle.px_session.specs.ToldPursuits.{ToldPursuits};
 ghost use Rattle.px_session.specs.ToldRuns.{ToldRuns};
 ghost use Rattle.px_session.specs.Undisturbed.{UndisturbedRuns};
 ghost use Rattle.px_session.specs.WorkedDemo.{WorkedDemoLine};
@@ -23,9 +24,9 @@ pub fn lawful_is_one()
     ensures { LawfulIsOne }
 {}
 
-/// The opening state is one of a session, and each lawful reply leaves one, where a goal is one of the valid problem. Of the tables of a
-/// session, each proper instance of each kernel carries the steps that are left to the goal; and the world's atoms carry the steps of each
-/// plan that a reply prints.
+/// The opening state of a script is one of a session, and each lawful reply leaves one, where a goal is one of the valid problem. Of the
+/// tables of a session, each proper instance of each kernel carries the steps that are left to the goal; and the world's atoms carry the
+/// steps of each plan that a reply prints.
 pub fn sessions_are_kept()
     ensures { SessionsAreKept }
 {}
@@ -64,8 +65,8 @@ pub fn replies_are_named()
     ensures { RepliesAreNamed }
 {}
 
-/// A script with a valid problem, whose facts are a set and whose goals are of the problem, has at most one list of lawful replies, apart from questions at limits of shapes,
-/// and one text.
+/// A script with a valid problem, whose opening state is a session's and whose goals are of the problem, has at most one list of lawful
+/// replies, apart from questions at limits of shapes, and one text.
 pub fn answers_are_one()
     ensures { AnswersAreOne }
 {}
@@ -101,6 +102,13 @@ pub fn told_duos()
     ensures { ToldDuos }
 {}
 
+/// A pursuit that a reply prints makes at most `D + 1` searches with `D` recorded disturbances. Each of its runs is a trace of the table of
+/// the plan found last, and where it ends at the goal, the goal holds wherever the axioms and the world's atoms do. Where no plan that it
+/// finds has more than `n` steps, it has at most `(2 * D + 1) * (n + 1)` turns. It stores and learns nothing.
+pub fn told_pursuits()
+    ensures { ToldPursuits }
+{}
+
 /// Where one of the turns that a reply prints has sensed kernel `i`, at least 1, of a table of `n` steps, and no edit comes after that
 /// sensing, the last turn is at the goal, and at most `n + 1 - i` turns come after that one.
 pub fn undisturbed_runs()
@@ -108,8 +116,8 @@ pub fn undisturbed_runs()
 {}
 
 /// A script with a building begins in the building's first state, and each lawful reply leaves a state of it, whose facts are the
-/// world's atoms: a run what its turns leave, edit by edit and step by step, two executors what their steps leave, and any other command the
-/// state as it was.
+/// world's atoms: a run and a pursuit what their turns leave, edit by edit and step by step, two executors what their steps leave, and any
+/// other command the state as it was.
 pub fn rooms_are_kept()
     ensures { RoomsAreKept }
 {}

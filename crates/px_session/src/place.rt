@@ -10,7 +10,7 @@ use px_base::NoMemory;
 use px_ops::Model;
 use px_rooms::RoomWorld;
 use px_terms::{Atom, OpInst, Problem};
-use px_world::{AtomWorld, Guard, World};
+use px_world::{AtomWorld, Guard, Regrow, World};
 use std::alloc::Global;
 
 /// The world of a run: a copy of the session's atoms, or its building.
@@ -96,6 +96,22 @@ impl<'a> World for Place<'a> {
             (Place::Atoms(world), Edit::OfAtoms(edit)) => world.disturb(edit),
             (Place::Rooms(world), Edit::OfRooms(edit)) => world.disturb(edit),
             _ => unreachable!(),
+        }
+    }
+}
+
+impl<'a> Regrow for Place<'a> {
+    fn regrow(&mut self, spare: usize) -> Result<(), NoMemory> {
+        match self {
+            Place::Atoms(world) => world.regrow(spare),
+            Place::Rooms(world) => world.regrow(spare),
+        }
+    }
+
+    fn atom_count(&self) -> usize {
+        match self {
+            Place::Atoms(world) => world.atom_count(),
+            Place::Rooms(world) => world.atom_count(),
         }
     }
 }

@@ -5,7 +5,6 @@ ghost use Rattle.px_session.specs.Lawful.{Notes, TellsFacts, TellsShow, recorded
 ghost use Rattle.px_table.specs.Limits.{most_tables};
 ghost use Rattle.px_session.specs.Sessions.{any_table, opening, tables_by_name};
 
-use crate::disturbance::Disturbance;
 use crate::edit::Edit;
 use crate::plans::Plans;
 use px_base::{NoMemory, Sequence, push};
@@ -13,6 +12,7 @@ use px_library::{LibErr, Library};
 use px_ops::Model;
 use px_printer::Reply;
 use px_table::Table;
+use px_turns::Recorded;
 use std::alloc::Global;
 
 /// The world's atoms, the tables of the stored plans, the learned tables, and the disturbances that are recorded for the next run.
@@ -21,7 +21,7 @@ pub(crate) struct State {
     pub(crate) facts: Model,
     pub(crate) plans: Plans,
     pub(crate) learned: Library,
-    pub(crate) recorded: Vec<Disturbance>,
+    pub(crate) recorded: Vec<Recorded<Edit>>,
 }
 
 impl std::marker::Model for State {
@@ -115,7 +115,7 @@ impl State {
         ensures told { IfOk result (λ reply. Notes self.old (recorded_for turn between edits) reply self.new) }
         ensures kept { OnErr result (self.new ≡ self.old) }
     {
-        let disturbance = Disturbance {
+        let disturbance = Recorded {
             turn,
             between,
             edits,

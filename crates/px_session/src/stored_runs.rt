@@ -6,9 +6,10 @@ ghost use Rattle.px_session.specs.Sessions.{IsSession};
 ghost use Rattle.px_session.specs.KeptSessions.{IsBindingToRun};
 ghost use Rattle.px_session.specs.Places.{IsPlaced, TakeSame};
 
-use crate::running::{Run, RunErr, run_table};
+use crate::running::{Run, run_table};
 use crate::state::State;
 use px_base::NoMemory;
+use px_match::MatchErr;
 use px_printer::Reply;
 use px_rooms::RoomWorld;
 use px_terms::Problem;
@@ -56,8 +57,8 @@ impl State {
                 self.recorded.clear();
                 Ok(Reply::Ran { name, turns })
             }
-            Err(RunErr::UnknownParam(param)) => Ok(Reply::UnknownParam { param }),
-            Err(RunErr::NoMemory) => Err(NoMemory),
+            Err(MatchErr::BadParam(param)) => Ok(Reply::UnknownParam { param }),
+            Err(MatchErr::NoMemory) => Err(NoMemory),
         }
     }
 }

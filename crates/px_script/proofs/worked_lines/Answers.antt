@@ -90,23 +90,24 @@ returns-clause-edits c = record {
   commands_first = search (after-so, fit-so, refuse-so) depth 14;
 }
 
-pub returns-clause-unbuilt : goal.returns-clause-unbuilt
+pub returns-clause-pursuits : goal.returns-clause-pursuits
 unfolding lines_read scan_by unicode_ident encode all_within items_after with_item set_of digits
-returns-clause-unbuilt c = record {
+returns-clause-pursuits c = record {
   pursuing = search spell;
-  new = search (after-so, refuse-so) depth 14;
-  no_form = search (after-so, refuse-so) depth 14;
-  out_of_order = search (after-so, refuse-so) depth 14;
-  unbuilt = search (after-so, refuse-so) depth 14;
-  fit = search (after-so, refuse-so) depth 14;
-  unknown = search (after-so, refuse-so) depth 14;
-  known_result = search (after-so, refuse-so) depth 14;
-  arity = search (after-so, refuse-so) depth 14;
-  unbound = search (after-so, refuse-so) depth 14;
-  long_names = search (after-so, refuse-so) depth 14;
-  many_variables = search (after-so, refuse-so) depth 14;
-  many_atoms = search (after-so, refuse-so) depth 14;
-  many_commands = search (after-so, refuse-so) depth 14;
+  pursues = search (after-so, fit-so, refuse-so) depth 14;
+  gives_no_table = search (after-so, fit-so, refuse-so) depth 14;
+  keeps_disturbs = search (after-so, fit-so, refuse-so) depth 14;
+  new = search (after-so, fit-so, refuse-so) depth 14;
+  no_form = search (after-so, fit-so, refuse-so) depth 14;
+  out_of_order = search (after-so, fit-so, refuse-so) depth 14;
+  unknown = search (after-so, fit-so, refuse-so) depth 14;
+  unknown_table = search (after-so, fit-so, refuse-so) depth 14;
+  known_result = search (after-so, fit-so, refuse-so) depth 14;
+  arity = search (after-so, fit-so, refuse-so) depth 14;
+  unbound = search (after-so, fit-so, refuse-so) depth 14;
+  limits = search (after-so, fit-so, refuse-so) depth 14;
+  many_atoms = search (after-so, fit-so, refuse-so) depth 14;
+  many_commands = search (after-so, fit-so, refuse-so) depth 14;
 }
 
 pub returns-clause-tables : goal.returns-clause-tables

@@ -34,7 +34,8 @@ returns-in-Ok c =
     let zero = starts_char 48 digits c.starts_with.result c.starts_with.ensures.cases (lit< tt) (lit< tt) in
     let sign = starts_char 43 digits c.starts_with-else-starts_with.result c.starts_with-else-starts_with.ensures.cases (lit< tt)
     (lit< tt) in
-    a-number c.args.name.now digits c.parse.result c.in-Ok.number letter c.parse.ensures.value.0 c.in-Ok.is c.if-number-le-LAST_PARAMETER.true
+    a-number c.args.name.now digits c.parse.result c.in-Ok.number letter c.parse.ensures.value.0 c.in-Ok.is
+    c.if-number-le-LAST_PARAMETER.true
     (λ e. both_answers c.starts_with.result c.if-starts_with.false (zero.1 e))
     (λ e. both_answers c.starts_with-else-starts_with.result c.if-starts_with-2.false (sign.1 e))
 

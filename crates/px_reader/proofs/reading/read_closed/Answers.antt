@@ -10,7 +10,7 @@ returns-in_err-read_each-clause-fails c =
 
 pub returns-in-Some-clause-fails : goal.returns-in-Some-clause-fails
 returns-in-Some-clause-fails c =
-    let block = open_block_view (length c.read_each.new.reader.schemas.items) c.in-Some.block in
-    let fails = left-open (stage_view c.args.stage.now) 1 nothing_declared (characters_of c.args.lines.now) (declared_of c.read_each.new.reader)
+    let block = open_block_view (length c.read_each.new.so_far.schemas.items) c.in-Some.block in
+    let fails = left-open (stage_view c.args.stage.now) 1 nothing_declared (characters_of c.args.lines.now) (declared_of c.read_each.new.so_far)
     block c.in_ok-read_each.ensures.passes (rw c.in-Some.is refl) in
     subst (LinesFail (stage_view c.args.stage.now) (characters_of c.args.lines.now)) (sym c.refused.ensures) fails

@@ -1,6 +1,6 @@
 -- Proofs of the goals that `read_lines` of src/reading.rt leaves open.
 use Rattle.px_reader.proofs.Common.{nothing_declared, lines-kept, start-in-range, declared-in-range, stage_view, declared_of}
-use Rattle.px_reader.proofs.Finishing.{closed-problem}
+use Rattle.px_so_far.proofs.ProblemLemmas.{closed-problem}
 use Rattle.px_reader.proofs.reading.read_lines.Goals as goal
 
 pub finish-requires-clause-range : goal.finish-requires-clause-range
@@ -13,7 +13,7 @@ finish-requires-clause-problem c = closed-problem _
 
 pub returns-in-Ok-clause-script : goal.returns-in-Ok-clause-script
 returns-in-Ok-clause-script c = record {
-  last = declared_of c.read_closed.new.reader;
+  last = declared_of c.read_closed.new.so_far;
   passes = c.in_ok-read_closed.ensures.passes;
   closed = c.in_ok-read_closed.ensures.closed;
   is = c.in-Ok.ensures;

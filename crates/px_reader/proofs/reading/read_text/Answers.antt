@@ -1,5 +1,5 @@
 -- Proofs of the goals that `read_text` of src/reading.rt leaves open.
-use Rattle.px_reader.proofs.Common.{◌≡◌, ◌≤◌, ap, ◌∙◌, length, arith, lines_of, characters_of, stage_view}
+use Rattle.px_reader.proofs.Common.{◌≡◌, ap, ◌∙◌, length, arith, lines_of, characters_of, stage_view}
 use Rattle.px_reader.proofs.Outcomes.{parts-lines, few-parts, text-ends}
 use Rattle.px_reader.proofs.reading.read_text.Goals as goal
 

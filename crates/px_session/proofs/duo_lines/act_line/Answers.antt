@@ -2,7 +2,7 @@
 use Rattle.std.proofs.Common.{arith}
 use Rattle.px_planex.specs.Execution.{remembered_step}
 use Rattle.px_duo.specs.Duos.{own}
-use Rattle.px_session.proofs.RunPlaces.{places-few}
+use Rattle.px_turns.proofs.RunPlaces.{places-few}
 use Rattle.px_session.proofs.duo_lines.act_line.Goals as goal
 
 pub step-requires-clause-places : goal.step-requires-clause-places
@@ -19,5 +19,5 @@ returns-clause-taken c =
       number = omega (arith, few, c.step.ensures.number);
       spare = omega (arith, few, c.step.ensures.spare);
       rules = c.step.ensures.rules;
-      takes = record { same = c.step.ensures.edits };
+      edits = record { same = c.step.ensures.edits };
     }

@@ -1,8 +1,7 @@
 -- Proofs of the goals that `library_of` of src/state.rt leaves open.
 use Rattle.std.specs.Prelude.{Contains}
-use Rattle.std.proofs.Common.{◌≡◌, refl, sym, ap, ◌∙◌, subst}
+use Rattle.std.proofs.Common.{refl, sym, ap, ◌∙◌, subst}
 use Rattle.px_library.specs.Libraries.{LibraryValue, with_table}
-use Rattle.px_session.specs.Sessions.{tables_by_name}
 use Rattle.px_session.proofs.Opening.{more-whole, name-new, named-more, none-left}
 use Rattle.px_session.proofs.state.library_of.Goals as goal
 

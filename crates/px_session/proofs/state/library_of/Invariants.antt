@@ -1,5 +1,5 @@
 -- What the loop of `library_of` of src/state.rt keeps.
-use Rattle.std.proofs.Common.{◌≡◌, List, ℕ}
+use Rattle.std.proofs.Common.{◌≡◌}
 use Rattle.std.specs.Prelude.{◌++◌}
 use Rattle.px_session.specs.Sessions.{tables_by_name}
 use Rattle.px_session.proofs.state.library_of.Given as goal

@@ -3,7 +3,7 @@ use Rattle.std.proofs.Common.{List, [], map, refl, sym, ap, ◌∙◌, subst}
 use Rattle.px_terms.specs.declared.atom.Atom.{Atom}
 use Rattle.px_planex.specs.Turns.{Recorded, RunsTable}
 use Rattle.px_session.specs.Places.{IsPlaceInBuilding, TakesAll}
-use Rattle.px_session.specs.Running.{turn_told}
+use Rattle.px_turns.specs.Told.{turn_told}
 use Rattle.px_session.specs.Sessions.{Edit, SessionState, leaves_edit}
 use Rattle.px_session.specs.contracts.state.State as held
 use Rattle.px_session.proofs.OneLearning.{any-right}
@@ -51,10 +51,10 @@ pub returns-in-Ok-clause-placed : goal.returns-in-Ok-clause-placed
 returns-in-Ok-clause-placed c =
     placed-run c.args.problem.now c.run_table.new.building _ c.in-Ok.field-0.facts.atoms refl c.clear.ensures.items c.in-Ok.ensures.place
 
-pub returns-in-Err-UnknownParam-clause-told : goal.returns-in-Err-UnknownParam-clause-told
-returns-in-Err-UnknownParam-clause-told c =
-    let told = rw c.in-Err-UnknownParam.field-0-is at c.in-Err-UnknownParam.ensures.unknown in
-    let bad = told c.in-Err-UnknownParam.param refl in
+pub returns-in-Err-BadParam-clause-told : goal.returns-in-Err-BadParam-clause-told
+returns-in-Err-BadParam-clause-told c =
+    let told = rw c.in-Err-BadParam.field-0-is at c.in-Err-BadParam.ensures.unknown in
+    let bad = told c.in-Err-BadParam.param refl in
     record {
       table = c.in-Some.table.now;
       named = sym c.in-Some.ensures;

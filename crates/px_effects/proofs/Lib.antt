@@ -1,0 +1,8 @@
+-- The files of lemmas.
+pub mod Common
+pub mod Facts
+pub mod Right
+pub mod MoreNames
+pub mod Sorting
+pub mod Fresh
+pub mod TableLines

@@ -1,0 +1,227 @@
+//! The commands that lines add.
+ghost use Rattle.std.specs.Prelude.{◌≡◌, ◌≤◌, ◌<◌, ◌∷◌, [], length, map, IfOk, OnOk};
+ghost use Rattle.px_terms.specs.Limits.{most_formula_variables};
+ghost use Rattle.px_script.specs.declared.limits.Limit.TheVariants as limit;
+ghost use Rattle.px_script.specs.Limits.{greatest};
+ghost use Rattle.px_script.specs.Statements as spec;
+ghost use Rattle.px_effects.specs.Common.{IsFresh, variable_names_of, with_command, with_names, a_plan, a_result, a_table, AreReadable, declared_of, leaves, signed_view, room_edit_view, binding_view};
+
+use crate::declaring::add_name;
+use px_base::{NoMemory, Sequence};
+use px_lines::{SignedAtom, WrittenBinding, WrittenRoomEdit};
+use px_names::Kind;
+use px_script::Command;
+use px_so_far::{SoFar, Variables, variables};
+
+pub fn add_command(so_far: &mut SoFar, command: Command) -> Result<(), NoMemory>
+    ensures { OnOk result (declared_of so_far.new ≡ with_command command (declared_of so_far.old)) }
+{
+    so_far.commands.push(command)?;
+    Ok(())
+}
+
+pub fn add_plan(so_far: &mut SoFar, name: &str, goal: &[SignedAtom<'_>]) -> Result<(), NoMemory>
+    requires few_variables { length (variable_names_of (map signed_view goal.now)) ≤ most_formula_variables }
+    requires readable { AreReadable (declared_of so_far.old) goal.now }
+    requires fresh { IsFresh Kind.Result so_far.old.names name.now }
+    ensures { OnOk result (declared_of so_far.new ≡ leaves 0 (declared_of so_far.old) (spec.plan name.now (map signed_view goal.now))) }
+{
+    let variables = variables(so_far.alloc, goal)?;
+    let goal = so_far.atoms(&Variables::Named(&variables), goal)?;
+    let name = add_plan_name(so_far, name)?;
+    add_command(
+        so_far,
+        Command::Plan {
+            name,
+            goal: Sequence::from_vec(goal),
+            vars: variables.len() as u32,
+        },
+    )
+}
+
+/// Adds the name of a table, and returns its number.
+pub fn add_table_name(so_far: &mut SoFar, name: &str) -> Result<u32, NoMemory>
+    requires { IsFresh Kind.Result so_far.old.names name.now }
+    ensures number { IfOk result (λ number. number ≡ length so_far.old.names.results) }
+    ensures declared { OnOk result (declared_of so_far.new ≡ with_names a_table (name.now ∷ []) (declared_of so_far.old)) }
+{
+    let number = add_name(so_far, Kind::Result, name)?;
+    so_far.tables.push(String::from_str(so_far.alloc, name)?)?;
+    Ok(number)
+}
+
+/// Adds the name of a plan, and returns its number.
+fn add_plan_name(so_far: &mut SoFar, name: &str) -> Result<u32, NoMemory>
+    requires { IsFresh Kind.Result so_far.old.names name.now }
+    ensures number { IfOk result (λ number. number ≡ length so_far.old.names.results) }
+    ensures declared { OnOk result (declared_of so_far.new ≡ with_names a_plan (name.now ∷ []) (declared_of so_far.old)) }
+{
+    let number = add_table_name(so_far, name)?;
+    so_far.plans.push(String::from_str(so_far.alloc, name)?)?;
+    Ok(number)
+}
+
+pub fn add_pursuit(so_far: &mut SoFar, name: &str, goal: &[SignedAtom<'_>]) -> Result<(), NoMemory>
+    requires few_variables { length (variable_names_of (map signed_view goal.now)) ≤ most_formula_variables }
+    requires readable { AreReadable (declared_of so_far.old) goal.now }
+    requires fresh { IsFresh Kind.Result so_far.old.names name.now }
+    ensures { OnOk result (declared_of so_far.new ≡ leaves 0 (declared_of so_far.old) (spec.pursue name.now (map signed_view goal.now))) }
+{
+    let variables = variables(so_far.alloc, goal)?;
+    let goal = so_far.atoms(&Variables::Named(&variables), goal)?;
+    let name = add_result_name(so_far, name)?;
+    add_command(
+        so_far,
+        Command::Pursue {
+            name,
+            goal: Sequence::from_vec(goal),
+            vars: variables.len() as u32,
+        },
+    )
+}
+
+/// Adds the name of a result that is no table, and returns its number.
+fn add_result_name(so_far: &mut SoFar, name: &str) -> Result<u32, NoMemory>
+    requires { IsFresh Kind.Result so_far.old.names name.now }
+    ensures number { IfOk result (λ number. number ≡ length so_far.old.names.results) }
+    ensures declared { OnOk result (declared_of so_far.new ≡ with_names a_result (name.now ∷ []) (declared_of so_far.old)) }
+{
+    add_name(so_far, Kind::Result, name)
+}
+
+pub fn add_learned(so_far: &mut SoFar, name: &str, source: &str) -> Result<(), NoMemory>
+    requires { IsFresh Kind.Result so_far.old.names name.now }
+    ensures { OnOk result (declared_of so_far.new ≡ leaves 0 (declared_of so_far.old) (spec.learn name.now source.now)) }
+{
+    let source = so_far.number(Kind::Result, source);
+    let name = add_table_name(so_far, name)?;
+    add_command(so_far, Command::Learn { name, source })
+}
+
+pub fn add_show(so_far: &mut SoFar, name: &str) -> Result<(), NoMemory>
+    ensures { OnOk result (declared_of so_far.new ≡ leaves 0 (declared_of so_far.old) (spec.show name.now)) }
+{
+    let name = so_far.number(Kind::Result, name);
+    add_command(so_far, Command::Show { name })
+}
+
+pub fn add_save(so_far: &mut SoFar, name: &str) -> Result<(), NoMemory>
+    ensures { OnOk result (declared_of so_far.new ≡ leaves 0 (declared_of so_far.old) (spec.save name.now)) }
+{
+    let name = so_far.number(Kind::Result, name);
+    add_command(so_far, Command::Save { name })
+}
+
+pub fn add_certify(so_far: &mut SoFar, name: &str) -> Result<(), NoMemory>
+    ensures { OnOk result (declared_of so_far.new ≡ leaves 0 (declared_of so_far.old) (spec.certify name.now)) }
+{
+    let name = so_far.number(Kind::Result, name);
+    add_command(so_far, Command::Certify { name })
+}
+
+#[tactic(auto, using(crate::proofs::Facts::map_map))]
+pub fn disturb_atoms(
+    so_far: &mut SoFar,
+    turn: u32,
+    between: bool,
+    edits: &[SignedAtom<'_>],
+) -> Result<(), NoMemory>
+    requires readable { AreReadable (declared_of so_far.old) edits.now }
+    requires room { so_far.old.disturbs < greatest 1 limit.Disturbs }
+    ensures { OnOk result (declared_of so_far.new
+        ≡ leaves 0 (declared_of so_far.old) (spec.disturb_atoms turn between (map signed_view edits.now))) }
+{
+    let edits = so_far.atom_edits(edits)?;
+    so_far.disturbs += 1;
+    add_command(
+        so_far,
+        Command::DisturbAtoms {
+            turn,
+            between,
+            edits: Sequence::from_vec(edits),
+        },
+    )
+}
+
+#[tactic(auto, using(crate::proofs::Facts::map_map))]
+pub fn disturb_rooms(
+    so_far: &mut SoFar,
+    turn: u32,
+    between: bool,
+    edits: &[WrittenRoomEdit<'_>],
+) -> Result<(), NoMemory>
+    requires { so_far.old.disturbs < greatest 1 limit.Disturbs }
+    ensures { OnOk result (declared_of so_far.new
+        ≡ leaves 0 (declared_of so_far.old) (spec.disturb_rooms turn between (map room_edit_view edits.now))) }
+{
+    let edits = so_far.room_edits(edits)?;
+    so_far.disturbs += 1;
+    add_command(
+        so_far,
+        Command::DisturbRooms {
+            turn,
+            between,
+            edits: Sequence::from_vec(edits),
+        },
+    )
+}
+
+#[tactic(auto, using(crate::proofs::Facts::map_map))]
+pub fn add_run(
+    so_far: &mut SoFar,
+    name: &str,
+    bindings: &[WrittenBinding<'_>],
+) -> Result<(), NoMemory>
+    ensures { OnOk result (declared_of so_far.new ≡ leaves 0 (declared_of so_far.old) (spec.run name.now (map binding_view bindings.now))) }
+{
+    let name = so_far.number(Kind::Result, name);
+    let bindings = so_far.bindings(bindings)?;
+    so_far.disturbs = 0;
+    add_command(
+        so_far,
+        Command::Run {
+            name,
+            bindings: Sequence::from_vec(bindings),
+        },
+    )
+}
+
+pub fn add_duo(so_far: &mut SoFar, one: &str, other: &str, numbers: &[u32]) -> Result<(), NoMemory>
+    ensures { OnOk result (declared_of so_far.new ≡ leaves 0 (declared_of so_far.old) (spec.duo one.now other.now numbers.now)) }
+{
+    let first = so_far.number(Kind::Result, one);
+    let second = so_far.number(Kind::Result, other);
+    let events = Sequence::from_slice(so_far.alloc, numbers)?;
+    add_command(
+        so_far,
+        Command::Duo {
+            first,
+            second,
+            events,
+        },
+    )
+}
+
+pub fn add_edited(
+    so_far: &mut SoFar,
+    name: &str,
+    source: &str,
+    prefix: u32,
+    pairs: &[(u32, u32)],
+) -> Result<(), NoMemory>
+    requires { IsFresh Kind.Result so_far.old.names name.now }
+    ensures { OnOk result (declared_of so_far.new ≡ leaves 0 (declared_of so_far.old) (spec.edit name.now source.now prefix pairs.now)) }
+{
+    let from = so_far.number(Kind::Result, source);
+    let wanted = Sequence::from_slice(so_far.alloc, pairs)?;
+    let name = add_table_name(so_far, name)?;
+    add_command(
+        so_far,
+        Command::Edit {
+            name,
+            from,
+            prefix,
+            wanted,
+        },
+    )
+}

@@ -1,7 +1,0 @@
--- Proofs of the goals that `any_great` of src/limits.rt leaves open.
-use Rattle.px_reader.proofs.Common.{◌∙◌}
-use Rattle.px_reader.proofs.Pairs.{great-pairs}
-use Rattle.px_reader.proofs.limits.any_great.Goals as goal
-
-pub returns : goal.returns
-returns c = c.each_great.ensures ∙ great-pairs c.args.pairs.now

@@ -1,8 +1,0 @@
--- Proofs of the goals that `is_goal_variable` of src/naming.rt leaves open.
-use Rattle.px_reader.proofs.Common.{◌∙◌}
-use Rattle.px_terms.specs.Limits.{most_formula_variables}
-use Rattle.px_reader.proofs.TableVariables.{place-numbered}
-use Rattle.px_reader.proofs.naming.is_goal_variable.Goals as goal
-
-pub returns : goal.returns
-returns c = c.is_some.ensures ∙ place-numbered 103 most_formula_variables c.args.name.now c.goal_place.result c.goal_place.ensures.place

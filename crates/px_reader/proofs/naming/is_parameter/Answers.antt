@@ -1,7 +1,0 @@
--- Proofs of the goals that `is_parameter` of src/naming.rt leaves open.
-use Rattle.px_reader.proofs.Common.{◌∙◌}
-use Rattle.px_reader.proofs.TableVariables.{place-numbered}
-use Rattle.px_reader.proofs.naming.is_parameter.Goals as goal
-
-pub returns : goal.returns
-returns c = c.is_some.ensures ∙ place-numbered 112 c.args.parameters c.args.name.now c.parameter_place.result c.parameter_place.ensures

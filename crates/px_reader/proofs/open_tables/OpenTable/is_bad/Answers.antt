@@ -1,7 +1,0 @@
--- Proofs of the goals that `OpenTable::is_bad` of src/closing.rt leaves open.
-use Rattle.px_reader.proofs.TableEnds.{too-wide}
-use Rattle.px_reader.proofs.open_tables.OpenTable.is_bad.Goals as goal
-
-pub returns-in_default : goal.returns-in_default
-returns-in_default c = too-wide c.args.problem.now c.requires c.args.self.now c.if-not-self.false
-    (rw (c.in_default.is, c.deref.ensures.value) at c.in_ok-steps.ensures)

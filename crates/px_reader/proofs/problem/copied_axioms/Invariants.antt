@@ -1,6 +1,0 @@
--- What the loop of `copied_axioms` in src/problem.rt keeps true.
-use Rattle.px_reader.proofs.Common.{◌≡◌, take}
-use Rattle.px_reader.proofs.problem.copied_axioms.Given as goal
-
-abbrev pub invariant-loop-number : goal.invariant-loop-number
-invariant-loop-number l = l.copy ≡ take l.number l.axioms

@@ -1,8 +1,0 @@
--- What the loops of `Reader::literals` in src/reader.rt keep true.
-use Rattle.px_reader.proofs.Common.{◌≡◌, map, take, literal_of, declared_of, signed_view}
-use Rattle.px_reader.specs.LineVariables.{variables_view}
-use Rattle.px_reader.proofs.reader.Reader.literals.Given as goal
-
-abbrev pub invariant-loop-atom : goal.invariant-loop-atom
-invariant-loop-atom l = l.literals.items
-    ≡ map (λ x. literal_of (declared_of l.self) (variables_view l.variables) (signed_view x)) (take l.atom-index l.atoms)

@@ -1,9 +1,0 @@
--- Proofs of the goals that `add_height` of src/tables.rt leaves open.
-use Rattle.px_reader.proofs.Common.{ℕ, ◌<◌, arith}
-use Rattle.std.specs.Prelude.{◌^◌}
-use Rattle.px_reader.proofs.ProofHeights.{top-below}
-use Rattle.px_reader.proofs.tables.add_height.Goals as goal
-
-pub overflow_add-height : goal.overflow_add-height
-overflow_add-height c =
-    let low : c.take_highest.result < 2 ^ 63 = rw c.take_highest.ensures.highest (top-below _ _ c.requires) in omega (arith, low)

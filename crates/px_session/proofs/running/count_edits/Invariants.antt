@@ -1,7 +1,0 @@
--- What the loops of `count_edits` in src/running.rt keep true.
-use Rattle.std.proofs.Common.{◌≡◌, take}
-use Rattle.px_session.specs.Running.{edits_in}
-use Rattle.px_session.proofs.running.count_edits.Given as goal
-
-abbrev pub invariant-loop-one : goal.invariant-loop-one
-invariant-loop-one l = l.count ≡ edits_in (take l.one-index l.recorded)

@@ -1,6 +1,0 @@
--- What the loops of `most_adds` in src/running.rt keep true.
-use Rattle.std.proofs.Common.{◌≤◌, length, take, All}
-use Rattle.px_session.proofs.running.most_adds.Given as goal
-
-abbrev pub invariant-loop-schema : goal.invariant-loop-schema
-invariant-loop-schema l = All (λ schema. length schema.add ≤ l.most) (take l.schema-index l.schema-items)

@@ -1,8 +1,0 @@
--- What the loops of `disturb_at` in src/turns.rt keep true.
-use Rattle.std.proofs.Common.{take}
-use Rattle.px_planex.specs.Turns.{edits_at}
-use Rattle.px_session.specs.Running.{IsDisturbed}
-use Rattle.px_session.proofs.turns.disturb_at.Given as goal
-
-abbrev pub invariant-loop-one : goal.invariant-loop-one
-invariant-loop-one l = IsDisturbed (edits_at (take l.one-index l.recorded) l.number l.between) l.fn.world l.world

@@ -1,0 +1,6 @@
+-- What the loops of `SoFar::atom_edits` in src/terms.rt keep true.
+use Rattle.px_so_far.proofs.Common.{◌≡◌, map, take, atom_edit_of, declared_of, signed_view}
+use Rattle.px_so_far.proofs.so_far.SoFar.atom_edits.Given as goal
+
+abbrev pub invariant-loop-atom : goal.invariant-loop-atom
+invariant-loop-atom l = l.edits.items ≡ map (λ x. atom_edit_of (declared_of l.self) (signed_view x)) (take l.atom-index l.atoms)

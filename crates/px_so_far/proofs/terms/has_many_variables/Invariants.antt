@@ -1,0 +1,7 @@
+-- What the loops of `has_many_variables` in src/terms.rt keep true.
+use Rattle.px_so_far.proofs.Common.{◌≡◌, [], map, take, fold, with_variable, signed_view, text_of}
+use Rattle.px_so_far.proofs.AtomTests.{arguments}
+use Rattle.px_so_far.proofs.terms.has_many_variables.Given as goal
+
+abbrev pub invariant-loop-atom : goal.invariant-loop-atom
+invariant-loop-atom l = map text_of l.variables.items ≡ fold with_variable [] (arguments (map signed_view (take l.atom-index l.atoms)))

@@ -1,0 +1,4 @@
+-- The files of definitions.
+pub mod StatementViews
+pub mod FactLines
+pub mod Common
