@@ -1,5 +1,5 @@
 """The legend of a page: what columns, colours, outlines and signs mean, as far as the page has them."""
-from planex import Duo, Run, Tree
+from planex import Duo, Pursuit, Run, Tree
 
 
 def sign(inner):
@@ -40,13 +40,13 @@ OF_FLOORS = (
 def entries(stories):
     """The entries that the stories need."""
     replies = [item.reply for story in stories for item in story.told]
-    tables = [table for story in stories for table in story.tables.values()]
+    tables = [table for story in stories for table in (*story.tables.values(), *(plan for item in story.told for plan in item.plans))]
     parameters = [name for table in tables for name in table.parameters()]
     if tables:
         yield from OF_TABLES
     if parameters:
         yield OF_PARAMETERS[0].format(name=parameters[0]), OF_PARAMETERS[1]
-    if tables and any(isinstance(reply, (Duo, Run)) for reply in replies):
+    if tables and any(isinstance(reply, (Duo, Pursuit, Run)) for reply in replies):
         yield from OF_RUNS
     if any(item.states or item.turns or item.events for story in stories for item in story.told):
         yield from OF_FACTS

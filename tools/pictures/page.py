@@ -147,10 +147,11 @@ def turn_facts(told, turn, script):
     yield changed_facts(script, told.seen, gone, come - told.seen, f'{len(told.seen)} facts when the executor looks')
 
 
-def turn_item(turn, told, table, script, layout):
-    """A turn of a run."""
+def turn_item(turn, told, table, script, layout, place=0):
+    """A turn of a run, whose table stands at that place among those beside."""
     small = triangle.small(table, turn.kernel, turn.end) if table else ''
-    yield f'<li data-kernel="{turn.kernel}" data-end="{turn.end}">{small}<p class="line">{breaking(turn.text)}</p>'
+    yield (f'<li data-kernel="{"0 " * place}{turn.kernel}" data-end="{"other " * place}{turn.end}">{small}'
+           f'<p class="line">{breaking(turn.text)}</p>')
     if told:
         yield ''.join(f'<p>Before the look: {text(line)}</p>' for line in told.before)
         yield ''.join(f'<p>Between the look and the step: {text(line)}</p>' for line in told.between)
@@ -165,22 +166,30 @@ def turn_item(turn, told, table, script, layout):
     yield '</li>'
 
 
-def search_after(reply, number):
-    """What is said of the search that comes after a turn of a pursuit in which no kernel is found."""
-    search = 1 + sum(turn.end == 'nokernel' for turn in reply.turns[:number])
-    found = 'finds a plan, which is run from the next turn on' if number < len(reply.turns) else 'finds no plan'
+def search_after(reply, search):
+    """What is said of a search that begins where no kernel is found."""
+    found = 'finds a plan, which is run from the next turn on' if search <= len(reply.runs()) else 'finds no plan'
     return f'<p>Search {search} begins from these facts: it {found}.</p></li>'
 
 
+def pursuit_items(item, script, layout):
+    """The turns of a pursuit, with the search that follows a run."""
+    turns, plans = iter(item.turns or [None] * len(item.reply.turns)), item.plans or [None] * item.reply.searches
+    for place, (plan, (_, run)) in enumerate(zip(plans, item.reply.runs())):
+        items = [''.join(turn_item(turn, next(turns), plan, script, layout, place if plan else 0)) for turn in run]
+        yield from items[:-1]
+        yield items[-1].removesuffix('</li>') + search_after(item.reply, place + 2) if run[-1].end == 'nokernel' else items[-1]
+
+
 def pursuit_part(item, script, layout):
-    """A pursuit: the turns of its runs on one slider, and how it ends. The tables that are run aren't told."""
-    reply, turns = item.reply, item.turns or [None] * len(item.reply.turns)
-    items = [''.join(turn_item(turn, told, None, script, layout)) for turn, told in zip(reply.turns, turns)]
-    items = [part.removesuffix('</li>') + search_after(reply, number) if turn.end == 'nokernel' else part
-             for number, (turn, part) in enumerate(zip(reply.turns, items), 1)]
+    """A pursuit: the turns of its runs on one slider, beside the tables of its plans where these were asked for, and how it ends."""
+    reply, items = item.reply, [*pursuit_items(item, script, layout)]
+    named = [(f'plan of search {number}', plan) for number, plan in enumerate(item.plans, 1)]
+    beside = ''.join(figure(triangle.picture(plan, script.objects), f'triangle table of the {name}', name) for name, plan in named)
     inner = goal(item) + f'<p>Searches: {reply.searches}, each from the facts at that time. The first comes before turn 1.</p>'
+    inner += ''.join(f'<p>The {name}: {breaking(", ".join(map(str, plan.steps)) or "no step")}.</p>' for name, plan in named)
     inner += f'<p class="note">Facts{" and floors" if layout else ""}: {COMPUTED}.</p>' if item.turns else ''
-    inner += walk(reply.text, f'turn of {reply.name}', 1, items, layout) if items else ''
+    inner += walk(reply.text, f'turn of {reply.name}', 1, items, layout, beside) if items else ''
     if reply.end:
         numbers, meaning = said_of(reply.end)
         inner += f'<p class="line">{text(reply.end.text)}</p><p>{text(f"{numbers} {meaning}".strip())}</p>'

@@ -1,9 +1,12 @@
 """Where transcripts come from: standard input, or the program, which is run on a script and asked for the tables of its runs."""
+import itertools
 import sys
+from dataclasses import replace
 
 from pictures.script import read_script
 from pictures.story import with_script, without_script
-from planex import MOST_BYTES, MOST_COMMANDS, NoProgram, PlanexError, Refused, Stopped, Unread, replies_of, text_of, transcript_of
+from planex import (MOST_BYTES, MOST_COMMANDS, NoProgram, PlanexError, Pursuit, Refused, Run, Stopped, Table, Unread, replies_of, text_of,
+                    transcript_of)
 
 
 def script_of(path, data):
@@ -62,6 +65,40 @@ def answers(path, data, script):
     return replies_of(answer(path, data)), []
 
 
+def spelled_out(command, reply, recorded, names):
+    """The commands of a pursuit one by one: each search that found a plan, its table, and its run with what is recorded from there on."""
+    for name, (first, _) in zip(names, reply.runs()):
+        yield f'plan {name} {command.text.split(None, 2)[2]}'
+        yield f'show {name}'
+        for each in recorded:
+            if first > 1 and each.turn >= first:
+                yield f'disturb {each.turn - first + 1} {each.point} {each.text.split(each.point, 1)[1]}'
+        yield f'run {name}'
+
+
+def plans_of(data, script, replies):
+    """By the places of pursuits, the tables of the plans that they found. The program is asked for them by a script in which what a pursuit
+    does is spelled out."""
+    lines, names, recorded = data.split(b'\n'), {}, []
+    used = {*script.tables, *(command.name for command in script.commands)}
+    new = (name for name in (f'plan_{number}' for number in itertools.count(1)) if name not in used)
+    for place, (command, reply) in enumerate(zip(script.commands, replies)):
+        if command.word == 'disturb':
+            recorded.append(command)
+        elif isinstance(reply, Pursuit) and reply.turns:
+            names[place] = [next(new) for _ in reply.runs()]
+            lines[command.line - 1] = '\n'.join(spelled_out(command, reply, recorded, names[place])).encode()
+        recorded = [] if isinstance(reply, (Pursuit, Run)) else recorded
+    if not names:
+        return {}
+    try:
+        tables = {reply.name: reply for reply in replies_of(transcript_of(b'\n'.join(lines))[0]) if isinstance(reply, Table)}
+    except PlanexError:
+        return {}
+    return {place: [replace(tables[name], name=f'{replies[place].name}, search {number}') for number, name in enumerate(own, 1)]
+            for place, own in names.items() if all(name in tables for name in own)}
+
+
 def from_script(path):
     """The story of a script, by the program."""
     data = path.read_bytes()
@@ -70,7 +107,8 @@ def from_script(path):
     except Unread:
         answer(path, data)
         raise
-    return with_script(path.stem, script, *answers(path, data, script))
+    replies, asked = answers(path, data, script)
+    return with_script(path.stem, script, replies, asked, plans_of(data, script, replies))
 
 
 def from_input(data, path):

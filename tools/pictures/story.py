@@ -36,13 +36,14 @@ class TurnTold:
 
 @dataclass
 class Told:
-    """A reply with what its script tells of it: the command, the facts before and after each step of a plan, the turns of a run, and the
-    events of a run of two."""
+    """A reply with what its script tells of it: the command, the facts before and after each step of a plan, the turns of a run, the events
+    of a run of two, and the tables of the plans of a pursuit."""
     reply: object
     command: object = None
     states: list = field(default_factory=list)
     turns: list = field(default_factory=list)
     events: list = field(default_factory=list)
+    plans: list = field(default_factory=list)
 
 
 @dataclass
@@ -98,10 +99,13 @@ def without_script(title, replies):
     return Story(title, [Told(reply) for reply in replies], None, tables_of(replies, replies))
 
 
-def with_script(title, script, replies, asked=()):
-    """What a transcript and its script tell, with tables that were asked for besides."""
+def with_script(title, script, replies, asked=(), plans=None):
+    """What a transcript and its script tell, with tables that were asked for, and by their places those of the plans of pursuits."""
     tables = tables_of([*script.tables.values(), *asked, *replies], replies)
-    return Story(title, tell(script, replies, tables), script, tables)
+    story = Story(title, tell(script, replies, tables), script, tables)
+    for place, found in (plans or {}).items():
+        story.told[place].plans = found
+    return story
 
 
 def tables_of(told, replies):
