@@ -11,7 +11,7 @@
 //! - [`rooms`] is the example of Fikes, Hart and Nilsson (1972), in which a robot goes through a door and pushes a box through one:
 //!   its facts are [`is_in`], [`connects`] and [`is_box`], its model is [`opening`], and its goal [`box_in_first_room`]. In
 //!   [`sorted_rooms`] only the box can be pushed.
-//! - [`fact`], [`by_axiom`], [`row`] and [`mark`] are parts of tables. [`moving`] is the table of going and pushing in a [`RoomScene`]: of
+//! - [`fact`], [`row`] and [`mark`] are parts of tables. [`moving`] is the table of going and pushing in a [`RoomScene`]: of
 //!   the plan of 1972, with [`objects`], or of what it generalises to, with [`parameters`].
 #![tactic(auto)]
 
@@ -21,4 +21,4 @@ mod tables;
 
 pub use doors::{ROBOT, box_in_first_room, connects, is_box, is_in, opening, rooms, sorted_rooms};
 pub use parts::{add_axiom, atom, instance, model_of, no, o, problem_of, schema, v, yes};
-pub use tables::{RoomScene, by_axiom, fact, mark, moving, objects, parameters, row};
+pub use tables::{RoomScene, fact, mark, moving, objects, parameters, row};

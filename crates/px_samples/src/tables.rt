@@ -26,21 +26,6 @@ pub fn mark(row: u32, column: u32, index: u32, atom: Atom) -> Mark {
     }
 }
 
-/// Returns the literal at that place of the axiom of that number, by proofs of the complements of the others.
-pub fn by_axiom<const N: usize>(
-    alloc: Global,
-    (clause, place): (u32, u32),
-    theta: &[Term],
-    subs: [Proof; N],
-) -> Option<Proof> {
-    Some(Proof::Step {
-        clause,
-        theta: Sequence::from_slice(alloc, theta).ok()?,
-        place,
-        subs: Sequence::from_vec(Vec::from_array(alloc, subs).ok()?),
-    })
-}
-
 /// Returns the row of these proofs.
 pub fn row<const N: usize>(alloc: Global, proofs: [Proof; N]) -> Option<Row> {
     Some(Row::from_proofs(Vec::from_array(alloc, proofs).ok()?))
@@ -92,7 +77,12 @@ pub fn parameters() -> RoomScene {
 fn the_other_way(alloc: Global, scene: RoomScene) -> Option<Proof> {
     let there = connects(scene.back, scene.end, scene.there);
     let theta = [scene.back, scene.end, scene.there];
-    by_axiom(alloc, (0, 1), &theta, [fact(0, 0, there)])
+    Some(Proof::Step {
+        clause: 0,
+        theta: Sequence::from_slice(alloc, &theta).ok()?,
+        place: 1,
+        subs: Sequence::from_vec(Vec::from_array(alloc, [fact(0, 0, there)]).ok()?),
+    })
 }
 
 fn moving_rows(alloc: Global, scene: RoomScene) -> Option<Sequence<Row>> {

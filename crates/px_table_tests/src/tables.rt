@@ -1,120 +1,72 @@
-//! The plan of 1972: its kernels, its general table, and an instance that isn't proper; the table of a support.
-ghost use Rattle.std.specs.Prelude.{◌≡◌, ◌∷◌, []};
-ghost use Rattle.px_terms.specs.Validity.{IsAtomOf, IsValid};
+//! Tables and their parts are made and copied.
+ghost use Rattle.std.specs.Prelude.{◌≡◌};
+ghost use Rattle.px_terms.specs.Validity.{IsValid};
 
-use crate::samples::{is_instantiation, valid};
+use px_base::{NoMemory, Sequence};
 use px_general::generalise;
-use px_proof::{Leaf, Proof};
 use px_samples::{
-    ROBOT, connects, is_box, is_in, mark, moving, o, objects, parameters, rooms, sorted_rooms,
+    atom, fact, instance, is_in, model_of, moving, o, objects, parameters, problem_of, sorted_rooms,
 };
-use px_table::{Row, Table, build, check_table, kernel, marks, proper};
-use px_terms::{Atom, Problem, is_atom_of};
-use std::alloc::Global;
-use std::process::Abort;
+use px_table::{
+    Entry, Move, Node, Row, check_table, kernel, marks, rows_make_table, sorts_by_places,
+};
+use px_terms::{ClauseArena, is_valid};
 use std::rt::HostRuntime;
+use std::test::Fail;
 
-fn has_kernel(alloc: Global, rt: &impl Abort, table: &Table, i: u32, atoms: &[Atom]) -> bool {
-    kernel(alloc, table, i).expect(rt, "memory").as_slice() == atoms
+/// How many facts a row rests on.
+const MANY: u32 = 40_000;
+
+/// The box has a sort, so the parameter that is pushed has it.
+#[test]
+fn the_plan_of_1972_is_generalised(rt: HostRuntime) -> Result<(), Fail> {
+    let alloc = rt.alloc();
+    let problem = sorted_rooms(alloc, 0).expect(&rt, "memory");
+    let plan = moving(alloc, 0, objects()).expect(&rt, "memory");
+    assert!(&rt; is_valid(&problem) && check_table(&problem, &plan) && plan.params == 0);
+    let general = generalise(alloc, &problem, &plan).expect(&rt, "memory");
+    let wanted = moving(alloc, 6, parameters()).expect(&rt, "memory");
+    assert!(&rt; general.steps == wanted.steps && general.marks == wanted.marks);
+    let copy = general.try_copy()?;
+    let sorts = sorts_by_places(alloc, &problem, copy.steps.as_slice(), 6)?;
+    assert!(&rt; sorts == copy.param_sorts && sorts.as_slice() == [0, 0, 0, 1, 0, 0].as_slice());
+    assert!(&rt; kernel(alloc, &copy, 3)?.len() == 2);
+    Ok(())
 }
 
 #[test]
-fn kernels_of_the_general_table(rt: HostRuntime) {
-    let scene = parameters();
-    let table = moving(rt.alloc(), 6, scene).expect(&rt, "memory");
-    let table = table.try_copy().expect(&rt, "memory");
-    assert!(&rt; table.proofs.len() == 3);
-    let made = marks(rt.alloc(), table.proofs.as_slice()).expect(&rt, "memory");
-    assert!(&rt; made == table.marks);
-    let door = connects(scene.door, scene.here, scene.there);
-    let back = connects(scene.back, scene.end, scene.there);
-    let cargo = is_box(scene.cargo);
-    let waits = is_in(scene.cargo, scene.there);
-    let first = [is_in(ROBOT, scene.here), door, waits, back, cargo];
-    assert!(&rt; has_kernel(rt.alloc(), &rt, &table, 1, &first));
-    let second = [waits, is_in(ROBOT, scene.there), back, cargo];
-    assert!(&rt; has_kernel(rt.alloc(), &rt, &table, 2, &second));
-    let third = [cargo, is_in(scene.cargo, scene.end)];
-    assert!(&rt; has_kernel(rt.alloc(), &rt, &table, 3, &third));
+fn nodes_and_moves_are_copied(rt: HostRuntime) -> Result<(), Fail> {
+    let alloc = rt.alloc();
+    let entry = Entry::Macro {
+        number: 0,
+        prefix: 2,
+        sigma: Sequence::from_slice(alloc, &[1])?,
+    };
+    let push = Move::Push(entry.try_copy()?);
+    assert!(&rt; push.try_copy()? == push && Move::Apply.try_copy()? == Move::Apply);
+    let model = model_of(alloc, &[is_in(o(0), o(1))]).expect(&rt, "memory");
+    let stack = Vec::from_array(alloc, [entry, Entry::Op(instance(0, &[]))])?;
+    let node = Node::new(model, Sequence::from_vec(stack));
+    assert!(&rt; node.try_copy()? == node);
+    Ok(())
 }
 
-/// The box may come through another door and from a third room, but the robot stays.
+/// Marks are made, and rows tested, in time as their leaves.
 #[test]
-fn the_plan_is_generalised(rt: HostRuntime) {
-    let problem = valid(&rt, rooms(rt.alloc()));
-    let plan = moving(rt.alloc(), 0, objects()).expect(&rt, "memory");
-    assert!(&rt; check_table(&problem, &plan));
-    assert!(&rt; plan.params == 0);
-    let general = generalise(rt.alloc(), &problem, &plan).expect(&rt, "memory");
-    let wanted = moving(rt.alloc(), 6, parameters()).expect(&rt, "memory");
-    assert!(&rt; general.params == 6 && general.goal_vars == 1);
-    assert!(&rt; general.steps == wanted.steps);
-    assert!(&rt; general.goal == wanted.goal);
-    assert!(&rt; general.marks == wanted.marks);
-    assert!(&rt; general.param_sorts == wanted.param_sorts);
-}
-
-/// The parameter that is pushed has the sort of the place at which it stands.
-#[test]
-fn what_is_pushed_keeps_its_sort(rt: HostRuntime) {
-    let problem = valid(&rt, sorted_rooms(rt.alloc(), 0));
-    let plan = moving(rt.alloc(), 0, objects()).expect(&rt, "memory");
-    assert!(&rt; check_table(&problem, &plan));
-    assert!(&rt; plan.params == 0);
-    let general = generalise(rt.alloc(), &problem, &plan).expect(&rt, "memory");
-    assert!(&rt; general.param_sorts.as_slice() == [0u32, 0, 0, 1, 0, 0].as_slice());
-}
-
-#[test]
-fn the_robot_is_no_box(rt: HostRuntime) {
-    let problem = valid(&rt, rooms(rt.alloc()));
-    let table = moving(rt.alloc(), 6, parameters()).expect(&rt, "memory");
-    assert!(&rt; check_table(&problem, &table));
-    assert!(&rt; table.steps.len() == 2);
-    let robot_as_box = [1u32, 4, 2, 0, 4, 1];
-    assert!(&rt; is_instantiation(&problem, &table, &robot_as_box));
-    assert!(&rt; !proper(&problem, &table, &robot_as_box, 1));
-    assert!(&rt; proper(&problem, &table, &robot_as_box, 2));
-    let a_box = [1u32, 4, 2, 6, 4, 1];
-    assert!(&rt; is_instantiation(&problem, &table, &a_box));
-    assert!(&rt; proper(&problem, &table, &a_box, 1));
-}
-
-fn given_proof(atom: Atom) -> Proof
-    ensures { result ≡ Proof.Fact (record { column = 0; index = 0; atom = atom }) }
-{
-    Proof::Fact(Leaf {
-        column: 0,
-        index: 0,
-        atom,
-    })
-}
-
-/// Returns the support of no steps, whose goal is given at first.
-fn given_row(alloc: Global, rt: &impl Abort, atom: Atom) -> Vec<Row>
-    ensures { result.items ≡ (Proof.Fact (record { column = 0; index = 0; atom = atom }) ∷ []) ∷ [] }
-{
+fn many_marks_in_a_row(rt: HostRuntime) -> Result<(), Fail> {
+    let alloc = rt.alloc();
+    let axioms = ClauseArena::new(alloc);
+    let problem = problem_of(alloc, MANY, &[1], axioms, []).expect(&rt, "memory");
+    assert!(&rt; is_valid(&problem));
+    let mut goal = Vec::new(alloc);
     let mut proofs = Vec::new(alloc);
-    proofs.push(given_proof(atom)).expect(rt, "memory");
-    let mut rows = Vec::new(alloc);
-    rows.push(Row::from_proofs(proofs)).expect(rt, "memory");
-    rows
-}
-
-/// Returns the table of no steps, whose goal is given at first.
-fn given_table(alloc: Global, rt: &impl Abort, problem: &Problem, atom: Atom) -> Table
-    requires problem { IsValid problem.now }
-    requires atom { IsAtomOf problem.now 0 atom }
-{
-    let rows = given_row(alloc, rt, atom);
-    build(alloc, problem, &[atom], 0, &[], rows).expect(rt, "memory")
-}
-
-#[test]
-fn a_support_makes_a_table(rt: HostRuntime) {
-    let problem = valid(&rt, rooms(rt.alloc()));
-    let here = is_in(ROBOT, o(1));
-    assert!(&rt; is_atom_of(&problem, 0, &here));
-    let table = given_table(rt.alloc(), &rt, &problem, here);
-    assert!(&rt; table.marks.as_slice() == [mark(1, 0, 0, here)].as_slice());
+    for number in 0..MANY {
+        let given = atom(0, &[o(number)]);
+        goal.push(given)?;
+        proofs.push(fact(0, 0, given))?;
+    }
+    let rows = [Row::from_proofs(proofs)];
+    assert!(&rt; marks(alloc, &rows)?.len() == MANY as usize);
+    assert!(&rt; rows_make_table(&problem, 0, &[], &[], &goal, 0, &rows));
+    Ok(())
 }
