@@ -11,7 +11,7 @@ syntax match planexWildCard /\$/
 syntax match planexSign /[~+=-]/
 syntax match planexDeclaration /^\s*\(script\|object\|predicate\|axiom\|operator\|building\|fact\|sort\|table\|height\|nodes\|shapes\|weight\)\>/
 syntax match planexBlock /^\s*\(pre\|delete\|add\|end\|room\|door\|box\|robot\|param\|step\|goal\|proof\)\>/
-syntax match planexCommand /^\s*\(plan\|learn\|show\|disturb\|run\|facts\|duo\|save\|certify\|edit\|pursue\)\>/
+syntax match planexCommand /^\s*\(plan\|learn\|show\|disturb\|run\|facts\|duo\|save\|certify\|edit\|pursue\|tree\)\>/
 syntax match planexPredicate /\h\w*\ze\s*(/
 highlight default link planexComment Comment
 highlight default link planexVariable Identifier

@@ -199,9 +199,10 @@ def pursuit_part(item, script, layout):
 def tree_part(item):
     """A search as a tree, with what is said of the node that is chosen."""
     reply = item.reply
-    return (f'<section class="drawn"><h3>{text(reply.text)}</h3>{goal(item, 3)}<p>{text(tree.summary(reply))}</p>'
+    note = '<p class="note">What a node lacks of the facts is worked out from the script; an axiom may give it.</p>' if item.nodes else ''
+    return (f'<section class="drawn"><h3>{text(reply.text)}</h3>{goal(item, 3)}<p>{text(tree.summary(reply))}</p>{note}'
             f'<div class="search slide" tabindex="-1" data-title="{text(reply.text)}">{tree.levels(reply)}{FULL}<p role="status"></p>'
-            f'{figure(tree.picture(reply), f"search {reply.name}")}</div></section>')
+            f'{figure(tree.picture(reply, item.nodes), f"search {reply.name}")}</div></section>')
 
 
 def lines_part(reply, caption):

@@ -9,28 +9,35 @@ from pictures.changes import Change
 from planex import Atom, Unread, own_names, read_atoms, table_of
 
 COMMANDS = ('plan', 'learn', 'edit', 'show', 'disturb', 'run', 'duo', 'facts', 'save', 'certify', 'pursue', 'tree')
-# What a building gives to its script: as the table of operators in docs/LANGUAGE.md, without the preconditions.
+# What a building gives to its script: as the table of operators in docs/LANGUAGE.md.
 BUILDING_PREDICATES = ('INROOM', 'NEXTTO', 'CONNECTS', 'OPENED', 'CLOSED', 'ROOM', 'DOOR', 'BOX')
 BUILDING_OPERATORS = """
 operator GOTOB(b,r)
+pre BOX(b) INROOM(b,r) INROOM(ROBOT,r)
 delete NEXTTO(ROBOT,$)
 add NEXTTO(ROBOT,b)
 operator GOTOD(d,r,s)
+pre INROOM(ROBOT,r) CONNECTS(d,r,s)
 delete NEXTTO(ROBOT,$)
 add NEXTTO(ROBOT,d)
 operator OPEN(d)
+pre DOOR(d) NEXTTO(ROBOT,d) CLOSED(d)
 delete CLOSED(d)
 add OPENED(d)
 operator CLOSE(d)
+pre DOOR(d) NEXTTO(ROBOT,d) OPENED(d)
 delete OPENED(d)
 add CLOSED(d)
 operator GOTHRU(d,r,s)
+pre CONNECTS(d,r,s) INROOM(ROBOT,r) OPENED(d)
 delete INROOM(ROBOT,$) NEXTTO(ROBOT,$)
 add INROOM(ROBOT,s)
 operator PUSHD(b,d,r,s)
+pre BOX(b) INROOM(b,r) INROOM(ROBOT,r) NEXTTO(ROBOT,b) CONNECTS(d,r,s)
 delete NEXTTO(ROBOT,$) NEXTTO(b,$)
 add NEXTTO(ROBOT,b) NEXTTO(b,d)
 operator PUSHTHRU(b,d,r,s)
+pre BOX(b) INROOM(b,r) INROOM(ROBOT,r) CONNECTS(d,r,s) OPENED(d) NEXTTO(ROBOT,b) NEXTTO(b,d)
 delete INROOM(ROBOT,$) INROOM(b,$) NEXTTO(ROBOT,$) NEXTTO(b,$)
 add INROOM(ROBOT,s) INROOM(b,s) NEXTTO(ROBOT,b)
 """
@@ -74,6 +81,7 @@ class Script:
     objects: list = field(default_factory=list)
     predicates: list = field(default_factory=list)
     operators: dict = field(default_factory=dict)  # by name: the parameters and the change
+    preconditions: dict = field(default_factory=dict)  # by the name of an operator
     facts: list = field(default_factory=list)
     building: Building = None
     tables: dict = field(default_factory=dict)  # by name: those that the script begins with
@@ -97,6 +105,10 @@ class Script:
         """What a step, which is an operator's instance, changes."""
         parameters, change = self.operators[step.predicate]
         return change.under(dict(zip(parameters, step.arguments)))
+
+    def needed_by(self, step):
+        """The precondition of a step."""
+        return [atom.under(dict(zip(self.operators[step.predicate][0], step.arguments))) for atom in self.preconditions[step.predicate]]
 
     def in_order(self, facts):
         """Facts in the order in which the program lists them."""
@@ -213,7 +225,10 @@ def read_line(number, text, words, script):
     elif word == 'predicate':
         script.predicates.append(rest[0])
     elif word == 'operator':
-        script.operators[rest[0]] = (tuple(rest[2::2]), Change((), ()))
+        script.operators[rest[0]], script.preconditions[rest[0]] = (tuple(rest[2::2]), Change((), ())), ()
+    elif word == 'pre':
+        name, (parameters, _) = list(script.operators.items())[-1]
+        script.preconditions[name] += script.declared(read_atoms(rest), parameters)
     elif word in ('delete', 'add'):
         name, (parameters, change) = list(script.operators.items())[-1]
         atoms = script.declared(read_atoms(rest), (*parameters, *('$' if word == 'delete' else '')))
@@ -226,7 +241,7 @@ def read_line(number, text, words, script):
             read_line(number, line, tokens(line), script)
     elif word in ('room', 'door', 'box', 'robot'):
         read_thing(words, script)
-    elif word not in ('axiom', 'param', 'pre', 'end', 'height', 'nodes', 'shapes', 'weight'):
+    elif word not in ('axiom', 'param', 'end', 'height', 'nodes', 'shapes', 'weight'):
         raise ValueError(word)
 
 

@@ -4,8 +4,9 @@ The facts are worked out from the script's facts, operators and disturbances, an
 """
 from dataclasses import dataclass, field
 
+from pictures import lacks
 from pictures.duo import check_duo, check_step, events_of
-from planex import Duo, Facts, Noted, Plan, Pursuit, Run, Saved, Table, Unread
+from planex import Duo, Facts, Noted, Plan, Pursuit, Run, Saved, Table, Tree, Unread
 
 # The replies that a command may have.
 ANSWERS = {
@@ -37,13 +38,14 @@ class TurnTold:
 @dataclass
 class Told:
     """A reply with what its script tells of it: the command, the facts before and after each step of a plan, the turns of a run, the events
-    of a run of two, and the tables of the plans of a pursuit."""
+    of a run of two, the tables of the plans of a pursuit, and what each node of a search lacks."""
     reply: object
     command: object = None
     states: list = field(default_factory=list)
     turns: list = field(default_factory=list)
     events: list = field(default_factory=list)
     plans: list = field(default_factory=list)
+    nodes: list = field(default_factory=list)
 
 
 @dataclass
@@ -143,7 +145,7 @@ def tell(script, replies, tables):
         if not fit(command, reply):
             raise Unread(reply.line, f'line {command.line} of the script isn\'t answered so: {command.text}')
         item = Told(reply, command)
-        if not all(map(script.has_step, steps_of(reply))):
+        if not all(map(script.has_step, steps_of(reply))) or isinstance(reply, Tree) and not lacks.is_of(script, reply):
             raise Unread(reply.line, 'a step here is of no operator of the script')
         if isinstance(reply, Plan):
             item.states = [facts]
@@ -159,6 +161,8 @@ def tell(script, replies, tables):
         elif isinstance(reply, Duo):
             item.events = events_of(script, facts, reply, tables)
             facts = item.events[-1].left
+        elif isinstance(reply, Tree):
+            item.nodes = lacks.nodes_of(script, tables, facts, command, reply)
         elif isinstance(reply, Facts) and facts != frozenset(reply.atoms):
             raise Unread(reply.line, 'these aren\'t the facts to which the script\'s operators and disturbances lead')
         told.append(item)

@@ -85,7 +85,7 @@ class Declared:
 
     def __init__(self):
         self.objects, self.predicates, self.operators, self.results, self.plans, self.things = {}, {}, {}, {}, {}, {}
-        self.sorts, self.sorted = {}, {}
+        self.sorts, self.sorted, self.untabled = {}, {}, {}
         self.arities, self.once = {}, {}
         self.block, self.operator, self.parameters, self.command = None, None, [], None
 
@@ -120,6 +120,8 @@ class Declared:
             self.results[names[0]] = number
             if word == 'plan':
                 self.plans[names[0]] = number
+        elif word in ('pursue', 'tree'):
+            self.untabled[names[0]] = 'tree' if word == 'tree' else 'pursuit', number
         if word == 'table':
             self.results[names[0]] = number
         if word == 'operator':

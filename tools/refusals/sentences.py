@@ -87,6 +87,9 @@ def unknown_result(line, known):
     if name is None:
         return None
     listed = f': take {" or ".join(list(names)[:8])}' if names else ': a plan line before gives one'
+    if name in known.untabled:
+        kind, number = known.untabled[name]
+        return f'{name} is the name of the {kind} of line {number}, which has no table{listed}'
     return f'{name} is no {what} of an earlier line' + (meant(name, names) or listed)
 
 
@@ -136,7 +139,8 @@ def duplicate_objects(names, known):
 def duplicate(line, known, limit):
     names, word = line.names, line.word
     kinds = {'object': known.objects, 'predicate': known.predicates,
-             **{giver: known.results for giver in ('plan', 'learn', 'edit', 'table', 'pursue')},
+             **{giver: {**known.results, **{name: number for name, (_, number) in known.untabled.items()}}
+                for giver in ('plan', 'learn', 'edit', 'table', 'pursue', 'tree')},
              **{thing: known.objects for thing in ('room', 'door', 'box')}}
     if word == 'operator':
         if names[0] in known.operators:

@@ -49,15 +49,16 @@ WORDS = {
     'certify': Word('certify NAME', (COMMAND,)),
     'edit': Word('edit NAME from NAME NUMBER STEP=PLACE ..', (COMMAND,), 'the numbers of an edit line may be up to 9,999'),
     'pursue': Word('pursue NAME ATOM ..', (COMMAND,)),
+    'tree': Word('tree NAME NUMBER ATOM ..', (COMMAND,), 'the number of a tree line may be from 1 to 1,000'),
 }
 # The words that version 2 is the first to have, and version 3.
 WORDS_OF_TWO = ('sort', 'param', 'duo', 'table', 'step', 'goal', 'proof', 'save', 'certify', 'edit', 'pursue')
-WORDS_OF_THREE = ('weight',)
+WORDS_OF_THREE = ('weight', 'tree')
 BUILDING_EDITS = 'disturb NUMBER before EDIT .., or between, each edit robot ROOM, box BOX ROOM, or door DOOR open, or closed'
 # The words that open a block, with the place of the lines inside.
 BLOCKS = {'operator': OPERATOR, 'building': BUILDING, 'table': TABLE}
 # The words whose lines have atoms, with the number of tokens before these.
-ATOMS = {'pre': 1, 'delete': 1, 'add': 1, 'fact': 1, 'axiom': 1, 'plan': 2, 'disturb': 3, 'goal': 1, 'pursue': 2}
+ATOMS = {'pre': 1, 'delete': 1, 'add': 1, 'fact': 1, 'axiom': 1, 'plan': 2, 'disturb': 3, 'goal': 1, 'pursue': 2, 'tree': 3}
 # The predicates that a building gives to its script, with their numbers of arguments.
 BUILDING_PREDICATES = {'INROOM': 2, 'NEXTTO': 2, 'CONNECTS': 3, 'OPENED': 1, 'CLOSED': 1, 'ROOM': 1, 'DOOR': 1, 'BOX': 1}
 

@@ -1,6 +1,7 @@
 -- What the proofs here cite of std, of the lower crates, and of the definitions of this one.
 pub use Rattle.px_script.proofs.Common.{◌≡◌, ◌∙◌, map, sym, ap, length, arith, [], refl, ◌++◌, ◌∷◌, List, ℕ, true, subst, false, Bool, suc, None, Some, nat_lt, Option, ◌==◌, slice_index, has_name, repeats, has_wrong_arity, stands_twice, Declared, atom_of, number_in, OpenOperator, fault_at, first_of, passed, causes_with, own_limits, SignedAtom, wanted_by_edit, Binding, greatest, Stage, line_of, Statement, fact, atom_set, Atom, nat_tests, length-map, list_any-append, bytes_eq-Decides, list_any, flat_map, filter, bytes_eq, both_answers, is_bad_table, coded}
-pub use Rattle.px_causes.specs.Checks.{lacks, early_fault, early_limits, text_cmp}
+pub use Rattle.px_causes.specs.Checks.{is_undeclared, text_cmp}
+pub use Rattle.px_causes.specs.EarlyFaults.{early_fault, early_limits, stage_view}
 pub use Rattle.px_statements.specs.FactLines.{is_fact}
 pub use Rattle.px_so_far.specs.SoFarViews.{declared_of, leaves}
 pub use Rattle.px_lines.specs.ItemViews.{text_of, binding_view, room_edit_view}

@@ -1,6 +1,6 @@
 -- Tests of lines, token by token and of what stands to their ends.
 use Rattle.px_base.specs.declared.no_memory.NoMemory.{NoMemory}
-use Rattle.px_causes.proofs.Common.{◌≡◌, ◌||◌, ◌∙◌, ap, sym, true, false, List, list_any, list_any-map, flat_map, Declared, lacks, Option, Result, Ok, Err, IfOk, Statement, line_of, length-map}
+use Rattle.px_causes.proofs.Common.{◌≡◌, ◌||◌, ◌∙◌, ap, sym, true, false, List, list_any, list_any-map, flat_map, Declared, is_undeclared, Option, Result, Ok, Err, IfOk, Statement, line_of, length-map}
 use Rattle.px_script.specs.Causes.{has_long_name}
 use Rattle.px_script.specs.Items.{declared_in, wanted_in}
 use Rattle.px_lines.proofs.Views.{any-said}
@@ -9,7 +9,8 @@ use Rattle.px_lines.specs.LineViews.{line_view}
 use Rattle.px_lines.specs.declared.reading.Line.{Line}
 use Rattle.px_lines.specs.declared.items.Rest.{Rest}
 use Rattle.px_lines.specs.declared.items.Said.{Said}
-use Rattle.px_causes.specs.Checks.{IsFirstLimit, early_limits, early_own, group_is_long, group_repeats}
+use Rattle.px_causes.specs.Checks.{group_is_long, group_repeats}
+use Rattle.px_causes.specs.EarlyFaults.{IsFirstLimit, early_limits, early_own}
 use Rattle.px_causes.specs.declared.line_fault.PassedLimit.{PassedLimit}
 use Rattle.px_causes.proofs.Twice.{or_false}
 
@@ -22,9 +23,10 @@ pub ruleset lengths = (length-map)
 -- a test of names seen otherwise
 pub ruleset seen = (list_any-map)
 
-pub wanted-any : (d : Declared) (ones : List Said) (last : Rest) → list_any (lacks d) (flat_map wanted_in (said_items ones last))
-    ≡ (list_any (λ one. list_any (lacks d) (wanted_in (said_view one))) ones || list_any (lacks d) (flat_map wanted_in (rest_view last)))
-wanted-any d ones last = any-said wanted_in (lacks d) ones last
+pub wanted-any : (d : Declared) (ones : List Said) (last : Rest) → list_any (is_undeclared d) (flat_map wanted_in (said_items ones last))
+    ≡ (list_any (λ one. list_any (is_undeclared d) (wanted_in (said_view one))) ones
+    || list_any (is_undeclared d) (flat_map wanted_in (rest_view last)))
+wanted-any d ones last = any-said wanted_in (is_undeclared d) ones last
 
 pub ruleset wanted = (wanted-any)
 

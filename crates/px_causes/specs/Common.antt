@@ -1,6 +1,7 @@
 -- What the contracts here cite of std, of the lower crates, and of the definitions of this one.
 pub use Rattle.px_names.specs.Lists.{has_name}
-pub use Rattle.px_causes.specs.Checks.{IsFirstLimit, early_fault, early_limits, early_own, group_is_long, group_repeats, grown_by, lacks, lacks_argument, refuses, part_has, part_atom_has, stage_view, text_cmp}
+pub use Rattle.px_causes.specs.Checks.{group_is_long, group_repeats, grown_by, is_undeclared, lacks_argument, part_atom_has, part_has, refuses, text_cmp}
+pub use Rattle.px_causes.specs.EarlyFaults.{IsFirstLimit, early_fault, early_limits, early_own, late_fault, stage_view}
 pub use Rattle.px_causes.specs.FaultViews.{limit_number, refusal_of}
 pub use Rattle.px_so_far.specs.SoFarViews.{declared_of}
 pub use Rattle.px_lines.specs.ItemViews.{argument_view, binding_view, room_edit_view, signed_view, text_of}

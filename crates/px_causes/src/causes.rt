@@ -1,9 +1,9 @@
 //! The first fault of a line.
-ghost use Rattle.std.specs.Prelude.{◌≡◌, ◌∷◌, [], IfOk};
-ghost use Rattle.px_script.specs.Faults.{first_of};
+ghost use Rattle.std.specs.Prelude.{◌≡◌, ◌∷◌, [], false, IfOk, IfSome, None, Some};
+ghost use Rattle.px_script.specs.Faults.{fault_at, first_of};
+ghost use Rattle.px_statements.specs.FactLines.{is_fact};
 ghost use Rattle.px_lines.specs.LineViews.{line_view};
-ghost use Rattle.px_causes.specs.Checks.{late_fault};
-ghost use Rattle.px_causes.specs.Common.{coded, option_map, line_of, AreInRange, early_fault, refusal_of, stage_view, declared_of, statement_view};
+ghost use Rattle.px_causes.specs.Common.{coded, option_map, line_of, AreInRange, early_fault, late_fault, refusal_of, stage_view, declared_of, statement_view};
 
 use crate::closing::closes_bad_table;
 use crate::duplicates::has_duplicate;
@@ -27,8 +27,31 @@ fn bad_table(is_bad: bool) -> Option<LineFault>
     }
 }
 
-/// Returns the first fault of a line by what it says, in the order of the causes, but for the limit of facts.
+/// Returns the first fault of a line by what it says, in the order of the causes, but for the limit of facts; or `None`, where it has
+/// none of them.
+///
+/// # Errors
+/// `NoMemory` where there is no memory to look for it.
 pub fn fault(
+    so_far: &SoFar,
+    stage: &[&str],
+    line: &Line<'_>,
+    statement: Statement<'_, '_>,
+) -> Result<Option<LineFault>, NoMemory>
+    requires range { AreInRange (declared_of so_far.now) }
+    requires same { line_of (statement_view statement) ≡ line_view line.now }
+    ensures early { IfOk result (λ fault. option_map refusal_of fault
+        ≡ early_fault (stage_view stage.now) (declared_of so_far.now) (statement_view statement.entry)) }
+    ensures found { IfOk result (λ fault. IfSome fault (λ one.
+        fault_at (stage_view stage.now) (declared_of so_far.now) (statement_view statement.entry) ≡ Some (refusal_of one))) }
+    ensures none { IfOk result (λ fault. fault ≡ None → is_fact (statement_view statement.entry) ≡ false
+        → fault_at (stage_view stage.now) (declared_of so_far.now) (statement_view statement.entry) ≡ None) }
+{
+    early_fault(so_far, stage, line, statement)
+}
+
+/// Returns the first fault of a line, but for the limit of facts: the causes are tried in their order.
+fn early_fault(
     so_far: &SoFar,
     stage: &[&str],
     line: &Line<'_>,

@@ -9,6 +9,9 @@ use px_so_far::SoFar;
 use px_statements::Statement;
 
 /// Returns whether the line closes a table's block that is bad.
+///
+/// # Errors
+/// `NoMemory` where there is no memory to look.
 pub fn closes_bad_table(so_far: &SoFar, statement: Statement<'_, '_>) -> Result<bool, NoMemory>
     requires { AreInRange (declared_of so_far.now) }
     ensures { IfOk result (λ bad. bad ≡ is_bad_table (declared_of so_far.now) (statement_view statement.entry)) }

@@ -1,10 +1,10 @@
 //! The limits of a script.
-ghost use Rattle.std.specs.Prelude.{◌≡◌, ◌<◌, ◌+◌, ◌^◌, ◌&&◌, ◌||◌, [], ◌∷◌, length, map, nat_lt, IfOk, if◌then◌else◌, Some, None};
+ghost use Rattle.std.specs.Prelude.{◌≡◌, ◌<◌, ◌+◌, ◌^◌, ◌||◌, [], ◌∷◌, length, map, nat_lt, IfOk, if◌then◌else◌, Some, None};
 ghost use Rattle.px_script.specs.Causes.{is_long, is_numbered};
 ghost use Rattle.px_script.specs.Items.{declared_in};
 ghost use Rattle.px_script.specs.declared.limits.Limit.TheVariants as limit;
 ghost use Rattle.px_script.specs.Faults.{any_outside, has_great_number, heights_of, highest, numbers_of_part, steps_here};
-ghost use Rattle.px_script.specs.Limits.{greatest, of_executor};
+ghost use Rattle.px_script.specs.Limits.{greatest, of_executor, of_tree};
 ghost use Rattle.px_script.specs.Statements as spec;
 ghost use Rattle.px_lines.specs.ItemViews.{part_view, rest_view, said_view};
 ghost use Rattle.px_lines.specs.LineViews.{line_view};
@@ -15,8 +15,8 @@ use px_base::NoMemory;
 use px_lines::{Line, Part, Rest, Said, SignedAtom};
 use px_names::Kind;
 use px_script::{
-    EXECUTORS, LAST_NUMBER, LAST_TURN, LAST_VERSION, Limit, NAME_BYTES, Named, greatest,
-    most_script_nodes, most_script_weight,
+    EXECUTORS, LAST_NUMBER, LAST_TURN, LAST_VERSION, Limit, MOST_TREE_NODES, NAME_BYTES, Named,
+    greatest, most_script_nodes, most_script_weight,
 };
 use px_so_far::{SoFar, any_part_great, greatest_height, has_many_variables};
 use px_statements::Statement;
@@ -177,17 +177,16 @@ fn own_limit(so_far: &SoFar, statement: Statement<'_, '_>) -> Result<Option<Pass
         Statement::Plan(_, goal) => plan_limit(so_far, goal)?,
         Statement::DisturbAtoms(turn, _, edits) => disturbance_limit(so_far, turn, edits.len()),
         Statement::DisturbRooms(turn, _, edits) => disturbance_limit(so_far, turn, edits.len()),
-        Statement::Learn(_, _) | Statement::Show(_) | Statement::Run(_, _) | Statement::Facts => {
-            commands_limit(so_far)
-        }
+        Statement::Learn(_, _) | Statement::Ask(_, _) | Statement::Run(_, _) | Statement::Facts =>
+            commands_limit(so_far),
         Statement::Table(_, parameters) => table_limit(so_far, parameters),
         Statement::Step(_, _) => step_limit(so_far),
         Statement::Goal(atoms) => over(so_far, atoms.len(), Limit::GoalAtoms),
         Statement::Proof(parts) => proof_limit(so_far, parts)?,
-        Statement::Save(_) | Statement::Certify(_) => commands_limit(so_far),
         Statement::Edit(_, _, prefix, pairs) => edit_limit(so_far, prefix, pairs),
         Statement::Duo(_, _, numbers) => duo_limit(so_far, numbers),
         Statement::Pursue(_, goal) => plan_limit(so_far, goal)?,
+        Statement::Tree(_, nodes, goal) => tree_limit(so_far, nodes, goal)?,
         Statement::Sort(_, objects) => sort_limit(so_far, objects.len()),
         Statement::Building
         | Statement::Robot(_)
@@ -263,6 +262,24 @@ fn plan_limit(so_far: &SoFar, goal: &[SignedAtom<'_>]) -> Result<Option<PassedLi
         passed(many, PassedLimit::Most(Limit::Variables))
             .or(over(so_far, goal.len(), Limit::GoalAtoms))
             .or(commands_over(so_far)),
+    )
+}
+
+fn tree_limit(
+    so_far: &SoFar,
+    nodes: u32,
+    goal: &[SignedAtom<'_>],
+) -> Result<Option<PassedLimit>, NoMemory>
+    ensures { IfOk result (λ found. IsFirstLimit found (over (declared_of so_far.now) limit.Variables
+        (length (variable_names_of (map signed_view goal.now))) ∷ over (declared_of so_far.now) limit.GoalAtoms (length goal.now)
+        ∷ over (declared_of so_far.now) limit.Commands (length so_far.now.commands.items + 1) ∷ outside of_tree nodes ∷ [])) }
+{
+    let many = has_many_variables(so_far.alloc, goal)?;
+    Ok(
+        passed(many, PassedLimit::Most(Limit::Variables))
+            .or(over(so_far, goal.len(), Limit::GoalAtoms))
+            .or(commands_over(so_far))
+            .or(outside(nodes, 1, MOST_TREE_NODES)),
     )
 }
 
@@ -355,9 +372,9 @@ fn grown(so_far: &SoFar, statement: Statement<'_, '_>) -> usize
     }
 }
 
-/// Returns whether the line is one of facts, and with it there are more different facts than there may be.
-pub fn has_too_many_facts(so_far: &SoFar, is_fact: bool) -> bool
-    ensures { result ≡ (is_fact && nat_lt (greatest so_far.now.version limit.Facts) (length so_far.now.facts.atoms)) }
+/// Returns whether there are more different facts than a script of the version may have.
+pub fn has_too_many_facts(so_far: &SoFar) -> bool
+    ensures { result ≡ (over (declared_of so_far.now) limit.Facts (length (declared_of so_far.now).facts)).0 }
 {
-    is_fact && so_far.facts.atoms().len() > greatest(so_far.version, Limit::Facts) as usize
+    so_far.facts.atoms().len() > greatest(so_far.version, Limit::Facts) as usize
 }

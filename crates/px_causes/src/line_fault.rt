@@ -20,15 +20,23 @@ pub enum LineFault {
     NotText,
     /// A character begins no token, or the rest of the line doesn't have the form of its word.
     BadToken,
+    /// The line begins with no word of the script's version.
     UnknownWord,
+    /// A name isn't declared in its kind.
     UnknownName,
+    /// A name is declared already or twice, or what may stand once stands a second time.
     Duplicate,
+    /// An atom has another number of arguments than its predicate.
     Arity,
+    /// An argument stands where it may not.
     Unbound,
+    /// A limit is passed.
     Limit(PassedLimit),
+    /// The line stands where it may not.
     Order,
     /// The input ends inside a block.
     MissingEnd,
+    /// The line's word isn't built.
     NotBuilt,
     /// The block of a table is closed whose parts make no table of the problem.
     BadTable,

@@ -7,13 +7,14 @@ ghost use Rattle.px_script.specs.Forms.{arguments_of, line_atoms};
 ghost use Rattle.px_script.specs.Items.{open_variable, wanted_in};
 ghost use Rattle.px_lines.specs.ItemViews.{rest_view, said_view};
 ghost use Rattle.px_lines.specs.LineViews.{line_view};
-ghost use Rattle.px_causes.specs.Common.{flat_map, list_any, string_bytes, has_name, has_unknown_name, has_wrong_arity, is_known_argument, is_unbound, takes, wanted_by, number_in, an_object, wanted_by_edit, lacks, lacks_argument, part_atom_has, part_has, refuses, declared_of, argument_view, room_edit_view};
+ghost use Rattle.px_causes.specs.Common.{flat_map, list_any, string_bytes, has_name, has_unknown_name, has_wrong_arity, is_known_argument, is_unbound, takes, wanted_by, number_in, an_object, wanted_by_edit, is_undeclared, lacks_argument, part_atom_has, part_has, refuses, declared_of, argument_view, room_edit_view};
 
 use px_lines::{Argument, Line, Part, Rest, Said, SignedAtom, WrittenBinding, WrittenRoomEdit};
 use px_names::Kind;
 use px_script::{Manner, Named};
 use px_so_far::{SoFar, goal_place, parameter_place, place_of};
 
+/// Returns whether the name is one of these.
 #[tactic(auto, using(crate::proofs::AtomTests::positions))]
 pub fn is_among(name: &str, names: &[String]) -> bool
     ensures { result ≡ has_name name.now (map string_bytes names.now) }
@@ -144,30 +145,30 @@ fn is_known(so_far: &SoFar, argument: &Argument<'_>) -> bool
 /// Returns whether some name outside atoms that the line wants isn't declared in its kind.
 #[tactic(auto, using(crate::proofs::LineTests::wanted))]
 fn lacks_name(so_far: &SoFar, line: &Line<'_>) -> bool
-    ensures { result ≡ list_any (lacks (declared_of so_far.now)) (wanted_by (line_view line.now)) }
+    ensures { result ≡ list_any (is_undeclared (declared_of so_far.now)) (wanted_by (line_view line.now)) }
 {
     ones_lack(so_far, &line.ones) || rest_lacks(so_far, &line.last)
 }
 
 fn ones_lack(so_far: &SoFar, ones: &[Said<'_>]) -> bool
-    ensures { result ≡ list_any (λ one. list_any (lacks (declared_of so_far.now)) (wanted_in (said_view one))) ones.now }
+    ensures { result ≡ list_any (λ one. list_any (is_undeclared (declared_of so_far.now)) (wanted_in (said_view one))) ones.now }
 {
     ones.iter().any(|one| one_lacks(so_far, one))
 }
 
 #[tactic(auto, using(crate::proofs::LineTests::single))]
 fn one_lacks(so_far: &SoFar, one: &Said<'_>) -> bool
-    ensures { result ≡ list_any (lacks (declared_of so_far.now)) (wanted_in (said_view one.now)) }
+    ensures { result ≡ list_any (is_undeclared (declared_of so_far.now)) (wanted_in (said_view one.now)) }
 {
     match one {
-        Said::Known(kind, name) => lacks(so_far, *kind, name),
+        Said::Known(kind, name) => is_undeclared(so_far, *kind, name),
         _ => false,
     }
 }
 
 #[tactic(auto, using(crate::proofs::AtomTests::names_lack))]
 fn rest_lacks(so_far: &SoFar, last: &Rest<'_>) -> bool
-    ensures { result ≡ list_any (lacks (declared_of so_far.now)) (flat_map wanted_in (rest_view last.now)) }
+    ensures { result ≡ list_any (is_undeclared (declared_of so_far.now)) (flat_map wanted_in (rest_view last.now)) }
 {
     match last {
         Rest::Bindings(bindings) => lack_objects(so_far, bindings),
@@ -178,8 +179,8 @@ fn rest_lacks(so_far: &SoFar, last: &Rest<'_>) -> bool
 }
 
 /// Returns whether the name isn't declared in the kind.
-fn lacks(so_far: &SoFar, kind: Named, name: &str) -> bool
-    ensures { result ≡ lacks (declared_of so_far.now) (kind, name.now) }
+fn is_undeclared(so_far: &SoFar, kind: Named, name: &str) -> bool
+    ensures { result ≡ is_undeclared (declared_of so_far.now) (kind, name.now) }
 {
     match kind {
         Named::Object => !so_far.has(Kind::Object, name),
@@ -197,35 +198,34 @@ fn lacks(so_far: &SoFar, kind: Named, name: &str) -> bool
 }
 
 fn lack_wanted(so_far: &SoFar, kind: Named, names: &[&str]) -> bool
-    ensures { result ≡ list_any (λ name. lacks (declared_of so_far.now) (kind, name.now)) names.now }
+    ensures { result ≡ list_any (λ name. is_undeclared (declared_of so_far.now) (kind, name.now)) names.now }
 {
-    names.iter().any(|name| lacks(so_far, kind, name))
+    names.iter().any(|name| is_undeclared(so_far, kind, name))
 }
 
 fn lack_places(so_far: &SoFar, edits: &[WrittenRoomEdit<'_>]) -> bool
-    ensures { result ≡ list_any (λ edit. list_any (lacks (declared_of so_far.now)) (wanted_by_edit (room_edit_view edit))) edits.now }
+    ensures { result
+        ≡ list_any (λ edit. list_any (is_undeclared (declared_of so_far.now)) (wanted_by_edit (room_edit_view edit))) edits.now }
 {
     edits.iter().any(|edit| lacks_place(so_far, edit))
 }
 
 fn lacks_place(so_far: &SoFar, edit: &WrittenRoomEdit<'_>) -> bool
-    ensures { result ≡ list_any (lacks (declared_of so_far.now)) (wanted_by_edit (room_edit_view edit.now)) }
+    ensures { result ≡ list_any (is_undeclared (declared_of so_far.now)) (wanted_by_edit (room_edit_view edit.now)) }
 {
     match edit {
-        WrittenRoomEdit::RobotTo(room) => lacks(so_far, Named::Room, room),
+        WrittenRoomEdit::RobotTo(room) => is_undeclared(so_far, Named::Room, room),
         WrittenRoomEdit::BoxTo(name, room) => {
-            lacks(so_far, Named::Box, name) || lacks(so_far, Named::Room, room)
+            is_undeclared(so_far, Named::Box, name) || is_undeclared(so_far, Named::Room, room)
         }
-        WrittenRoomEdit::DoorTo(name, _) => lacks(so_far, Named::Door, name),
+        WrittenRoomEdit::DoorTo(name, _) => is_undeclared(so_far, Named::Door, name),
     }
 }
 
 fn lack_objects(so_far: &SoFar, bindings: &[WrittenBinding<'_>]) -> bool
-    ensures { result ≡ list_any (λ binding. lacks (declared_of so_far.now) (an_object, binding.object.now)) bindings.now }
+    ensures { result ≡ list_any (λ binding. is_undeclared (declared_of so_far.now) (an_object, binding.object.now)) bindings.now }
 {
-    bindings
-        .iter()
-        .any(|binding| lacks(so_far, Named::Object, binding.object))
+    bindings.iter().any(|binding| is_undeclared(so_far, Named::Object, binding.object))
 }
 
 /// Returns whether some atom has another number of arguments than its predicate.

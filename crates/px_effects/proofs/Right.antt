@@ -1,6 +1,8 @@
 -- What a line without a fault lets a step take for granted.
-use Rattle.px_terms.specs.Limits.{most_arguments, most_parameters}
-use Rattle.px_effects.proofs.Common.{◌≡◌, ℕ, ◌≤◌, true, List, [], ◌∷◌, ◌++◌, map, length, get_or, false, refl, sym, ap, ◌∙◌, subst, inl, inr, arith, All, Option, None, Some, slice_index, get_or-append_seam, eqb-true, cases_lt, append-nil, length-map, get_or_past, ArePlainBelow, IsClause, IsGround, has_wrong_arity, Declared, OpenOperator, operator_here, parameters_of, number_in, atom_of, literal_of, clause_of, variable_names_of, own_problem, line_atoms, is_formed, SignedAtom, Line, Statement, plain, line_of, «axiom», fact, IsRight, IsFaultless, stands-right, at-top, has_other_arity, atoms-right, line-kept, well-formed, atoms-with, unmap, no-parameters, OperatorsInRange, AreInRange, not-false, each-fails, AreReadable, argument_view, signed_view, WrittenAtom, length-append}
+use Rattle.px_terms.specs.Limits.{most_arguments, most_clauses, most_parameters}
+use Rattle.px_terms.specs.Clauses.{IsArena}
+use Rattle.std.specs.Prelude.{◌<◌}
+use Rattle.px_effects.proofs.Common.{◌≡◌, ℕ, ◌≤◌, true, List, [], ◌∷◌, ◌++◌, map, length, get_or, false, refl, sym, ap, ◌∙◌, subst, inl, inr, arith, All, Option, None, Some, slice_index, get_or-append_seam, eqb-true, cases_lt, append-nil, length-map, get_or_past, IsClause, IsGround, has_wrong_arity, Declared, OpenOperator, operator_here, parameters_of, number_in, atom_of, clause_of, own_problem, line_atoms, is_formed, SignedAtom, Line, Statement, plain, line_of, «axiom», fact, IsRight, IsFaultless, stands-right, at-top, has_other_arity, atoms-right, line-kept, well-formed, atoms-with, unmap, no-parameters, OperatorsInRange, AreInRange, not-false, each-fails, AreReadable, argument_view, signed_view, WrittenAtom, length-append}
 use Rattle.px_terms.specs.ValidityLaws.{atom_of-is_ground}
 
 pub few-in : (d : Declared) (o : Option OpenOperator) → OperatorsInRange d.version d.names (own_problem d) d.things o
@@ -48,9 +50,14 @@ facts-ground d atoms r right = unmap signed_view (λ x. IsGround (atom_of d [] x
     (unmap (atom_of d []) IsGround (map signed_view atoms) (facts-are d (map signed_view atoms) r right))
 
 -- the new clause is the last of the axioms
-pub axiom-plain : (d : Declared) (xs : List SignedAtom) → AreInRange d → is_formed d (line_of («axiom» xs)) ≡ true
-    → IsFaultless d («axiom» xs) → ArePlainBelow (length (variable_names_of xs)) (map (literal_of d (variable_names_of xs)) xs)
-axiom-plain d xs r formed f = let after = line-kept 0 d r («axiom» xs) (well-formed d (line_of («axiom» xs)) formed) f in
-    let last = after.problem.valid.arena.each (length d.axioms) (clause_of d xs)
-    (omega (arith, length-append d.axioms (clause_of d xs ∷ []))) in
-    let c : IsClause (clause_of d xs) = subst IsClause (get_or-append_seam d.axioms (clause_of d xs) [] (clause_of d xs)) last in c.plain
+module _ (d : Declared) (xs : List SignedAtom) (r : AreInRange d) (formed : is_formed d (line_of («axiom» xs)) ≡ true)
+    (f : IsFaultless d («axiom» xs)) where
+  axioms-after : IsArena (d.axioms ++ clause_of d xs ∷ [])
+  axioms-after = (line-kept 0 d r («axiom» xs) (well-formed d (line_of («axiom» xs)) formed) f).problem.valid.arena
+
+  pub axiom-clause : IsClause (clause_of d xs)
+  axiom-clause = subst IsClause (get_or-append_seam d.axioms (clause_of d xs) [] (clause_of d xs))
+      (axioms-after.each (length d.axioms) (clause_of d xs) (omega (arith, length-append d.axioms (clause_of d xs ∷ []))))
+
+  pub axiom-room : length d.axioms < most_clauses
+  axiom-room = let most = axioms-after.most in omega (arith, most, length-append d.axioms (clause_of d xs ∷ []))

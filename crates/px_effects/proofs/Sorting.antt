@@ -21,7 +21,8 @@ pub ruleset lengths = (length-map)
 -- a place among items seen otherwise
 pub ruleset positions = (list_any-map, position-map, some-position)
 
-pub text-at : {A : Type 0} (f : A → List ℕ) (xs : List A) (k : ℕ) (d : A) → k < length xs → f (get_or xs k d) ≡ slice_index_or (map f xs) k []
+pub text-at : {A : Type 0} (f : A → List ℕ) (xs : List A) (k : ℕ) (d : A) → k < length xs
+    → f (get_or xs k d) ≡ slice_index_or (map f xs) k []
 text-at f [] k d below = absurd (omega (arith, below))
 text-at f (x ∷ xs) zero d below = refl
 text-at f (x ∷ xs) (suc k) d below = text-at f xs k d (omega (arith, below))

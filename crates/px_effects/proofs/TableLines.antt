@@ -86,7 +86,8 @@ pub goal-set : (so_far : SoFar) (b : code.OpenBlock) (t : table.OpenTable) (aim 
 goal-set so_far b t aim vars xs is kind aim_is vars_are =
     let d = declared_of so_far in
     let n = length so_far.schemas.items in
-    let f : WrittenTable → WrittenTable = λ w. record w { goal = map (atom_of d (table_variables d)) xs; goal_vars = goal_variables d xs } in
+    let f : WrittenTable → WrittenTable
+    = λ w. record w { goal = map (atom_of d (table_variables d)) xs; goal_vars = goal_variables d xs } in
     let here : d.block ≡ Some (record { line = b.line; kind = table_kind t.has_goal (table_view t) })
     = ap (option_map (open_block_view n)) is ∙ ap (λ k. Some (record { line = b.line; kind = kind_view n k })) kind in
     let new : record (table_view t) { goal = aim; goal_vars = vars } ≡ f (table_view t)

@@ -19,8 +19,11 @@ use std::alloc::Global;
 /// A list of an operator.
 #[derive(Clone, Copy)]
 pub enum Role {
+    /// The precondition.
     Pre,
+    /// The delete list.
     Delete,
+    /// The add list.
     Add,
 }
 
@@ -48,13 +51,14 @@ fn owned(alloc: Global, names: &[&str]) -> Result<Vec<String>, NoMemory>
     Ok(owned)
 }
 
+/// Opens the block of an operator whose parameters have these names and no sort, and adds its name.
 pub fn begin_operator(
     so_far: &mut SoFar,
     line: u32,
     name: &str,
     parameters: &[&str],
 ) -> Result<(), NoMemory>
-    requires { IsFresh Kind.Operator so_far.old.names name.now }
+    requires fresh { IsFresh Kind.Operator so_far.old.names name.now }
     ensures { OnOk result (declared_of so_far.new
         ≡ leaves line (declared_of so_far.old) (spec.operator name.now (map text_of parameters.now))) }
 {
@@ -82,7 +86,7 @@ pub fn extend_operator(
     role: Role,
     atoms: &[SignedAtom<'_>],
 ) -> Result<(), NoMemory>
-    requires { AreReadable (declared_of so_far.old) atoms.now }
+    requires readable { AreReadable (declared_of so_far.old) atoms.now }
     ensures { OnOk result (declared_of so_far.new ≡ leaves 0 (declared_of so_far.old) (in_role role (map signed_view atoms.now))) }
 {
     let atoms = so_far.atoms(&Variables::Named(&[]), atoms)?;
@@ -98,6 +102,7 @@ pub fn extend_operator(
     Ok(())
 }
 
+/// Closes the open block, and adds the operator or the table that it is of.
 pub fn close_block(so_far: &mut SoFar) -> Result<(), NoMemory>
     requires range { AreInRange (declared_of so_far.old) }
     requires good { is_bad_table (declared_of so_far.old) spec.end ≡ false }
@@ -134,7 +139,7 @@ fn add_schema(so_far: &mut SoFar, operator: OpenOperator) -> Result<(), NoMemory
 
 /// Opens the building's block, and declares the names that every building gives to its script.
 pub fn open_building(so_far: &mut SoFar, line: u32) -> Result<(), NoMemory>
-    requires { AreOfKinds (leaves line (declared_of so_far.old) spec.building).names }
+    requires fresh { AreOfKinds (leaves line (declared_of so_far.old) spec.building).names }
     ensures { OnOk result (declared_of so_far.new ≡ leaves line (declared_of so_far.old) (spec.building)) }
 {
     declare_names(so_far, Kind::Object, &["ROBOT"])?;
@@ -149,8 +154,9 @@ pub fn open_building(so_far: &mut SoFar, line: u32) -> Result<(), NoMemory>
     Ok(())
 }
 
+/// Adds a room to the building.
 pub fn add_room(so_far: &mut SoFar, name: &str) -> Result<(), NoMemory>
-    requires { IsFresh Kind.Object so_far.old.names name.now }
+    requires fresh { IsFresh Kind.Object so_far.old.names name.now }
     ensures { OnOk result (declared_of so_far.new ≡ leaves 0 (declared_of so_far.old) (spec.room name.now)) }
 {
     add_name(so_far, Kind::Object, name)?;
@@ -158,6 +164,7 @@ pub fn add_room(so_far: &mut SoFar, name: &str) -> Result<(), NoMemory>
     add_thing(so_far, Thing::Room)
 }
 
+/// Adds a door between two rooms to the building.
 pub fn add_door(
     so_far: &mut SoFar,
     name: &str,
@@ -165,7 +172,7 @@ pub fn add_door(
     other: &str,
     is_open: bool,
 ) -> Result<(), NoMemory>
-    requires { IsFresh Kind.Object so_far.old.names name.now }
+    requires fresh { IsFresh Kind.Object so_far.old.names name.now }
     ensures { OnOk result (declared_of so_far.new ≡ leaves 0 (declared_of so_far.old) (spec.door name.now one.now other.now is_open)) }
 {
     let a = so_far.object(one);
@@ -175,8 +182,9 @@ pub fn add_door(
     add_thing(so_far, Thing::Door { a, b, is_open })
 }
 
+/// Adds a box in a room to the building.
 pub fn add_box(so_far: &mut SoFar, name: &str, room: &str) -> Result<(), NoMemory>
-    requires { IsFresh Kind.Object so_far.old.names name.now }
+    requires fresh { IsFresh Kind.Object so_far.old.names name.now }
     ensures { OnOk result (declared_of so_far.new ≡ leaves 0 (declared_of so_far.old) (spec.box name.now room.now)) }
 {
     let room = so_far.object(room);
@@ -185,6 +193,7 @@ pub fn add_box(so_far: &mut SoFar, name: &str, room: &str) -> Result<(), NoMemor
     add_thing(so_far, Thing::Box { room })
 }
 
+/// Puts the building's robot into a room.
 pub fn add_robot(so_far: &mut SoFar, room: &str) -> Result<(), NoMemory>
     ensures { OnOk result (declared_of so_far.new ≡ leaves 0 (declared_of so_far.old) (spec.robot room.now)) }
 {

@@ -4,7 +4,7 @@ ghost use Rattle.px_terms.specs.Limits.{most_formula_variables};
 ghost use Rattle.px_script.specs.declared.limits.Limit.TheVariants as limit;
 ghost use Rattle.px_script.specs.Limits.{greatest};
 ghost use Rattle.px_script.specs.Statements as spec;
-ghost use Rattle.px_effects.specs.Common.{IsFresh, variable_names_of, with_command, with_names, a_plan, a_result, a_table, AreReadable, declared_of, leaves, signed_view, room_edit_view, binding_view};
+ghost use Rattle.px_effects.specs.Common.{IsFresh, asked, atom_of, variable_names_of, with_command, with_names, a_plan, a_result, a_table, AreReadable, declared_of, leaves, signed_view, room_edit_view, binding_view};
 
 use crate::declaring::add_name;
 use px_base::{NoMemory, Sequence};
@@ -12,7 +12,35 @@ use px_lines::{SignedAtom, WrittenBinding, WrittenRoomEdit};
 use px_names::Kind;
 use px_script::Command;
 use px_so_far::{SoFar, Variables, variables};
+use px_statements::About;
+use px_terms::Atom;
 
+/// A goal by numbers.
+#[derive(Drop)]
+struct NumberedGoal {
+    atoms: Sequence<Atom>,
+    /// How many variables it has.
+    vars: u32,
+}
+
+/// Returns the goal by numbers, with its variables by first occurrence.
+#[tactic(auto, using(crate::proofs::Facts::map_map))]
+fn numbered(so_far: &SoFar, goal: &[SignedAtom<'_>]) -> Result<NumberedGoal, NoMemory>
+    requires few_variables { length (variable_names_of (map signed_view goal.now)) ≤ most_formula_variables }
+    requires readable { AreReadable (declared_of so_far.now) goal.now }
+    ensures atoms { IfOk result (λ numbered. numbered.atoms
+        ≡ map (atom_of (declared_of so_far.now) (variable_names_of (map signed_view goal.now))) (map signed_view goal.now)) }
+    ensures vars { IfOk result (λ numbered. numbered.vars ≡ length (variable_names_of (map signed_view goal.now))) }
+{
+    let variables = variables(so_far.alloc, goal)?;
+    let atoms = so_far.atoms(&Variables::Named(&variables), goal)?;
+    Ok(NumberedGoal {
+        atoms: Sequence::from_vec(atoms),
+        vars: variables.len() as u32,
+    })
+}
+
+/// Adds a command.
 pub fn add_command(so_far: &mut SoFar, command: Command) -> Result<(), NoMemory>
     ensures { OnOk result (declared_of so_far.new ≡ with_command command (declared_of so_far.old)) }
 {
@@ -20,28 +48,28 @@ pub fn add_command(so_far: &mut SoFar, command: Command) -> Result<(), NoMemory>
     Ok(())
 }
 
+/// Adds a search for a plan, whose name is then one of a plan.
 pub fn add_plan(so_far: &mut SoFar, name: &str, goal: &[SignedAtom<'_>]) -> Result<(), NoMemory>
     requires few_variables { length (variable_names_of (map signed_view goal.now)) ≤ most_formula_variables }
     requires readable { AreReadable (declared_of so_far.old) goal.now }
     requires fresh { IsFresh Kind.Result so_far.old.names name.now }
     ensures { OnOk result (declared_of so_far.new ≡ leaves 0 (declared_of so_far.old) (spec.plan name.now (map signed_view goal.now))) }
 {
-    let variables = variables(so_far.alloc, goal)?;
-    let goal = so_far.atoms(&Variables::Named(&variables), goal)?;
+    let goal = numbered(so_far, goal)?;
     let name = add_plan_name(so_far, name)?;
     add_command(
         so_far,
         Command::Plan {
             name,
-            goal: Sequence::from_vec(goal),
-            vars: variables.len() as u32,
+            goal: goal.atoms,
+            vars: goal.vars,
         },
     )
 }
 
 /// Adds the name of a table, and returns its number.
 pub fn add_table_name(so_far: &mut SoFar, name: &str) -> Result<u32, NoMemory>
-    requires { IsFresh Kind.Result so_far.old.names name.now }
+    requires fresh { IsFresh Kind.Result so_far.old.names name.now }
     ensures number { IfOk result (λ number. number ≡ length so_far.old.names.results) }
     ensures declared { OnOk result (declared_of so_far.new ≡ with_names a_table (name.now ∷ []) (declared_of so_far.old)) }
 {
@@ -52,7 +80,7 @@ pub fn add_table_name(so_far: &mut SoFar, name: &str) -> Result<u32, NoMemory>
 
 /// Adds the name of a plan, and returns its number.
 fn add_plan_name(so_far: &mut SoFar, name: &str) -> Result<u32, NoMemory>
-    requires { IsFresh Kind.Result so_far.old.names name.now }
+    requires fresh { IsFresh Kind.Result so_far.old.names name.now }
     ensures number { IfOk result (λ number. number ≡ length so_far.old.names.results) }
     ensures declared { OnOk result (declared_of so_far.new ≡ with_names a_plan (name.now ∷ []) (declared_of so_far.old)) }
 {
@@ -61,36 +89,63 @@ fn add_plan_name(so_far: &mut SoFar, name: &str) -> Result<u32, NoMemory>
     Ok(number)
 }
 
+/// Adds a pursuit of a goal, whose name is then one of a result that is no table.
 pub fn add_pursuit(so_far: &mut SoFar, name: &str, goal: &[SignedAtom<'_>]) -> Result<(), NoMemory>
     requires few_variables { length (variable_names_of (map signed_view goal.now)) ≤ most_formula_variables }
     requires readable { AreReadable (declared_of so_far.old) goal.now }
     requires fresh { IsFresh Kind.Result so_far.old.names name.now }
     ensures { OnOk result (declared_of so_far.new ≡ leaves 0 (declared_of so_far.old) (spec.pursue name.now (map signed_view goal.now))) }
 {
-    let variables = variables(so_far.alloc, goal)?;
-    let goal = so_far.atoms(&Variables::Named(&variables), goal)?;
+    let goal = numbered(so_far, goal)?;
     let name = add_result_name(so_far, name)?;
     add_command(
         so_far,
         Command::Pursue {
             name,
-            goal: Sequence::from_vec(goal),
-            vars: variables.len() as u32,
+            goal: goal.atoms,
+            vars: goal.vars,
+        },
+    )
+}
+
+/// Adds a tree of a search with so many nodes, whose name is then one of a result that is no table.
+pub fn add_tree(
+    so_far: &mut SoFar,
+    name: &str,
+    nodes: u32,
+    goal: &[SignedAtom<'_>],
+) -> Result<(), NoMemory>
+    requires few_variables { length (variable_names_of (map signed_view goal.now)) ≤ most_formula_variables }
+    requires readable { AreReadable (declared_of so_far.old) goal.now }
+    requires fresh { IsFresh Kind.Result so_far.old.names name.now }
+    ensures { OnOk result (declared_of so_far.new
+        ≡ leaves 0 (declared_of so_far.old) (spec.tree name.now nodes (map signed_view goal.now))) }
+{
+    let goal = numbered(so_far, goal)?;
+    let name = add_result_name(so_far, name)?;
+    add_command(
+        so_far,
+        Command::Tree {
+            name,
+            nodes,
+            goal: goal.atoms,
+            vars: goal.vars,
         },
     )
 }
 
 /// Adds the name of a result that is no table, and returns its number.
 fn add_result_name(so_far: &mut SoFar, name: &str) -> Result<u32, NoMemory>
-    requires { IsFresh Kind.Result so_far.old.names name.now }
+    requires fresh { IsFresh Kind.Result so_far.old.names name.now }
     ensures number { IfOk result (λ number. number ≡ length so_far.old.names.results) }
     ensures declared { OnOk result (declared_of so_far.new ≡ with_names a_result (name.now ∷ []) (declared_of so_far.old)) }
 {
     add_name(so_far, Kind::Result, name)
 }
 
+/// Adds the learning of a table from a plan.
 pub fn add_learned(so_far: &mut SoFar, name: &str, source: &str) -> Result<(), NoMemory>
-    requires { IsFresh Kind.Result so_far.old.names name.now }
+    requires fresh { IsFresh Kind.Result so_far.old.names name.now }
     ensures { OnOk result (declared_of so_far.new ≡ leaves 0 (declared_of so_far.old) (spec.learn name.now source.now)) }
 {
     let source = so_far.number(Kind::Result, source);
@@ -98,27 +153,19 @@ pub fn add_learned(so_far: &mut SoFar, name: &str, source: &str) -> Result<(), N
     add_command(so_far, Command::Learn { name, source })
 }
 
-pub fn add_show(so_far: &mut SoFar, name: &str) -> Result<(), NoMemory>
-    ensures { OnOk result (declared_of so_far.new ≡ leaves 0 (declared_of so_far.old) (spec.show name.now)) }
+/// Adds a command that only names a table.
+pub fn add_asked(so_far: &mut SoFar, about: About, name: &str) -> Result<(), NoMemory>
+    ensures { OnOk result (declared_of so_far.new ≡ leaves 0 (declared_of so_far.old) (asked about name.now)) }
 {
     let name = so_far.number(Kind::Result, name);
-    add_command(so_far, Command::Show { name })
+    match about {
+        About::Show => add_command(so_far, Command::Show { name }),
+        About::Save => add_command(so_far, Command::Save { name }),
+        About::Certify => add_command(so_far, Command::Certify { name }),
+    }
 }
 
-pub fn add_save(so_far: &mut SoFar, name: &str) -> Result<(), NoMemory>
-    ensures { OnOk result (declared_of so_far.new ≡ leaves 0 (declared_of so_far.old) (spec.save name.now)) }
-{
-    let name = so_far.number(Kind::Result, name);
-    add_command(so_far, Command::Save { name })
-}
-
-pub fn add_certify(so_far: &mut SoFar, name: &str) -> Result<(), NoMemory>
-    ensures { OnOk result (declared_of so_far.new ≡ leaves 0 (declared_of so_far.old) (spec.certify name.now)) }
-{
-    let name = so_far.number(Kind::Result, name);
-    add_command(so_far, Command::Certify { name })
-}
-
+/// Adds a disturbance of a script without a building, and counts it.
 #[tactic(auto, using(crate::proofs::Facts::map_map))]
 pub fn disturb_atoms(
     so_far: &mut SoFar,
@@ -143,6 +190,7 @@ pub fn disturb_atoms(
     )
 }
 
+/// Adds a disturbance of a building, and counts it.
 #[tactic(auto, using(crate::proofs::Facts::map_map))]
 pub fn disturb_rooms(
     so_far: &mut SoFar,
@@ -150,7 +198,7 @@ pub fn disturb_rooms(
     between: bool,
     edits: &[WrittenRoomEdit<'_>],
 ) -> Result<(), NoMemory>
-    requires { so_far.old.disturbs < greatest 1 limit.Disturbs }
+    requires room { so_far.old.disturbs < greatest 1 limit.Disturbs }
     ensures { OnOk result (declared_of so_far.new
         ≡ leaves 0 (declared_of so_far.old) (spec.disturb_rooms turn between (map room_edit_view edits.now))) }
 {
@@ -166,6 +214,7 @@ pub fn disturb_rooms(
     )
 }
 
+/// Adds a run of a table, before which no disturbance is counted any more.
 #[tactic(auto, using(crate::proofs::Facts::map_map))]
 pub fn add_run(
     so_far: &mut SoFar,
@@ -186,6 +235,7 @@ pub fn add_run(
     )
 }
 
+/// Adds a run of two tables by turns.
 pub fn add_duo(so_far: &mut SoFar, one: &str, other: &str, numbers: &[u32]) -> Result<(), NoMemory>
     ensures { OnOk result (declared_of so_far.new ≡ leaves 0 (declared_of so_far.old) (spec.duo one.now other.now numbers.now)) }
 {
@@ -202,6 +252,7 @@ pub fn add_duo(so_far: &mut SoFar, one: &str, other: &str, numbers: &[u32]) -> R
     )
 }
 
+/// Adds the editing of a table, which gives a new one.
 pub fn add_edited(
     so_far: &mut SoFar,
     name: &str,
@@ -209,7 +260,7 @@ pub fn add_edited(
     prefix: u32,
     pairs: &[(u32, u32)],
 ) -> Result<(), NoMemory>
-    requires { IsFresh Kind.Result so_far.old.names name.now }
+    requires fresh { IsFresh Kind.Result so_far.old.names name.now }
     ensures { OnOk result (declared_of so_far.new ≡ leaves 0 (declared_of so_far.old) (spec.edit name.now source.now prefix pairs.now)) }
 {
     let from = so_far.number(Kind::Result, source);

@@ -1,22 +1,22 @@
 //! What a line without a fault adds.
-ghost use Rattle.std.specs.Prelude.{◌≡◌, ◌≤◌, ◌++◌, [], true, false, Some, length, map, All, IfOk, OnOk};
-ghost use Rattle.px_terms.specs.Limits.{most_formula_variables};
+ghost use Rattle.std.specs.Prelude.{◌≡◌, ◌<◌, ◌≤◌, ◌++◌, [], true, false, Some, length, map, All, IfOk, IsOk, OnOk};
+ghost use Rattle.px_terms.specs.Limits.{most_clauses, most_formula_variables};
 ghost use Rattle.px_names.specs.Lists.{names_of};
 ghost use Rattle.px_names.specs.Name.{IsName};
 ghost use Rattle.px_terms.specs.AtomSets.{atom_set, with_atom, IsAtomSet};
-ghost use Rattle.px_terms.specs.Clauses.{ArePlainBelow};
+ghost use Rattle.px_terms.specs.Clauses.{IsClause};
 ghost use Rattle.px_terms.specs.Instances.{IsGround};
 ghost use Rattle.px_script.specs.Statements as spec;
 ghost use Rattle.px_script.proofs.Faultless.{IsFaultless, IsRight};
-ghost use Rattle.px_effects.specs.Common.{AllByRecursion, AreOfKind, AreOfKinds, IsFresh, IsNameLexeme, spelling, with_name, atom_of, literal_of, variable_names_of, is_formed, line_of, AreInRange, AreReadable, is_fact, declared_of, leaves, with_more, signed_view, statement_view, text_of};
+ghost use Rattle.px_effects.specs.Common.{AllByRecursion, AreOfKind, AreOfKinds, IsFresh, IsNameLexeme, spelling, with_name, atom_of, clause_of, variable_names_of, is_formed, line_of, AreInRange, AreReadable, is_fact, declared_of, leaves, with_more, signed_view, statement_view, text_of};
 
 use crate::blocks::{
     Role, add_box, add_door, add_robot, add_room, begin_operator, close_block, extend_operator,
     open_building,
 };
 use crate::commands::{
-    add_certify, add_command, add_duo, add_edited, add_learned, add_plan, add_pursuit, add_run,
-    add_save, add_show, disturb_atoms, disturb_rooms,
+    add_asked, add_command, add_duo, add_edited, add_learned, add_plan, add_pursuit, add_run,
+    add_tree, disturb_atoms, disturb_rooms,
 };
 use crate::sorts::{add_sort, give_sort};
 use crate::tables::{add_row, add_step, begin_table, set_goal};
@@ -26,18 +26,34 @@ use px_names::{Kind, NameErr};
 use px_script::Command;
 use px_so_far::{SoFar, Variables, variables};
 use px_statements::Statement;
-use px_terms::Atom;
+use px_terms::{ArenaErr, Atom};
 
-/// Sets a limit of the script, which takes no memory.
+/// Sets a limit of the script. That takes no memory: the result is that of the other lines.
 fn set(limit: &mut Option<u32>, number: u32) -> Result<(), NoMemory>
-    ensures { limit.new ≡ Some number }
+    ensures set { limit.new ≡ Some number }
+    ensures ok { IsOk result }
 {
     *limit = Some(number);
     Ok(())
 }
 
 /// Adds what the line says, where it has no fault, except that there may be too many facts.
+///
+/// # Errors
+/// `NoMemory` where there is no memory for it. Part of the line may then be added, so that nothing more is to be read.
 pub fn declare(so_far: &mut SoFar, line: u32, statement: Statement<'_, '_>) -> Result<(), NoMemory>
+    requires range { AreInRange (declared_of so_far.old) }
+    requires formed { is_formed (declared_of so_far.old) (line_of (statement_view statement)) ≡ true }
+    requires right { IsRight (declared_of so_far.old) (statement_view statement) }
+    requires faultless { is_fact (statement_view statement) ≡ false → IsFaultless (declared_of so_far.old) (statement_view statement) }
+    requires named { AllByRecursion IsNameLexeme (spelling (statement_view statement)) }
+    ensures { OnOk result (declared_of so_far.new ≡ leaves line (declared_of so_far.old) (statement_view statement.entry)) }
+{
+    add_line(so_far, line, statement)
+}
+
+/// Adds what the line says, whose names are new.
+fn add_line(so_far: &mut SoFar, line: u32, statement: Statement<'_, '_>) -> Result<(), NoMemory>
     requires range { AreInRange (declared_of so_far.old) }
     requires formed { is_formed (declared_of so_far.old) (line_of (statement_view statement)) ≡ true }
     requires right { IsRight (declared_of so_far.old) (statement_view statement) }
@@ -72,7 +88,7 @@ pub fn declare(so_far: &mut SoFar, line: u32, statement: Statement<'_, '_>) -> R
         Statement::Weight(weight) => set(&mut so_far.weight, weight),
         Statement::Plan(name, goal) => add_plan(so_far, name, goal),
         Statement::Learn(name, source) => add_learned(so_far, name, source),
-        Statement::Show(name) => add_show(so_far, name),
+        Statement::Ask(about, name) => add_asked(so_far, about, name),
         Statement::DisturbAtoms(turn, late, edits) => disturb_atoms(so_far, turn, late, edits),
         Statement::DisturbRooms(turn, late, edits) => disturb_rooms(so_far, turn, late, edits),
         Statement::Run(name, bindings) => add_run(so_far, name, bindings),
@@ -85,9 +101,8 @@ pub fn declare(so_far: &mut SoFar, line: u32, statement: Statement<'_, '_>) -> R
         Statement::Step(operator, terms) => add_step(so_far, operator, terms),
         Statement::Goal(atoms) => set_goal(so_far, atoms),
         Statement::Proof(parts) => add_row(so_far, parts),
-        Statement::Save(name) => add_save(so_far, name),
-        Statement::Certify(name) => add_certify(so_far, name),
         Statement::Pursue(name, goal) => add_pursuit(so_far, name, goal),
+        Statement::Tree(name, nodes, goal) => add_tree(so_far, name, nodes, goal),
         Statement::Sort(name, objects) => add_sort(so_far, name, objects),
         Statement::Param(sort, names) => give_sort(so_far, sort, names),
     }
@@ -96,7 +111,7 @@ pub fn declare(so_far: &mut SoFar, line: u32, statement: Statement<'_, '_>) -> R
 /// Adds a name that is new to its kind, which has room for it, and returns its number.
 #[tactic(auto, using(crate::proofs::Fresh::welcome))]
 pub fn add_name(so_far: &mut SoFar, kind: Kind, name: &str) -> Result<u32, NoMemory>
-    requires { IsFresh kind so_far.old.names name.now }
+    requires fresh { IsFresh kind so_far.old.names name.now }
     ensures number { IfOk result (λ number. number ≡ length (names_of kind so_far.old.names)) }
     ensures declared { OnOk result (so_far.new ≡ record so_far.old { names = with_name kind name.now so_far.old.names }) }
 {
@@ -120,7 +135,7 @@ pub fn declare_names(so_far: &mut SoFar, kind: Kind, names: &[&str]) -> Result<(
 }
 
 fn declare_predicate(so_far: &mut SoFar, name: &str, arity: u8) -> Result<(), NoMemory>
-    requires { IsFresh Kind.Predicate so_far.old.names name.now }
+    requires fresh { IsFresh Kind.Predicate so_far.old.names name.now }
     ensures { OnOk result (declared_of so_far.new ≡ leaves 0 (declared_of so_far.old) (spec.predicate name.now arity)) }
 {
     add_name(so_far, Kind::Predicate, name)?;
@@ -131,15 +146,17 @@ fn declare_predicate(so_far: &mut SoFar, name: &str, arity: u8) -> Result<(), No
 fn add_axiom(so_far: &mut SoFar, literals: &[SignedAtom<'_>]) -> Result<(), NoMemory>
     requires few_variables { length (variable_names_of (map signed_view literals.now)) ≤ most_formula_variables }
     requires readable { AreReadable (declared_of so_far.old) literals.now }
-    requires plain { ArePlainBelow (length (variable_names_of (map signed_view literals.now)))
-        (map (literal_of (declared_of so_far.old) (variable_names_of (map signed_view literals.now))) (map signed_view literals.now)) }
+    requires clause { IsClause (clause_of (declared_of so_far.old) (map signed_view literals.now)) }
+    requires room { length so_far.old.axioms < most_clauses }
     ensures { OnOk result (declared_of so_far.new ≡ leaves 0 (declared_of so_far.old) (spec.«axiom» (map signed_view literals.now))) }
 {
     let variables = variables(so_far.alloc, literals)?;
     let literals = so_far.literals(&Variables::Named(&variables), literals)?;
     match so_far.axioms.push(variables.len() as u32, &literals) {
         Ok(_) => Ok(()),
-        Err(_) => Err(NoMemory),
+        Err(ArenaErr::NoMemory) => Err(NoMemory),
+        Err(ArenaErr::BadLength) => unreachable!(),
+        Err(ArenaErr::Full) => unreachable!(),
     }
 }
 
@@ -158,7 +175,7 @@ fn add_facts(so_far: &mut SoFar, atoms: &[SignedAtom<'_>]) -> Result<(), NoMemor
 }
 
 fn add_fact(so_far: &mut SoFar, fact: Atom) -> Result<(), NoMemory>
-    requires { IsGround fact }
+    requires is_ground { IsGround fact }
     ensures same { OnOk result (so_far.new ≡ record so_far.old { facts = so_far.new.facts }) }
     ensures facts { OnOk result (so_far.new.facts.atoms ≡ with_atom fact so_far.old.facts.atoms) }
 {

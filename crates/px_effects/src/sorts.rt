@@ -3,6 +3,8 @@ ghost use Rattle.std.specs.Prelude.{◌≡◌, ◌≤◌, ◌++◌, length, map,
 ghost use Rattle.px_names.specs.Name.{IsName};
 ghost use Rattle.px_script.specs.Declarations.{with_sort};
 ghost use Rattle.px_script.specs.Statements as spec;
+ghost use Rattle.px_script.specs.declared.limits.TheConstants.{SORTS as most_sorts};
+ghost use Rattle.px_so_far.specs.Problems.{HasFewSorts};
 ghost use Rattle.px_effects.specs.Common.{AllByRecursion, AreOfKind, declared_of, has_name, leaves, number_in, string_bytes, text_of};
 
 use crate::declaring::declare_names;
@@ -40,7 +42,7 @@ fn sorts_with(
     Ok(sorts)
 }
 
-/// Returns no sort for each of these parameters.
+/// Returns the sort 0, which is no sort, for each of these parameters.
 #[tactic(auto, using(crate::proofs::Sorting::lengths))]
 pub fn without_sorts(alloc: Global, parameters: &[&str]) -> Result<Vec<u32>, NoMemory>
     ensures { IfOk result (λ sorts. sorts.items ≡ replicate (length (map text_of parameters.now)) 0) }
@@ -48,7 +50,7 @@ pub fn without_sorts(alloc: Global, parameters: &[&str]) -> Result<Vec<u32>, NoM
     Ok(vec![in alloc; 0; parameters.len()]?)
 }
 
-/// Adds a sort for each of these objects.
+/// Appends the sort for each of these objects.
 #[tactic(auto, using(crate::proofs::Sorting::lengths))]
 fn push_each(
     alloc: Global,
@@ -65,7 +67,7 @@ fn push_each(
 
 /// Adds a sort, and objects that have it.
 pub fn add_sort(so_far: &mut SoFar, name: &str, objects: &[&str]) -> Result<(), NoMemory>
-    requires few { length so_far.old.sorts.items ≤ 32 }
+    requires few_sorts { HasFewSorts (declared_of so_far.old) }
     requires named { AllByRecursion (λ name. IsName name.now) objects.now }
     requires fresh { AreOfKind Kind.Object (so_far.old.names.objects ++ map text_of objects.now) }
     ensures { OnOk result (declared_of so_far.new ≡ leaves 0 (declared_of so_far.old) (spec.sort name.now (map text_of objects.now))) }
@@ -78,9 +80,9 @@ pub fn add_sort(so_far: &mut SoFar, name: &str, objects: &[&str]) -> Result<(), 
     declare_names(so_far, Kind::Object, objects)
 }
 
-/// Gives a sort to parameters of the open operator.
+/// Gives the sort to these parameters of the open operator.
 pub fn give_sort(so_far: &mut SoFar, sort: &str, names: &[&str]) -> Result<(), NoMemory>
-    requires { length so_far.old.sorts.items ≤ 32 }
+    requires few_sorts { HasFewSorts (declared_of so_far.old) }
     ensures { OnOk result (declared_of so_far.new ≡ leaves 0 (declared_of so_far.old) (spec.param sort.now (map text_of names.now))) }
 {
     let alloc = so_far.alloc;
@@ -93,12 +95,12 @@ pub fn give_sort(so_far: &mut SoFar, sort: &str, names: &[&str]) -> Result<(), N
     Ok(())
 }
 
-/// Returns the place of a sort.
+/// Returns the place of a sort, counted from 0.
 #[tactic(auto, using(crate::proofs::Sorting::positions))]
 fn sort_number(so_far: &SoFar, name: &str) -> u32
-    requires { length so_far.now.sorts.items ≤ 32 }
-    ensures number { result ≡ number_in name.now (map string_bytes so_far.now.sorts.items) }
-    ensures few { result ≤ 32 }
+    requires few_sorts { HasFewSorts (declared_of so_far.now) }
+    ensures number { result ≡ number_in name.now (declared_of so_far.now).sorts }
+    ensures few { result ≤ most_sorts }
 {
     place_of(name, &so_far.sorts).unwrap_or(0) as u32
 }

@@ -5,7 +5,7 @@ ghost use Rattle.px_script.specs.Faults.{is_bad_block};
 ghost use Rattle.px_script.specs.Statements as spec;
 ghost use Rattle.px_effects.specs.Common.{declared_of, AreReadable, IsFresh, argument_view, leaves, parameters_here, signed_view};
 ghost use Rattle.px_so_far.specs.Problems.{HasProblem};
-ghost use Rattle.px_so_far.specs.SoFarViews.{table_kind, table_view};
+ghost use Rattle.px_so_far.specs.SoFarViews.{open_table_view, table_view};
 ghost use Rattle.px_terms.specs.Limits.{most_parameters};
 ghost use Rattle.px_script.specs.declared.limits.TheConstants.{LAST_NUMBER as last_number};
 ghost use Rattle.px_lines.specs.ItemViews.{part_view};
@@ -18,13 +18,14 @@ use px_names::Kind;
 use px_so_far::{BlockKind, OpenBlock, OpenTable, SoFar, WrittenStep, goal_variables};
 use px_table::Row;
 
+/// Opens the block of a table, and adds its name.
 pub fn begin_table(
     so_far: &mut SoFar,
     line: u32,
     name: &str,
     parameters: u32,
 ) -> Result<(), NoMemory>
-    requires { IsFresh Kind.Result so_far.old.names name.now }
+    requires fresh { IsFresh Kind.Result so_far.old.names name.now }
     ensures { OnOk result (declared_of so_far.new ≡ leaves line (declared_of so_far.old) (spec.table name.now parameters)) }
 {
     let alloc = so_far.alloc;
@@ -97,7 +98,7 @@ pub fn add_row(so_far: &mut SoFar, parts: &[Part<'_>]) -> Result<(), NoMemory>
 /// Adds the table to those of the script.
 pub fn close_table(so_far: &mut SoFar, table: OpenTable) -> Result<(), NoMemory>
     requires problem { HasProblem (declared_of so_far.old) }
-    requires good { is_bad_block (problem_here (declared_of so_far.old)) (table_kind table.has_goal (table_view table)) ≡ false }
+    requires good { is_bad_block (problem_here (declared_of so_far.old)) (open_table_view table) ≡ false }
     ensures same { OnOk result (so_far.new ≡ record so_far.old { saved = so_far.new.saved }) }
     ensures saved { OnOk result (so_far.new.saved.items
         ≡ so_far.old.saved.items ++ (table.name, table_made (problem_here (declared_of so_far.old)) (table_view table)) ∷ []) }

@@ -13,7 +13,7 @@ use Rattle.px_ends.specs.ByValue.{aim_of, order_by, space_of, IsFound, IsShapeLi
 use Rattle.px_ends.specs.Ends.{node_of}
 use Rattle.px_ends.specs.Tasks.{Task, IsSolved, goal_question, initial_node}
 
-module _ (task : Task) (weight : ℕ) (room : 1 ≤ task.problem.nodes) where
+module _ (task : Task) (weight : ℕ) (room : 1 ≤ task.nodes) where
   linear : IsLinear (order_by task weight)
   linear = record { total = move_cmp-total; identical = move_cmp-same }
 

@@ -1,6 +1,6 @@
 -- A search has one end: the ends exclude each other, and each but the shape limit is the only one of its kind. The shape limit comes
 -- exactly where some question that is asked meets it.
-use Rattle.std.proofs.Common.{◌≡◌, ℕ, zero, suc, ◌<◌, List, [], ◌∷◌, ◌++◌, length, map, refl, sym, ◌∙◌, ap, subst, inl, inr, arith, Some, slice_get, Contains}
+use Rattle.std.proofs.Common.{◌≡◌, ℕ, suc, ◌<◌, List, [], ◌∷◌, ◌++◌, length, map, refl, sym, ◌∙◌, ap, subst, inl, inr, arith, Some, slice_get, Contains}
 use Rattle.std.proofs.lemmas.List.Elements.{Contains-push}
 use Rattle.px_terms.specs.declared.atom.Atom.{Atom}
 use Rattle.px_terms.specs.declared.problem.Problem.{Problem}
@@ -8,24 +8,17 @@ use Rattle.px_proof.specs.declared.shape.Tick.{Tick}
 use Rattle.px_table.specs.declared.entry.Move.{Move}
 use Rattle.px_table.specs.declared.node.Node.{Node}
 use Rattle.px_gaps.specs.Questions.{FindingGaps, MeetsLimit, Proving, Question}
+use Rattle.px_order.specs.Beginnings.{beginnings_agree, one_place}
+use Rattle.px_order.specs.Places.{at_end, at_index, contains_place, order_of, place-within-list, place_of, still_there}
+use Rattle.px_ends.specs.ByValue.{space_of}
 use Rattle.px_ends.specs.Determined.{EndsAreOne}
 use Rattle.px_ends.specs.Order.{IsBefore}
-use Rattle.px_ends.specs.Tasks.{Task, initial_node, IsAllowed, after}
+use Rattle.px_ends.specs.Tasks.{Task}
 use Rattle.px_ends.specs.Ends.{BeginsWith, node_of, IsStop, IsFound, IsExhausted, IsNodeLimit, IsShapeLimit}
-use Rattle.px_ends.proofs.Frontier.{place_of, contains_place, place-within, at_index, order_of, beginnings_agree, one_place}
 use Rattle.px_ends.proofs.MoveLaws.{order}
 
-pub at_end : {A : Type 0} (xs : List A) (x : A) → slice_get (xs ++ x ∷ []) (length xs) ≡ Some x
-at_end [] x = refl
-at_end (y ∷ xs) x = at_end xs x
-
-pub still_there : {A : Type 0} (xs ys : List A) (k : ℕ) (x : A) → slice_get xs k ≡ Some x → slice_get (xs ++ ys) k ≡ Some x
-still_there [] ys k x e = absurd (cc)
-still_there (y ∷ xs) ys zero x e = e
-still_there (y ∷ xs) ys (suc k) x e = still_there xs ys k x e
-
 -- lists that are as long and agree at each place are the same
-same_lists : {A : Type 0} (xs ys : List A) → length xs ≡ length ys
+pub same_lists : {A : Type 0} (xs ys : List A) → length xs ≡ length ys
     → ((k : ℕ) (x y : A) → slice_get xs k ≡ Some x → slice_get ys k ≡ Some y → x ≡ y) → xs ≡ ys
 same_lists [] [] long each = refl
 same_lists [] (y ∷ ys) long each = absurd (omega (arith, long))
@@ -42,7 +35,7 @@ module _ (task : Task) where
 
   agree : (xs ys : List (List Move)) → BeginsWith task xs → BeginsWith task ys → (k : ℕ) (p q : List Move) → slice_get xs k ≡ Some p
       → slice_get ys k ≡ Some q → p ≡ q
-  agree = beginnings_agree (IsAllowed task) (after task) IsBefore (initial_node task) order
+  agree = beginnings_agree (space_of task) IsBefore order
 
   not_shorter : (e₁ e₂ : List (List Move)) (l₁ l₂ : List Move) → IsStop task e₁ l₁ → IsStop task e₂ l₂ → ¬ (length e₁ < length e₂)
   not_shorter e₁ e₂ l₁ l₂ s₁ s₂ less =
@@ -105,10 +98,9 @@ module _ (task : Task) where
       let has = x.whole.every l.last (l.stop.beginning.least l.last (Contains-push l.earlier l.last)) in
       let place = place_of x.lists l.last has in
       let number : place.0 ≡ length l.earlier =
-      one_place (IsAllowed task) (after task) IsBefore (initial_node task) order x.lists
-      (l.earlier ++ l.last ∷ []) x.whole.beginning l.stop.beginning place.0 (length l.earlier) l.last place.1
-      (at_end l.earlier l.last) in
-      omega (arith, number, l.full, x.room, place-within x.lists place.0 l.last place.1)
+      one_place (space_of task) IsBefore order x.lists (l.earlier ++ l.last ∷ []) x.whole.beginning l.stop.beginning place.0
+      (length l.earlier) l.last place.1 (at_end l.earlier l.last) in
+      omega (arith, number, l.full, x.room, place-within-list x.lists place.0 l.last place.1)
 
   pub shape_limit_or_found : (node : Node) (formula : List Atom) (shapes : List (List Tick)) (ms : List Move)
       → IsShapeLimit task node formula shapes → ¬ IsFound task ms

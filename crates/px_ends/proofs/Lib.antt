@@ -1,6 +1,4 @@
 -- The files of lemmas.
-pub mod Frontier
-pub mod MoveOrder
 pub mod MoveLaws
 pub mod Exclusion
 pub mod ByStop

@@ -30,7 +30,7 @@ use Rattle.px_entries.specs.Entries.{effect_of, table_at}
 use Rattle.px_ends.specs.Determined.{TablesAreOne}
 use Rattle.px_ends.specs.Made.{EntryRows, IsFirstRow, IsGraft, IsPart, IsSource, IsSourced, MacroRows, MovesRows, TopRows, top_steps}
 use Rattle.px_ends.specs.Tasks.{Task, after, initial_node}
-use Rattle.px_ends.proofs.Frontier.{contains_place, order_of}
+use Rattle.px_order.specs.Places.{contains_place, order_of}
 
 -- ---- lists
 

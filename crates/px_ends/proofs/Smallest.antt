@@ -52,7 +52,7 @@ no_last [] m e = cc
 no_last (k ∷ parent) m e = cc
 
 -- where the initial node is solved, nothing but its goal is asked
-pub found_at_once : (task : Task) → 1 ≤ task.problem.nodes → IsSolved task (initial_node task)
+pub found_at_once : (task : Task) → 1 ≤ task.nodes → IsSolved task (initial_node task)
     → ((formula : List Atom) (shapes : List (List Tick)) → ¬ MeetsLimit task.problem (Proving (goal_from task task.initial)) formula shapes)
     → IsFound task []
 found_at_once task some solved below = record { unlimited = unlimited; earlier = []; stop = stop; room = some }

@@ -26,7 +26,7 @@ order_by task weight = record { compare = move_cmp; estimate = needs task; weigh
 abbrev pub aim_of : Task → order_ends.Aim Node Question
 aim_of task = record {
   solved = IsSolved task;
-  limit = task.problem.nodes;
+  limit = task.nodes;
   asks = AsksAt task;
   tries = λ node question. (node.stack ≡ []) × (question ≡ goal_question task node);
   meets = λ question. (formula : List Atom) × (shapes : List (List Tick)) × MeetsLimit task.problem question formula shapes;

@@ -41,7 +41,7 @@ pub record AskedByStop : Type 0 where
   pub parent : (task : Task) (moves : List Move) (m : Move) → IsLeastList task (moves ++ m ∷ []) → IsLeastList task moves
   pub tested : (task : Task) (earlier : List (List Move)) (last moves : List Move) → IsStop task earlier last
       → IsTested task moves ↔ (IsLeastList task moves × ((node_of task moves).stack ≡ [])
-      × (IsBefore moves last ⊎ ((moves ≡ last) × (length earlier < task.problem.nodes))))
+      × (IsBefore moves last ⊎ ((moves ≡ last) × (length earlier < task.nodes))))
   pub no_stop : (task : Task) (moves : List Move) → ((earlier : List (List Move)) (last : List Move) → ¬ IsStop task earlier last)
       → (IsGoneThrough task moves ↔ IsLeastList task moves) ×
       (IsTested task moves ↔ (IsLeastList task moves × ((node_of task moves).stack ≡ [])))

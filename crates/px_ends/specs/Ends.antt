@@ -37,8 +37,8 @@ NoneSolved task lists = (moves : List Move) → Contains lists moves → ¬ IsSo
 pub record IsStop (task : Task) (earlier : List (List Move)) (last : List Move) : Type 0 where
   pub beginning : BeginsWith task (earlier ++ last ∷ [])
   pub unsolved : NoneSolved task earlier
-  pub room : length earlier ≤ task.problem.nodes
-  pub stops : IsSolved task (node_of task last) ⊎ (length earlier ≡ task.problem.nodes)
+  pub room : length earlier ≤ task.nodes
+  pub stops : IsSolved task (node_of task last) ⊎ (length earlier ≡ task.nodes)
 
 -- ---- which questions are asked
 
@@ -56,7 +56,7 @@ pub record IsTested (task : Task) (moves : List Move) : Type 0 where
   pub least : IsLeastList task moves
   pub empty : (node_of task moves).stack ≡ []
   pub early : (earlier : List (List Move)) (last : List Move) → IsStop task earlier last → IsBefore moves last
-      ⊎ ((moves ≡ last) × (length earlier < task.problem.nodes))
+      ⊎ ((moves ≡ last) × (length earlier < task.nodes))
 
 -- the question is asked at the node that the moves reach
 abbrev pub IsAsked : Task → List Move → Question → Type 0
@@ -77,7 +77,7 @@ pub record IsFound (task : Task) (moves : List Move) : Type 0 where
   pub unlimited : IsUnlimited task
   pub earlier : List (List Move)
   pub stop : IsStop task earlier moves
-  pub room : length earlier < task.problem.nodes
+  pub room : length earlier < task.nodes
 
 -- no list of moves reaches a solved node, and all nodes that moves reach may be kept
 pub record IsExhausted (task : Task) : Type 0 where
@@ -85,7 +85,7 @@ pub record IsExhausted (task : Task) : Type 0 where
   pub lists : List (List Move)
   pub whole : IsWhole task lists
   pub unsolved : (moves : List Move) → AreMoves task moves → ¬ IsSolved task (node_of task moves)
-  pub room : length lists ≤ task.problem.nodes
+  pub room : length lists ≤ task.nodes
 
 -- These are the first nodes, as many as may be kept, in order. None of them is solved, and this number of moves reaches a further one.
 pub record IsNodeLimit (task : Task) (nodes : List Node) (moves : ℕ) : Type 0 where
@@ -93,7 +93,7 @@ pub record IsNodeLimit (task : Task) (nodes : List Node) (moves : ℕ) : Type 0 
   pub earlier : List (List Move)
   pub last : List Move
   pub stop : IsStop task earlier last
-  pub full : length earlier ≡ task.problem.nodes
+  pub full : length earlier ≡ task.nodes
   pub nodes_are : nodes ≡ map (node_of task) earlier
   pub moves_are : moves ≡ length last
 

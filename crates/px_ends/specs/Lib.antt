@@ -10,3 +10,4 @@ pub mod Lacks
 pub mod ByValue
 pub mod ValueLaws
 pub mod WorkedValues
+pub mod Trees

@@ -22,6 +22,7 @@
 //!   moves, and what the node lacks (`specs/Lacks`) as many times as the weight says. With each weight a search has one end
 //!   ([`value_ends_are_one`]); where it is exhausted with one, it isn't found or limited with any ([`exhausted_with_all`]); weight 0 is
 //!   breadth ([`weight_none_is_breadth`]). [`fits_is_match`] says what the test of an instance means.
+//! - `specs/Trees`: the tree of a search (`IsTree`): each node that it finds, by its parent and the last move, and how it ends.
 //! - [`worked_ends`] has the smallest searches, and [`worked_values`] those with a weight.
 //! - The laws are calls that do nothing.
 #![tactic(auto)]

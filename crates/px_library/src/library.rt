@@ -91,6 +91,13 @@ impl Library {
         None
     }
 
+    /// Returns the numbers of the names, in the order of learning. Does not allocate.
+    pub fn names(&self) -> &[u32]
+        ensures { result.now ≡ self.now.names }
+    {
+        &self.names
+    }
+
     /// Returns the tables, in the order of learning. Does not allocate.
     pub fn tables(&self) -> &[Table]
         ensures { result.now ≡ self.now.tables }

@@ -74,6 +74,8 @@ const STEP: [One; 1] = [One::Known(Named::Operator)];
 
 const RESULT: [One; 1] = [One::New(Named::Result)];
 
+const TREE: [One; 2] = [One::New(Named::Result), One::Number];
+
 const DISTURB: [One; 2] = [One::Number, One::Word(Choice::Time)];
 
 fn described(
@@ -177,6 +179,7 @@ fn row_of_three(word: &str) -> Option<Row>
             &NUMBER,
             Last::Nothing,
         )),
+        "tree" => Some(since(3, "tree", Place::Command, Manner::Goals, &TREE, Last::Atoms)),
         _ => None,
     }
 }

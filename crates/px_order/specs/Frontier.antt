@@ -1,5 +1,4 @@
 -- Breadth-first search over any order of lists of moves: what is known of the found lists while the moves of a node are tried.
--- Alike: proofs/Frontier of `px_ends`, where the tried moves are a list; and proofs/MoveOrder there and Shortlex here.
 use Rattle.std.proofs.Common.{◌≡◌, ℕ, ◌<◌, ◌≤◌, ◌⊎◌, List, [], ◌∷◌, ◌++◌, length, refl, sym, ◌∙◌, ap, subst, inl, inr, arith, Some, slice_get, Contains, append_assoc}
 use Rattle.std.proofs.lemmas.List.{append-nil}
 use Rattle.px_order.specs.Spaces.{Space, CanMake, reached, IsLeast, IsBeginning, IsAll}

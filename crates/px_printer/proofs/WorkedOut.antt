@@ -20,6 +20,10 @@ worked_texts = record {
   reached = refl;
   nodes = λ node. refl;
   shapes = λ node formula shape. refl;
+  solved = refl;
+  exhausted = refl;
+  more = refl;
+  limited = refl;
   yes = refl;
   no = refl;
 }

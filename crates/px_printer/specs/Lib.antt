@@ -6,6 +6,7 @@ pub mod Blocks
 pub mod Turns
 pub mod DuoLines
 pub mod PursuitEnds
+pub mod Trees
 pub mod Whys
 pub mod Replies
 pub mod Worked

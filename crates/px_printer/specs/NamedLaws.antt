@@ -23,7 +23,8 @@ module _ (names : NameLists) where
     named_proof (gap atom) atoms terms = tt
     named_proof open_place atoms terms = tt
 
-    pub named_proofs : (ds : Derivations) → All (IsNamedAtom names) (leaf_atoms (all_leaves_of ds)) → All (IsNamedTerm names) (all_terms_of ds)
+    pub named_proofs : (ds : Derivations) → All (IsNamedAtom names) (leaf_atoms (all_leaves_of ds))
+        → All (IsNamedTerm names) (all_terms_of ds)
         → AreNamedProofs names ds
     named_proofs none atoms terms = tt
     named_proofs (also d ds) atoms terms =

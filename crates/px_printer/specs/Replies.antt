@@ -11,9 +11,10 @@ use Rattle.px_printer.specs.PursuitEnds.{pursue_end_text}
 use Rattle.px_printer.specs.Rows.{IsNamedTable, row_lines}
 use Rattle.px_printer.specs.Texts.{HasName, IsNamedAtom, IsNamedInstance, name_text, atom_text, instance_text, text_line, numbered_lines, indented_lines}
 use Rattle.px_printer.specs.Turns.{IsNamedTurn, turn_lines}
+use Rattle.px_printer.specs.Trees.{IsNamedTree, node_lines, tree_end_line}
 use Rattle.px_printer.specs.Whys.{edit_why_text, save_why_text, why_text}
 use Rattle.px_printer.specs.declared.reply.Reply.{Reply}
-use Rattle.px_printer.specs.declared.reply.Reply.TheVariants.{Plan, Exhausted, NodeLimit, ShapeLimit, Learned, LearnRefused, Shown, Noted, Ran, FactsAre, Unknown, UnknownParam, Saved, SaveRefused, Edited, EditRefused, Certified, CertifyRefused, DuoRan, Pursuit}
+use Rattle.px_printer.specs.declared.reply.Reply.TheVariants.{Plan, Exhausted, NodeLimit, ShapeLimit, Learned, LearnRefused, Shown, Noted, Ran, FactsAre, Unknown, UnknownParam, Saved, SaveRefused, Edited, EditRefused, Certified, CertifyRefused, DuoRan, Pursuit, Tree}
 use Rattle.px_printer.specs.declared.spelling.Spelling.TheVariants.{InRows}
 
 -- each number that is printed as a name has one
@@ -39,6 +40,7 @@ IsReplyNamed names (CertifyRefused name why) = HasName names kind.Result name
 IsReplyNamed names (DuoRan first second lines) =
     HasName names kind.Result first × HasName names kind.Result second × All (IsNamedDuoLine names) lines
 IsReplyNamed names (Pursuit name searches turns end) = HasName names kind.Result name × All (IsNamedTurn names) turns
+IsReplyNamed names (Tree name tables tree) = HasName names kind.Result name × IsNamedTree names tables tree.nodes
 
 -- a line of words for each reply, and where it has a list a line for each item
 abbrev pub reply_text : NameLists → Reply → List ℕ
@@ -92,6 +94,9 @@ reply_text names (DuoRan first second lines) =
 reply_text names (Pursuit name searches turns end) =
     text_line (codes "pursue" ∷ name_text names kind.Result name ∷ decimal searches ∷ codes "searches" ∷ [])
     ++ (turn_lines names 1 turns ++ pursue_end_text end)
+reply_text names (Tree name tables tree) =
+    text_line (codes "tree" ∷ name_text names kind.Result name ∷ decimal (length tree.nodes) ∷ codes "nodes" ∷ [])
+    ++ (node_lines names tables 0 tree.nodes ++ tree_end_line tree.end)
 
 -- the certificate, if the reply is one
 abbrev pub certificate_in : Reply → Option (List ℕ)

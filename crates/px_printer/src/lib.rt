@@ -7,8 +7,9 @@
 //!   list of lines. Each line ends with a line feed; an indented line begins with two spaces; numbers are decimal; words such as `steps`
 //!   and `moves` never change with the number before them. The rows of a shown table are in `specs/Rows.antt`, the block of a saved one in
 //!   `specs/Blocks.antt`, the turns of a run or a pursuit ([`Turn`]) in `specs/Turns.antt`, how a pursuit ends ([`PursueEnd`]) in
-//!   `specs/PursuitEnds.antt`, what two executors do ([`DuoLine`]) in `specs/DuoLines.antt`, and the words for why a plan isn't learned
-//!   ([`Why`]), a table isn't saved or certified ([`SaveWhy`]) and a table isn't edited ([`EditWhy`]) in `specs/Whys.antt`.
+//!   `specs/PursuitEnds.antt`, the nodes and the end of a search tree in `specs/Trees.antt`, what two executors do ([`DuoLine`]) in
+//!   `specs/DuoLines.antt`, and the words for why a plan isn't learned ([`Why`]), a table isn't saved or certified ([`SaveWhy`]) and a
+//!   table isn't edited ([`EditWhy`]) in `specs/Whys.antt`.
 //! - `reply_text` asks that each number which it prints as a name has that name (`IsReplyNamed`). If a search met a limit, nodes and
 //!   shapes are only counted, so nothing is asked of their numbers. `specs/NamedLaws`, which no clause cites, has that a proof has its
 //!   names where its leaves and terms have them.
@@ -20,8 +21,9 @@
 //! - [`usage_text`], [`refused_text`], [`yes_text`] and [`no_text`] give the texts that answer no command: how the program is called,
 //!   where and why bytes are refused, and whether a certificate is right (`specs/Notices.antt`).
 //! - A new reply is a variant of `Reply`, an equation of `IsReplyNamed` and of `reply_text`, and an arm of `push_reply` or `push_on_table`
-//!   in `src/text.rt`: one function that appends each kind of line, and one loop for each list of lines (those of tables, blocks, turns
-//!   and two executors are in `src/table_text.rt`, `src/block_text.rt`, `src/turn_text.rt` and `src/duo_text.rt`).
+//!   in `src/text.rt`: one function that appends each kind of line, and one loop for each list of lines (those of tables, blocks, turns,
+//!   trees and two executors are in `src/table_text.rt`, `src/block_text.rt`, `src/turn_text.rt`, `src/tree_text.rt` and
+//!   `src/duo_text.rt`).
 #![tactic(auto)]
 
 mod block_text;
@@ -35,6 +37,7 @@ mod shown;
 mod spelling;
 mod table_text;
 mod text;
+mod tree_text;
 mod turn;
 mod turn_text;
 

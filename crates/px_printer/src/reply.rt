@@ -9,6 +9,7 @@ use px_numbers::FirstNodes;
 use px_proof::Shape;
 use px_table::{Node, Table};
 use px_terms::{Atom, OpInst};
+use px_tree::Tree;
 
 /// Why a plan isn't learned.
 #[derive(Clone, Copy, PartialEq, Eq, Debug)]
@@ -247,5 +248,14 @@ pub enum Reply {
         turns: Sequence<Turn>,
         /// How it ended.
         end: PursueEnd,
+    },
+    /// The tree of a search.
+    Tree {
+        /// The number of the tree's name.
+        name: u32,
+        /// The numbers of the names of the learned tables, in the order in which they were learned: a move says a table by its place here.
+        tables: Sequence<u32>,
+        /// The tree.
+        tree: Tree,
     },
 }

@@ -11,6 +11,7 @@ use crate::reply::Reply;
 use crate::shown::{ShownAtom, ShownInstance};
 use crate::spelling::Spelling;
 use crate::table_text::{push_table, push_table_line};
+use crate::tree_text::push_tree;
 use crate::turn_text::{push_pursuit, push_turns};
 use px_base::NoMemory;
 use px_names::{Kind, Names};
@@ -95,6 +96,13 @@ fn push_reply(text: &mut String, reply: &Reply, names: &Names) -> Result<(), All
             let name = names.text(Kind::Result, *name);
             push_pursuit(text, name, *searches, turns.as_slice(), end, names)
         }
+        Reply::Tree { name, tables, tree } => push_tree(
+            text,
+            *name,
+            tables.as_slice(),
+            tree,
+            names,
+        ),
         _ => push_on_table(text, reply, names),
     }
 }
@@ -192,7 +200,8 @@ fn push_refusal(text: &mut String, word: &str, name: &str, why: &str) -> Result<
 /// Appends a line for each step, numbered from 1.
 fn push_steps(text: &mut String, steps: &[OpInst], names: &Names) -> Result<(), AllocError>
     requires { All (IsNamedInstance names.now) steps.now }
-    ensures { OnOk result (string_bytes text.new ≡ string_bytes text.old ++ numbered_lines 1 (map (instance_text names.now (InRows 0)) steps.now)) }
+    ensures { OnOk result (string_bytes text.new ≡ string_bytes text.old
+        ++ numbered_lines 1 (map (instance_text names.now (InRows 0)) steps.now)) }
 {
     for (index, step) in steps.iter().enumerate() {
         push_step(text, index + 1, step, names)?;
@@ -233,7 +242,8 @@ fn push_facts(text: &mut String, atoms: &[Atom], names: &Names) -> Result<(), Al
 /// Appends a line for each atom.
 fn push_atoms(text: &mut String, atoms: &[Atom], names: &Names) -> Result<(), AllocError>
     requires { All (IsNamedAtom names.now) atoms.now }
-    ensures { OnOk result (string_bytes text.new ≡ string_bytes text.old ++ indented_lines (map (atom_text names.now (InRows 0)) atoms.now)) }
+    ensures { OnOk result (string_bytes text.new ≡ string_bytes text.old
+        ++ indented_lines (map (atom_text names.now (InRows 0)) atoms.now)) }
 {
     for atom in atoms {
         push_atom(text, atom, names)?;

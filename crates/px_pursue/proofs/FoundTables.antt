@@ -70,7 +70,7 @@ module _ (task : Task) (searchable : IsSearchable task) where
     short =
         let few = (found_with_weight task task.problem.weight moves found).few in
         let all = steps-short task.initial [] moves (All-nil (IsEntry task.problem task.tables)) moves-are in
-        omega (arith, few, all, searchable.valid.nodes.1)
+        omega (arith, few, all, searchable.nodes)
 
     plan-is : plan ≡ table_of_rows 0 [] taken task.goal task.vars plan.proofs
     plan-is = λ i. record {
@@ -96,4 +96,5 @@ module _ (task : Task) (searchable : IsSearchable task) where
 -- what may be searched for from some atoms may be from any
 pub searchable-from : (problem : Problem) (tables : List Table) (goal : List Atom) (vars : ℕ) (atoms others : List Atom)
     → IsSearchable (task_of problem tables atoms goal vars) → IsSearchable (task_of problem tables others goal vars)
-searchable-from problem tables goal vars atoms others is = record { valid = is.valid; goal = is.goal; learned = is.learned }
+searchable-from problem tables goal vars atoms others is =
+    record { valid = is.valid; nodes = is.nodes; goal = is.goal; learned = is.learned }

@@ -1,5 +1,6 @@
 -- The searches of a pursuit.
-use Rattle.std.specs.Prelude.{List, All}
+use Rattle.std.specs.Prelude.{◌≤◌, List, All}
+use Rattle.px_terms.specs.Limits.{most_nodes}
 use Rattle.px_terms.specs.Validity.{IsAtomOf, IsValid}
 use Rattle.px_table.specs.declared.entry.Move.{Move}
 use Rattle.px_entries.specs.Learned.{AreLearned}
@@ -8,9 +9,10 @@ use Rattle.px_ends.specs.Tasks.{Task}
 use Rattle.px_printer.specs.declared.pursue_end.PursueEnd.{PursueEnd}
 use Rattle.px_printer.specs.declared.pursue_end.PursueEnd.TheVariants.{Goal, Exhausted, NodeLimit, ShapeLimit}
 
--- the problem is valid, the goal is one of the problem, and the tables are like learned ones
+-- the problem is valid, no more nodes are kept than in any search, the goal is one of the problem, and the tables are like learned ones
 pub record IsSearchable (task : Task) : Type 0 where
   pub valid : IsValid task.problem
+  pub nodes : task.nodes ≤ most_nodes
   pub goal : All (IsAtomOf task.problem task.vars) task.goal
   pub learned : AreLearned task.problem task.tables
 

@@ -1,7 +1,7 @@
 -- What the contracts here cite of std, of the lower crates, and of the definitions of this one.
 pub use Rattle.px_effects.specs.FreshNames.{IsNameLexeme}
 pub use Rattle.px_reader.specs.LineReads.{AreScript, HasFirstFault, IsRead, IsLineRefused, LineEnds, LinesFail, HasFault, characters_of, told}
-pub use Rattle.px_causes.specs.Checks.{stage_view}
+pub use Rattle.px_causes.specs.EarlyFaults.{stage_view}
 pub use Rattle.px_so_far.specs.SoFarViews.{declared_of}
 pub use Rattle.px_lines.specs.ItemViews.{lexemes_of}
 pub use Rattle.px_statements.specs.StatementViews.{statement_view}

@@ -1,8 +1,10 @@
 //! The next line, and what all lines are once the last is read.
-ghost use Rattle.std.specs.Prelude.{◌≡◌, ◌<◌, true, length, IfOk, IfSome, MatchOption};
+ghost use Rattle.std.specs.Prelude.{◌≡◌, ◌<◌, ◌&&◌, true, length, IfOk, IfSome, MatchOption};
 ghost use Rattle.px_base.specs.Bounds.{u32_max};
 ghost use Rattle.px_rooms.specs.States.{IsBuilding, first_state, rendering};
+ghost use Rattle.px_script.specs.Faults.{over};
 ghost use Rattle.px_script.specs.Ranges.{IsInRange};
+ghost use Rattle.px_script.specs.declared.limits.Limit.TheVariants as limit;
 ghost use Rattle.px_lines.specs.LineViews.{line_view};
 ghost use Rattle.px_so_far.specs.Problems.{HasProblem};
 ghost use Rattle.px_reader.specs.Common.{AllByRecursion, IsNameLexeme, spelling, after_line, option_map, chars, content_of, facts_of, begins_with_word, is_formed, line_of, AreInRange, HasFault, LineEnds, content, stage_view, declared_of, lexemes_of, statement_view};
@@ -28,7 +30,10 @@ fn begins_with_word(so_far: &SoFar, tokens: &[Token<'_>]) -> bool
     matches!(tokens, [Token::Name(name), ..] if is_word(so_far.version, name))
 }
 
-/// Reads the next line, and returns its fault, if it has one.
+/// Reads the next line, and returns its fault, if it has one. A line without a token has none, and leaves all as it is.
+///
+/// # Errors
+/// `NoMemory` where there is no memory for the line.
 pub fn read_line(
     so_far: &mut SoFar,
     stage: &[&str],
@@ -80,7 +85,7 @@ fn read_statement(
             declare(so_far, number, statement)?;
             so_far.own_domain = own_domain;
             so_far.begun = true;
-            if has_too_many_facts(so_far, is_fact) {
+            if passes_facts(so_far, is_fact) {
                 return Ok(Some(LineFault::Limit(PassedLimit::Most(Limit::Facts))));
             }
             Ok(None)
@@ -122,7 +127,17 @@ fn facts_of_building(alloc: Global, building: &Building) -> Result<Model, NoMemo
     }
 }
 
+/// Returns whether the line that was added passes the limit of facts, which only one of facts can.
+fn passes_facts(so_far: &SoFar, is_fact: bool) -> bool
+    ensures { result ≡ (is_fact && (over (declared_of so_far.now) limit.Facts (length (declared_of so_far.now).facts)).0) }
+{
+    is_fact && has_too_many_facts(so_far)
+}
+
 /// Returns the script, where no block is open. What it has is taken from what the lines have declared.
+///
+/// # Errors
+/// `NoMemory` where there is no memory for it.
 #[tactic(auto, using(crate::proofs::Finishing::content_is, crate::proofs::Finishing::content_in_range))]
 pub fn finish(so_far: &mut SoFar) -> Result<Script, NoMemory>
     requires range { IsInRange (content_of (declared_of so_far.old)) }

@@ -15,7 +15,7 @@ use std::alloc::{AllocError, Global};
 use std::str;
 
 /// The words that are built: all that are described.
-const STAGE: [&str; 36] = [
+const STAGE: [&str; 37] = [
     "script",
     "object",
     "predicate",
@@ -52,6 +52,7 @@ const STAGE: [&str; 36] = [
     "duo",
     "pursue",
     "weight",
+    "tree",
 ];
 
 /// Returns the parts of a text between line feeds.

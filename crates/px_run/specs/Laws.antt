@@ -46,7 +46,7 @@ RunReaches state (Run name bound) (reply.Ran given told) = (table : Table) → a
 RunReaches state _ _ = Unit {0}
 
 -- Each state that the reply leaves is worth what is said of a pursuit: it made at most one search more than disturbances are recorded, and
--- where it ends at the goal, the world's atoms carry no step to the goal that was asked for.
+-- where it ends at the goal, the goal that was asked for holds wherever the axioms and the world's atoms do.
 abbrev pub PursuitReaches : Problem → SessionState → Command → Reply → Type 0
 PursuitReaches problem state command answer = (new : SessionState) → Lawful problem state command answer new
     → PursuitIsWorth problem state command answer new

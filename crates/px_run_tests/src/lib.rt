@@ -20,3 +20,5 @@ mod runs;
 mod samples;
 #[cfg(test)]
 mod table_tests;
+#[cfg(test)]
+mod tree_tests;

@@ -4,10 +4,9 @@ use crate::samples::Pieces;
 use px_io::NoMemory;
 use std::rt::HostRuntime;
 
-// Two robots, and paths between three places.
-const PLACES: (&str, u32) = (
-    "script 2
-object A B X Y Z
+/// Two robots, and paths between three places.
+pub(crate) const PLACES: (&str, u32) = (
+    "object A B X Y Z
 predicate AT 2
 predicate PATH 2
 operator MOVE(r,x,y)
@@ -26,6 +25,7 @@ const PURSUED: &[(Pieces, Pieces)] = &[
     // The robot is carried to a place that no kernel knows, and that happens once.
     (
         &[
+            ("script 2\n", 1),
             PLACES,
             (
                 "disturb 1 before -AT(A,X) +AT(A,Z)\npursue P AT(A,Y)\npursue Q AT(A,X)\n",
@@ -46,7 +46,11 @@ const PURSUED: &[(Pieces, Pieces)] = &[
     ),
     // It is taken away.
     (
-        &[PLACES, ("disturb 1 before -AT(A,X)\npursue P AT(A,Y)\n", 1)],
+        &[
+            ("script 2\n", 1),
+            PLACES,
+            ("disturb 1 before -AT(A,X)\npursue P AT(A,Y)\n", 1),
+        ],
         &[(
             "noted 1\npursue P 2 searches\n  turn 1 nokernel\n  exhausted\n",
             1,
@@ -55,6 +59,7 @@ const PURSUED: &[(Pieces, Pieces)] = &[
     // The first search has too few nodes, and nothing happens.
     (
         &[
+            ("script 2\n", 1),
             PLACES,
             (
                 "nodes 2\ndisturb 1 before -AT(A,X)\npursue P AT(A,Y)\nplan Q AT(A,X)\n",

@@ -1,6 +1,7 @@
 -- One more command keeps commands in range, and so does another problem with the same objects.
 use Rattle.std.proofs.lemmas.List.FromFn.{map-range_with_len_more}
-use Rattle.px_script.proofs.Common.{flat_map-append, append_assoc, append-nil, length, Bool, Option, ◌≡◌, ℕ, ◌+◌, ◌≤◌, true, false, ◌||◌, ◌==◌, List, [], ◌∷◌, ◌++◌, refl, sym, ap, ◌∙◌, subst, arith, map-id, All, Some, fold, flat_map, list_any, range_with_len, scan, nat_tests, or_right, list_any-append, Problem, Thing, Command, Plan, Learn, Show, Save, Certify, DisturbAtoms, Run, Duo, Edit, Pursue, CommandsInRange, IsCommandOf, IsAmong, disturbs_after}
+use Rattle.px_script.proofs.Common.{flat_map-append, append_assoc, append-nil, length, Bool, Option, ◌≡◌, ℕ, ◌+◌, ◌≤◌, true, false, ◌||◌, ◌==◌, List, [], ◌∷◌, ◌++◌, refl, sym, ap, ◌∙◌, subst, arith, map-id, All, Some, fold, flat_map, list_any, range_with_len, scan, nat_tests, or_right, list_any-append, Problem, Thing, Command, CommandsInRange, IsCommandOf, IsAmong, disturbs_after}
+use Rattle.px_script.specs.declared.command.Command.TheVariants.{Plan, Learn, Show, Save, Certify, DisturbAtoms, Run, Duo, Edit, Pursue, Tree}
 use Rattle.px_script.proofs.Problems.{Grows, atoms-kept}
 
 pub one-more-result : (old : ℕ) → range_with_len 0 old ++ old ∷ [] ≡ range_with_len 0 (old + 1)
@@ -16,6 +17,7 @@ pub more-results : (version : ℕ) (problem : Problem) (building : Option (List 
     → IsCommandOf version problem building old command → IsCommandOf version problem building new command
 more-results version problem building old new le (Plan name goal vars) h = (omega (arith, h.0, le), h.1)
 more-results version problem building old new le (Pursue name goal vars) h = (omega (arith, h.0, le), h.1)
+more-results version problem building old new le (Tree name nodes goal vars) h = (omega (arith, h.0, le), h.1, h.2)
 more-results version problem building old new le (Learn name source) h = (omega (arith, h.0, le), omega (arith, h.1, le))
 more-results version problem building old new le (Show name) h = omega (arith, h, le)
 more-results version problem building old new le (Save name) h = omega (arith, h, le)
@@ -73,6 +75,8 @@ module _ (version : ℕ) (p q : Problem) (things : List Thing) (first : List ℕ
       (h.0, assumption (atoms-kept p q more vars goal h.1.atoms, λ (none : q.objects ≡ 0). h.1.no_objects (objects ∙ none)))
   command-moved (Pursue name goal vars) h =
       (h.0, assumption (atoms-kept p q more vars goal h.1.atoms, λ (none : q.objects ≡ 0). h.1.no_objects (objects ∙ none)))
+  command-moved (Tree name nodes goal vars) h =
+      (h.0, h.1, assumption (atoms-kept p q more vars goal h.2.atoms, λ (none : q.objects ≡ 0). h.2.no_objects (objects ∙ none)))
   command-moved (DisturbAtoms turn between edits) h = let no = h.1 in cc
   command-moved (Run name bindings) h = (h.0, (λ k d below. let is = h.1 k d below in (is.0, is.1, omega (arith, is.2, objects))), h.2)
   command-moved _ h = h

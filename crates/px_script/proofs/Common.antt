@@ -32,9 +32,9 @@ pub use Rattle.px_terms.specs.Validity.{HasArity, IsPatternOf, IsSchemaOf, IsAxi
 pub use Rattle.px_script.specs.Lexemes.{Lexeme, name, number, sign, Lexes, variable, is_blank, is_sign, goes_on, is_comment, IsLexeme, ends_before, Begins, IsIgnored, number_value}
 pub use Rattle.px_script.specs.Lines.{lines_of}
 pub use Rattle.px_script.specs.Items.{SignedAtom, is_empty, Named, Sign, WrittenRoomEdit, Binding, bare, robot_to, box_to, door_to, is_parameter_number, wanted_by_edit, an_object, Argument, named, open_variable, anything, is_variable, WrittenAtom, spell, spell_argument, spell_sign, spell_atom, spell_room_edit, spell_binding, is_filled, parameter_name, open_word, with_commas, parenthesised, negated, added, removed, spell_pair, Part, a_fact, an_ancestor, an_axiom, spell_part, spell_terms}
-pub use Rattle.px_script.specs.Statements.{Statement, Block, plain, inside, operator_block, building_block, line_of, script, object, predicate, «axiom», operator, pre, delete, add, building, room, door, box, robot, end, fact, height, nodes, shapes, weight, plan, learn, show, disturb_atoms, disturb_rooms, run, facts, sort, param, literals, goals, atom_changes, Line, Place, Manner, patterns, spelling, time_word, duo, save, certify, edit, pursue, table, step, goal, proof, table_terms, table_goals, table_steps, table_rows}
-pub use Rattle.px_script.specs.Limits.{greatest, words_of_all, words_of_two, words_of_three, default_nodes, default_weight, from_three, of_weight, of_height, of_nodes, of_shapes, of_version, Bounds, of_turn, is_word, of_executor, last_number}
-pub use Rattle.px_script.specs.Commands.{Command, Show, Save, Certify, Facts, Plan, Learn, DisturbAtoms, DisturbRooms, Run, Duo, Edit, Pursue}
+pub use Rattle.px_script.specs.Statements.{Statement, Block, plain, inside, operator_block, building_block, line_of, script, «axiom», operator, end, fact, literals, goals, atom_changes, Line, Place, Manner, patterns, spelling, time_word, table, step, goal, proof, table_terms, table_goals, table_steps, table_rows}
+pub use Rattle.px_script.specs.Limits.{greatest, words_of_all, words_of_two, words_of_three, default_nodes, default_weight, from_three, of_tree, of_weight, of_height, of_nodes, of_shapes, of_version, Bounds, of_turn, is_word, of_executor, last_number}
+pub use Rattle.px_script.specs.Commands.{Command}
 pub use Rattle.px_script.specs.Declarations.{Declared, Roles, OpenBlock, BlockKind, OpenOperator, of_operator, of_building, block_here, kind_of_block, number_in, atom_of, nothing_declared, after_line, predicate_names, predicate_arities, operator_names, operator_here, parameters_here, parameters_of, names_here, variable_names_of, literal_of, clause_of, atom_edit_of, edit_by, room_edit_of, binding_of, declared_by, with_variable, term_of, has_building, filled_up, object_sorts_here, with_sort, give_sort, WrittenTable, table_closed, table_in, problem_here, problem_of, building_with, of_table_steps, of_table_rows, table_made, table_variables, letter_numbers, goal_number, goal_variables, proofs_read, table_term, instance_of_step, table_parameters_here, own_problem}
 pub use Rattle.px_script.specs.Content.{ScriptValue, content_of}
 pub use Rattle.px_script.specs.Forms.{is_formed, Forms, begins_with_word, is_signed, is_of_script}

@@ -1,14 +1,16 @@
--- The table of the words: what each line has in which order; a plain reader by the table, and the statement that items are.
-use Rattle.px_script.proofs.Common.{SignedAtom, ℕ, Bool, true, false, List, [], ◌∷◌, ◌++◌, length, drop, Option, None, Some, codes, if◌then◌else◌, ◌||◌, ◌==◌, nat_le, bytes_eq, option_map, option_and_then, Lexeme, name, number, Manner, Place, Line, Declared, has_building, is_formed, Statement, inside, plain, patterns, literals, goals, atom_changes, operator_block, building_block, script, object, predicate, «axiom», operator, pre, delete, add, building, room, door, box, robot, end, fact, height, nodes, shapes, weight, plan, learn, show, disturb_atoms, disturb_rooms, run, facts, sort, param, duo, save, certify, edit, pursue, table, step, goal, proof, table_terms, table_goals, table_steps, table_rows}
+-- The table of the words: what each line has in which order; the statement that items are, and that it is described so; and a plain
+-- reader by the table.
+use Rattle.px_script.proofs.Common.{◌≡◌, refl, sym, ap, ◌∙◌, AllByRecursion, IfSome, line_of, open_word, time_word, SignedAtom, ℕ, Bool, true, false, List, [], ◌∷◌, ◌++◌, length, drop, Option, None, Some, codes, if◌then◌else◌, ◌||◌, ◌==◌, nat_le, bytes_eq, option_map, option_and_then, Lexeme, name, number, Manner, Place, Line, Declared, has_building, is_formed, Statement, inside, plain, patterns, literals, goals, atom_changes, operator_block, building_block, script, «axiom», operator, end, fact, table, step, goal, proof, table_terms, table_goals, table_steps, table_rows}
 use Rattle.px_script.specs.Items.{Item, the, amount, amounts, new, declared, listed, known, wanted, atoms, bindings, room_edits, an_object, a_predicate, an_operator, a_parameter, a_sort, a_room as room_name, a_door as door_name, a_box as box_name, a_plan, a_table, pairs, a_result, arguments, proofs}
-use Rattle.px_script.specs.Statements.{room_changes, line, first, domain, setting, opens, closes, command}
+use Rattle.px_script.specs.Statements.{room_changes, line, first, domain, setting, opens, closes, command, object, predicate, pre, delete, add, building, room, door, box, robot, height, nodes, shapes, weight, plan, learn, show, disturb_atoms, disturb_rooms, run, facts, sort, param, duo, save, certify, edit, pursue, tree}
 use Rattle.px_script.specs.declared.kinds.Choice.{Choice}
 use Rattle.px_script.specs.declared.kinds.Choice.TheVariants as choice
 use Rattle.px_script.specs.declared.kinds.One.{One}
 use Rattle.px_script.specs.declared.kinds.One.TheVariants as one
 use Rattle.px_script.specs.declared.kinds.Last.{Last}
 use Rattle.px_script.specs.declared.kinds.Last.TheVariants as last
-use Rattle.px_script.proofs.Parsing.{names_of, names_at, at_end, all_of, atom_at, binding_at, room_edit_at, open_of, time_of, nothing_form, numbers_of, pair_at, items_at, argument_of, part_at}
+use Rattle.px_script.proofs.Forms.{map-there, if-there, same_word, which-sound}
+use Rattle.px_script.proofs.Parsing.{names_of, names_at, at_end, all_of, atom_at, binding_at, room_edit_at, open_of, time_of, nothing_form, numbers_of, pair_at, items_at, argument_of, part_at, which}
 
 pub record Row : Type 0 where
   pub word : List ℕ
@@ -71,6 +73,10 @@ row_items r lexemes =
 
 -- ---- the table
 
+-- the line of a row with these items
+abbrev pub filled : Row → List Item → Line
+filled r items = line r.word r.place r.manner items
+
 pub record Entry : Type 0 where
   pub row : Row
   pub make : List Item → Option Statement
@@ -78,60 +84,126 @@ pub record Entry : Type 0 where
 abbrev entry : Row → (List Item → Option Statement) → Entry
 entry row make = record { row = row; make = make }
 
--- Alike: the lines below, one for each word: what its items say.
+-- what a word's items make is described so
+abbrev Makes : (List Item → Option Statement) → (List Item → Line) → Type 0
+Makes make l = (items : List Item) → IfSome (make items) (λ s. line_of s ≡ l items)
+
+-- which of two words it is
+chosen-word : (word : Bool → List ℕ) (w : List ℕ) (f : Bool → Statement) (l : List ℕ → Line) → ((b : Bool) → line_of (f b) ≡ l (word b))
+    → IfSome (option_map f (which (word true) (word false) w)) (λ s. line_of s ≡ l w)
+chosen-word word w f l is = map-there _ _ (which (word true) (word false) w) (which-sound word w)
+    (λ b same. is b ∙ ap l (sym same))
+
+-- Alike: the lines below, one for each word: what its items say, and that the statement is described so.
 abbrev pub make_number : (ℕ → Statement) → List Item → Option Statement
 make_number f (amounts (n ∷ []) ∷ []) = Some (f n)
 make_number f _ = None
+
+made-number : (f : ℕ → Statement) (l : List Item → Line) → ((n : ℕ) → line_of (f n) ≡ l (amount n ∷ [])) → Makes (make_number f) l
+made-number f l is (amounts (n ∷ []) ∷ []) = is n
+made-number f l is _ = tt
 
 abbrev pub make_object : List Item → Option Statement
 make_object (declared an_object ns ∷ []) = Some (object ns)
 make_object _ = None
 
+made-object : Makes make_object (line (codes "object") domain plain)
+made-object (declared an_object ns ∷ []) = refl
+made-object _ = tt
+
 abbrev pub make_predicate : List Item → Option Statement
 make_predicate (declared a_predicate (p ∷ []) ∷ amounts (arity ∷ []) ∷ []) = Some (predicate p arity)
 make_predicate _ = None
+
+made-predicate : Makes make_predicate (line (codes "predicate") domain plain)
+made-predicate (declared a_predicate (p ∷ []) ∷ amounts (arity ∷ []) ∷ []) = refl
+made-predicate _ = tt
 
 abbrev pub make_operator : List Item → Option Statement
 make_operator (declared an_operator (o ∷ []) ∷ listed a_parameter ps ∷ []) = Some (operator o ps)
 make_operator _ = None
 
+made-operator : Makes make_operator (line (codes "operator") (opens operator_block) plain)
+made-operator (declared an_operator (o ∷ []) ∷ listed a_parameter ps ∷ []) = refl
+made-operator _ = tt
+
 abbrev pub make_atoms : (List SignedAtom → Statement) → List Item → Option Statement
 make_atoms f (atoms xs ∷ []) = Some (f xs)
 make_atoms f _ = None
+
+made-atoms : (f : List SignedAtom → Statement) (l : List Item → Line) → ((xs : List SignedAtom) → line_of (f xs) ≡ l (atoms xs ∷ []))
+    → Makes (make_atoms f) l
+made-atoms f l is (atoms xs ∷ []) = is xs
+made-atoms f l is _ = tt
 
 abbrev pub make_nothing : Statement → List Item → Option Statement
 make_nothing s [] = Some s
 make_nothing s _ = None
 
+made-nothing : (s : Statement) (l : List Item → Line) → line_of s ≡ l [] → Makes (make_nothing s) l
+made-nothing s l is [] = is
+made-nothing s l is _ = tt
+
 abbrev pub make_room : List Item → Option Statement
 make_room (declared room_name (r ∷ []) ∷ []) = Some (room r)
 make_room _ = None
+
+made-room : Makes make_room (line (codes "room") (inside building_block) plain)
+made-room (declared room_name (r ∷ []) ∷ []) = refl
+made-room _ = tt
 
 abbrev pub make_door : List Item → Option Statement
 make_door (declared door_name (d ∷ []) ∷ wanted room_name (one ∷ []) ∷ wanted room_name (other ∷ []) ∷ the w ∷ []) =
     option_map (door d one other) (open_of w)
 make_door _ = None
 
+made-door : Makes make_door (line (codes "door") (inside building_block) plain)
+made-door (declared door_name (d ∷ []) ∷ wanted room_name (one ∷ []) ∷ wanted room_name (other ∷ []) ∷ the w ∷ []) =
+    chosen-word open_word w (door d one other) (λ v. line (codes "door") (inside building_block) plain
+    (new door_name d ∷ known room_name one ∷ known room_name other ∷ the v ∷ [])) (λ b. refl)
+made-door _ = tt
+
 abbrev pub make_box : List Item → Option Statement
 make_box (declared box_name (b ∷ []) ∷ wanted room_name (r ∷ []) ∷ []) = Some (box b r)
 make_box _ = None
+
+made-box : Makes make_box (line (codes "box") (inside building_block) plain)
+made-box (declared box_name (b ∷ []) ∷ wanted room_name (r ∷ []) ∷ []) = refl
+made-box _ = tt
 
 abbrev pub make_robot : List Item → Option Statement
 make_robot (wanted room_name (r ∷ []) ∷ []) = Some (robot r)
 make_robot _ = None
 
+made-robot : Makes make_robot (line (codes "robot") (inside building_block) plain)
+made-robot (wanted room_name (r ∷ []) ∷ []) = refl
+made-robot _ = tt
+
 abbrev pub make_plan : List Item → Option Statement
 make_plan (declared a_plan (n ∷ []) ∷ atoms xs ∷ []) = Some (plan n xs)
 make_plan _ = None
+
+made-plan : Makes make_plan (line (codes "plan") command goals)
+made-plan (declared a_plan (n ∷ []) ∷ atoms xs ∷ []) = refl
+made-plan _ = tt
 
 abbrev pub make_learn : List Item → Option Statement
 make_learn (declared a_table (n ∷ []) ∷ the w ∷ wanted a_plan (source ∷ []) ∷ []) =
     if bytes_eq w (codes "from") then Some (learn n source) else None
 make_learn _ = None
 
+made-learn : Makes make_learn (line (codes "learn") command plain)
+made-learn (declared a_table (n ∷ []) ∷ the w ∷ wanted a_plan (source ∷ []) ∷ []) =
+    if-there _ _ _ (bytes_eq w (codes "from")) (λ e. rw (same_word w (codes "from") e) refl) (λ e. tt)
+made-learn _ = tt
+
 abbrev pub make_show : List Item → Option Statement
 make_show (wanted a_table (n ∷ []) ∷ []) = Some (show n)
 make_show _ = None
+
+made-show : Makes make_show (line (codes "show") command plain)
+made-show (wanted a_table (n ∷ []) ∷ []) = refl
+made-show _ = tt
 
 abbrev pub make_disturb : Bool → List Item → Option Statement
 make_disturb false (amounts (turn ∷ []) ∷ the w ∷ atoms xs ∷ []) = option_map (λ between. disturb_atoms turn between xs) (time_of w)
@@ -142,43 +214,93 @@ abbrev pub make_run : List Item → Option Statement
 make_run (wanted a_table (n ∷ []) ∷ bindings bs ∷ []) = Some (run n bs)
 make_run _ = None
 
+made-run : Makes make_run (line (codes "run") command plain)
+made-run (wanted a_table (n ∷ []) ∷ bindings bs ∷ []) = refl
+made-run _ = tt
+
 abbrev pub make_sort : List Item → Option Statement
 make_sort (declared a_sort (n ∷ []) ∷ declared an_object ns ∷ []) = Some (sort n ns)
 make_sort _ = None
+
+made-sort : Makes make_sort (line (codes "sort") domain plain)
+made-sort (declared a_sort (n ∷ []) ∷ declared an_object ns ∷ []) = refl
+made-sort _ = tt
 
 abbrev pub make_param : List Item → Option Statement
 make_param (wanted a_sort (n ∷ []) ∷ wanted a_parameter ps ∷ []) = Some (param n ps)
 make_param _ = None
 
+made-param : Makes make_param (line (codes "param") (inside operator_block) plain)
+made-param (wanted a_sort (n ∷ []) ∷ wanted a_parameter ps ∷ []) = refl
+made-param _ = tt
+
 abbrev pub make_duo : List Item → Option Statement
 make_duo (wanted a_table (one ∷ []) ∷ wanted a_table (other ∷ []) ∷ amounts ns ∷ []) = Some (duo one other ns)
 make_duo _ = None
+
+made-duo : Makes make_duo (line (codes "duo") command plain)
+made-duo (wanted a_table (one ∷ []) ∷ wanted a_table (other ∷ []) ∷ amounts ns ∷ []) = refl
+made-duo _ = tt
 
 abbrev pub make_table : List Item → Option Statement
 make_table (declared a_table (n ∷ []) ∷ amounts (parameters ∷ []) ∷ []) = Some (table n parameters)
 make_table _ = None
 
+made-table : Makes make_table (line (codes "table") (opens table_steps) plain)
+made-table (declared a_table (n ∷ []) ∷ amounts (parameters ∷ []) ∷ []) = refl
+made-table _ = tt
+
 abbrev pub make_step : List Item → Option Statement
 make_step (wanted an_operator (o ∷ []) ∷ arguments ts ∷ []) = Some (step o ts)
 make_step _ = None
 
+made-step : Makes make_step (line (codes "step") (inside table_steps) table_terms)
+made-step (wanted an_operator (o ∷ []) ∷ arguments ts ∷ []) = refl
+made-step _ = tt
+
 abbrev pub make_proof : List Item → Option Statement
 make_proof (proofs parts ∷ []) = Some (proof parts)
 make_proof _ = None
+
+made-proof : Makes make_proof (line (codes "proof") (inside table_rows) table_terms)
+made-proof (proofs parts ∷ []) = refl
+made-proof _ = tt
 
 -- what names a table alone
 abbrev pub make_of_table : (List ℕ → Statement) → List Item → Option Statement
 make_of_table f (wanted a_table (n ∷ []) ∷ []) = Some (f n)
 make_of_table f _ = None
 
+made-of-table : (f : List ℕ → Statement) (l : List Item → Line) → ((n : List ℕ) → line_of (f n) ≡ l (known a_table n ∷ []))
+    → Makes (make_of_table f) l
+made-of-table f l is (wanted a_table (n ∷ []) ∷ []) = is n
+made-of-table f l is _ = tt
+
 abbrev pub make_edit : List Item → Option Statement
 make_edit (declared a_table (n ∷ []) ∷ the w ∷ wanted a_table (source ∷ []) ∷ amounts (prefix ∷ []) ∷ pairs ps ∷ []) =
     if bytes_eq w (codes "from") then Some (edit n source prefix ps) else None
 make_edit _ = None
 
+made-edit : Makes make_edit (line (codes "edit") command plain)
+made-edit (declared a_table (n ∷ []) ∷ the w ∷ wanted a_table (source ∷ []) ∷ amounts (prefix ∷ []) ∷ pairs ps ∷ []) =
+    if-there _ _ _ (bytes_eq w (codes "from")) (λ e. rw (same_word w (codes "from") e) refl) (λ e. tt)
+made-edit _ = tt
+
 abbrev pub make_pursue : List Item → Option Statement
 make_pursue (declared a_result (n ∷ []) ∷ atoms xs ∷ []) = Some (pursue n xs)
 make_pursue _ = None
+
+made-pursue : Makes make_pursue (line (codes "pursue") command goals)
+made-pursue (declared a_result (n ∷ []) ∷ atoms xs ∷ []) = refl
+made-pursue _ = tt
+
+abbrev pub make_tree : List Item → Option Statement
+make_tree (declared a_result (n ∷ []) ∷ amounts (most ∷ []) ∷ atoms xs ∷ []) = Some (tree n most xs)
+make_tree _ = None
+
+made-tree : Makes make_tree (line (codes "tree") command goals)
+made-tree (declared a_result (n ∷ []) ∷ amounts (most ∷ []) ∷ atoms xs ∷ []) = refl
+made-tree _ = tt
 
 abbrev pub disturb_manner : Bool → Manner
 disturb_manner true = room_changes
@@ -191,6 +313,15 @@ disturb_last false = last.Atoms
 -- its word stands outside any choice, so that each word below it in the table computes
 abbrev pub disturb_row : Bool → Row
 disturb_row b = row (codes "disturb") command (disturb_manner b) (one.Number ∷ one.Word choice.Time ∷ []) (disturb_last b)
+
+made-disturb : (b : Bool) → Makes (make_disturb b) (filled (disturb_row b))
+made-disturb false (amounts (turn ∷ []) ∷ the w ∷ atoms xs ∷ []) =
+    chosen-word time_word w (λ between. disturb_atoms turn between xs) (λ v. line (codes "disturb") command atom_changes
+    (amount turn ∷ the v ∷ atoms xs ∷ [])) (λ b. refl)
+made-disturb true (amounts (turn ∷ []) ∷ the w ∷ room_edits es ∷ []) =
+    chosen-word time_word w (λ between. disturb_rooms turn between es) (λ v. line (codes "disturb") command room_changes
+    (amount turn ∷ the v ∷ room_edits es ∷ [])) (λ b. refl)
+made-disturb _ _ = tt
 
 -- the words of all versions, of a script with or without a building so far
 abbrev pub entries_of_all : Bool → List Entry
@@ -249,10 +380,29 @@ entries_of_two = entry (newer 2 (row (codes "sort") domain plain (one.New a_sort
 
 -- those that version 3 is the first to have
 abbrev pub entries_of_three : List Entry
-entries_of_three = entry (newer 3 (row (codes "weight") setting plain (one.Number ∷ []) last.Nothing)) (make_number weight) ∷ []
+entries_of_three = entry (newer 3 (row (codes "weight") setting plain (one.Number ∷ []) last.Nothing)) (make_number weight)
+    ∷ entry (newer 3 (row (codes "tree") command goals (one.New a_result ∷ one.Number ∷ []) last.Atoms)) make_tree ∷ []
 
 abbrev pub entries : Bool → List Entry
 entries b = entries_of_all b ++ (entries_of_two ++ entries_of_three)
+
+-- the line of a row is told by its items
+abbrev pub IsMade : Entry → Type 0
+IsMade e = (items : List Item) → IfSome (e.make items) (λ s. line_of s ≡ filled e.row items)
+
+also : {A B : Type 0} → A → B → A × B
+also a b = (a, b)
+
+pub all-made : (b : Bool) → AllByRecursion IsMade (entries b)
+all-made b = also (made-number script _ (λ n. refl)) (also made-object (also made-predicate (also (made-atoms «axiom» _ (λ xs. refl))
+    (also made-operator (also (made-atoms pre _ (λ xs. refl)) (also (made-atoms delete _ (λ xs. refl)) (also (made-atoms add _ (λ xs. refl))
+    (also (made-nothing building _ refl) (also made-room (also made-door (also made-box (also made-robot (also (made-nothing end _ refl)
+    (also (made-atoms fact _ (λ xs. refl)) (also (made-number height _ (λ n. refl)) (also (made-number nodes _ (λ n. refl)) (also
+    (made-number shapes _ (λ n. refl)) (also made-plan (also made-learn (also made-show (also (made-disturb b) (also made-run (also
+    (made-nothing facts _ refl) (also made-sort (also made-param (also made-table (also made-step
+    (also (made-atoms goal _ (λ xs. refl)) (also made-proof (also (made-of-table save _ (λ n. refl)) (also
+    (made-of-table certify _ (λ n. refl)) (also made-edit (also made-duo (also made-pursue (also
+    (made-number weight _ (λ n. refl)) (also made-tree tt))))))))))))))))))))))))))))))))))))
 
 abbrev pub entry_among : List ℕ → List Entry → Option Entry
 entry_among w [] = None
@@ -266,10 +416,6 @@ entry_of b w = entry_among w (entries b)
 
 abbrev pub row_of : Bool → List ℕ → Option Row
 row_of b w = option_map (λ e. e.row) (entry_of b w)
-
--- the line of a row with these items
-abbrev pub filled : Row → List Item → Line
-filled r items = line r.word r.place r.manner items
 
 abbrev pub line_by : List Lexeme → Row → Option Line
 line_by lexemes r = option_map (filled r) (row_items r lexemes)

@@ -4,9 +4,9 @@ use Rattle.std.specs.List.{list_any, filter, flat_map}
 use Rattle.std.specs.Str.{bytes_eq}
 use Rattle.px_script.specs.Common.{Schema, atom_set, Problem}
 use Rattle.px_script.specs.Items.{SignedAtom, Binding, Part, a_fact, an_ancestor, an_axiom}
-use Rattle.px_script.specs.Statements.{Statement, line_of, script, object, predicate, «axiom», operator, pre, delete, add, building, room, door, box, robot, end, fact, height, nodes, shapes, weight, plan, learn, show, disturb_atoms, disturb_rooms, run, facts, sort, param, duo, save, certify, edit, pursue, table, step, goal, proof}
+use Rattle.px_script.specs.Statements.{Statement, line_of, script, object, predicate, «axiom», operator, pre, delete, add, building, room, door, box, robot, end, fact, height, nodes, shapes, weight, plan, learn, show, disturb_atoms, disturb_rooms, run, facts, sort, param, duo, save, certify, edit, pursue, tree, table, step, goal, proof}
 use Rattle.px_script.specs.Limits as limit
-use Rattle.px_script.specs.Limits.{Limit, Bounds, greatest, number_of, number_of_numbers, of_version, of_height, of_nodes, of_shapes, of_weight, of_turn, of_executor, last_number}
+use Rattle.px_script.specs.Limits.{Limit, Bounds, greatest, number_of, number_of_numbers, of_version, of_height, of_nodes, of_shapes, of_weight, of_turn, of_tree, of_executor, last_number}
 use Rattle.px_script.specs.Declarations.{Declared, OpenOperator, operator_here, has_building, number_in, variable_names_of, atom_of, BlockKind, of_table_steps, of_table_rows, table_here, OpenBlock, problem_here}
 use Rattle.px_table.specs.Deciding.{rows_are_table}
 use Rattle.px_table.specs.WellSorted.{sorts_by_places}
@@ -136,6 +136,8 @@ own_limits d (edit n source prefix ps) = one_more_command d ∷ has_great_number
     ∷ over d limit.pairs (length ps) ∷ []
 own_limits d (pursue n xs) =
     over d limit.variables (length (variable_names_of xs)) ∷ over d limit.goal_atoms (length xs) ∷ one_more_command d ∷ []
+own_limits d (tree n most xs) = over d limit.variables (length (variable_names_of xs)) ∷ over d limit.goal_atoms (length xs)
+    ∷ one_more_command d ∷ outside of_tree most ∷ []
 own_limits d building = []
 own_limits d (robot r) = []
 own_limits d end = []

@@ -4,12 +4,12 @@ use Rattle.std.specs.List.{list_any}
 use Rattle.std.specs.Str.{bytes_eq}
 use Rattle.px_terms.specs.Limits.{most_arguments, most_clauses, most_formula_variables, most_height, most_literals, most_nodes, most_parameters, most_shapes, most_weight}
 use Rattle.px_script.specs.declared.limits.TheConstants.{NAME_BYTES, OBJECTS, OBJECTS_OF_TWO, PREDICATES, OPERATORS, OPERATOR_ATOMS, FACTS, FACTS_OF_TWO, GOAL_ATOMS, COMMANDS, COMMANDS_OF_TWO, DISTURBS, EDITS, SORTS, LAST_VERSION, EVENTS, PAIRS, TABLES, TABLE_STEPS, PROOF_HEIGHT, MOST_OLD_NODES, DEFAULT_OLD_NODES, DEFAULT_NODES, DEFAULT_WEIGHT}
--- what a script has limits of; the number of the limit of numbers, those that a script may give; the last turn that a disturbance may name,
--- the greatest number of a table's block and of an edit, and how many executors share a world; the height and the shapes of a script whose
--- lines give none
+-- what a script has limits of; the number of the limit of numbers, those that a script may give; the most nodes of a search tree, the last
+-- turn that a disturbance may name, the greatest number of a table's block and of an edit, and how many executors share a world; the height
+-- and the shapes of a script whose lines give none
 pub use Rattle.px_script.specs.declared.limits.Limit.{Limit}
 pub use Rattle.px_script.specs.declared.limits.Limit.TheVariants.{NameBytes as name_bytes, Objects as objects, Predicates as predicates, Arity as arity, Axioms as axioms, Literals as literals, Variables as variables, Operators as operators, Parameters as parameters, OperatorAtoms as operator_atoms, Facts as facts, GoalAtoms as goal_atoms, Commands as commands, Disturbs as disturbs, Edits as edits, Sorts as sorts, Tables as tables, TableSteps as table_steps, ProofHeight as proof_height, Pairs as pairs, Events as events}
-pub use Rattle.px_script.specs.declared.limits.TheConstants.{NUMBER_OF_NUMBERS as number_of_numbers, LAST_TURN as last_turn, LAST_NUMBER as last_number, DEFAULT_HEIGHT as default_height, DEFAULT_SHAPES as default_shapes, EXECUTORS as executors}
+pub use Rattle.px_script.specs.declared.limits.TheConstants.{NUMBER_OF_NUMBERS as number_of_numbers, MOST_TREE_NODES as most_tree_nodes, LAST_TURN as last_turn, LAST_NUMBER as last_number, DEFAULT_HEIGHT as default_height, DEFAULT_SHAPES as default_shapes, EXECUTORS as executors}
 
 -- the words that may begin a line in every version
 abbrev pub words_of_all : List (List ℕ)
@@ -26,7 +26,7 @@ words_of_two = codes "sort" ∷ codes "param" ∷ codes "table" ∷ codes "step"
 
 -- those that version 3 is the first to have
 abbrev pub words_of_three : List (List ℕ)
-words_of_three = codes "weight" ∷ []
+words_of_three = codes "weight" ∷ codes "tree" ∷ []
 
 -- every word that may begin a line of a script of a version
 abbrev pub words : ℕ → List (List ℕ)
@@ -126,6 +126,9 @@ of_weight version = bounds 0 (most_script_weight version)
 
 abbrev pub of_shapes : Bounds
 of_shapes = bounds 2 most_shapes
+
+abbrev pub of_tree : Bounds
+of_tree = bounds 1 most_tree_nodes
 
 abbrev pub of_turn : Bounds
 of_turn = bounds 1 last_turn

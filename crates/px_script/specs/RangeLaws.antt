@@ -10,7 +10,8 @@ use Rattle.px_terms.specs.Language.{IsPlainBelow}
 use Rattle.px_world.specs.declared.edits.AtomEdit.TheVariants as atom_edit
 use Rattle.px_world.specs.declared.edits.RoomEdit.TheVariants as room_edit
 use Rattle.px_world.specs.declared.thing.Thing.TheVariants as thing
-use Rattle.px_script.specs.Commands.{Command, Plan, DisturbRooms}
+use Rattle.px_script.specs.Commands.{Command}
+use Rattle.px_script.specs.declared.command.Command.TheVariants.{Plan, DisturbRooms}
 use Rattle.px_script.specs.Content.{ScriptValue}
 use Rattle.px_script.specs.Limits.{by_version}
 use Rattle.px_script.specs.Ranges.{IsEditOf, IsThingAfter, AreRoomEditsOf, IsCommandOf, NamesEarlier, IsInRange}

@@ -11,8 +11,9 @@ use Rattle.px_world.specs.declared.edits.AtomEdit.TheVariants as atom_edit
 use Rattle.px_world.specs.declared.thing.Thing.TheVariants.{Room, Door, Box, Robot}
 use Rattle.px_script.specs.Items.{last_parameter}
 use Rattle.px_script.specs.Limits as limit
-use Rattle.px_script.specs.Limits.{Bounds, greatest, of_nodes, of_weight, of_turn, of_version, of_executor, last_number}
-use Rattle.px_script.specs.Commands.{Command, Plan, Learn, Show, Save, Certify, DisturbAtoms, DisturbRooms, Run, Facts, Duo, Edit, Pursue}
+use Rattle.px_script.specs.Limits.{Bounds, greatest, of_nodes, of_weight, of_tree, of_turn, of_version, of_executor, last_number}
+use Rattle.px_script.specs.Commands.{Command}
+use Rattle.px_script.specs.declared.command.Command.TheVariants.{Plan, Learn, Show, Save, Certify, DisturbAtoms, DisturbRooms, Run, Facts, Duo, Edit, Pursue, Tree}
 use Rattle.px_script.specs.Declarations.{building_with, operator_names, predicate_names}
 use Rattle.px_script.specs.Content.{ScriptValue}
 use Rattle.px_script.specs.Stages.{Stage, is_built}
@@ -164,6 +165,8 @@ pub record ArePairsOf (version : ℕ) (wanted : List (ℕ × ℕ)) : Type 0 wher
 abbrev pub IsCommandOf : ℕ → Problem → Option (List Thing) → ℕ → Command → Type 0
 IsCommandOf version problem building results (Plan name goal vars) = (name < results) × IsGoalOf version problem goal vars
 IsCommandOf version problem building results (Pursue name goal vars) = (name < results) × IsGoalOf version problem goal vars
+IsCommandOf version problem building results (Tree name nodes goal vars) =
+    (name < results) × IsWithin of_tree nodes × IsGoalOf version problem goal vars
 IsCommandOf version problem building results (Learn name source) = (name < results) × (source < results)
 IsCommandOf version problem building results (Show name) = name < results
 IsCommandOf version problem building results (Save name) = name < results
@@ -185,6 +188,7 @@ result_given (Plan name goal vars) = name ∷ []
 result_given (Learn name source) = name ∷ []
 result_given (Edit name source prefix wanted) = name ∷ []
 result_given (Pursue name goal vars) = name ∷ []
+result_given (Tree name nodes goal vars) = name ∷ []
 result_given _ = []
 
 -- the result that a plan gives
@@ -195,6 +199,7 @@ plan_given _ = []
 -- the result that a command gives, if it is a table
 abbrev pub table_given : Command → List ℕ
 table_given (Pursue name goal vars) = []
+table_given (Tree name nodes goal vars) = []
 table_given command = result_given command
 
 abbrev pub IsAmong : List ℕ → ℕ → Type 0
@@ -253,6 +258,7 @@ pub record IsInRange (script : ScriptValue) : Type 0 where
 abbrev pub word_of : Command → List ℕ
 word_of (Plan name goal vars) = codes "plan"
 word_of (Pursue name goal vars) = codes "pursue"
+word_of (Tree name nodes goal vars) = codes "tree"
 word_of (Learn name source) = codes "learn"
 word_of (Show name) = codes "show"
 word_of (Save name) = codes "save"

@@ -49,6 +49,8 @@ pub data Statement : Type 0 where
   save certify : List ℕ → Statement
   edit : List ℕ → List ℕ → ℕ → List (ℕ × ℕ) → Statement
   pursue : List ℕ → List SignedAtom → Statement
+  -- a name, how many nodes, and a goal that is searched for until there are as many
+  tree : List ℕ → ℕ → List SignedAtom → Statement
 
 pub record Line : Type 0 where
   pub word : List ℕ
@@ -104,6 +106,7 @@ line_of (certify n) = line (codes "certify") command plain (known a_table n ∷ 
 line_of (edit n source prefix ps) =
     line (codes "edit") command plain (new a_table n ∷ the (codes "from") ∷ known a_table source ∷ amount prefix ∷ pairs ps ∷ [])
 line_of (pursue n xs) = line (codes "pursue") command goals (new a_result n ∷ atoms xs ∷ [])
+line_of (tree n most xs) = line (codes "tree") command goals (new a_result n ∷ amount most ∷ atoms xs ∷ [])
 line_of (param n ps) = line (codes "param") (inside operator_block) plain (known a_sort n ∷ wanted a_parameter ps ∷ [])
 
 -- the lexemes of a line

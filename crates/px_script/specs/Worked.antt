@@ -8,7 +8,7 @@ use Rattle.px_terms.specs.Problems.{problem_without_sorts, schema_without_sorts}
 use Rattle.px_script.specs.Common.{no_names, building_problem, closed, connects, in_room, is_box, is_door, is_room, Obj, Problem, Var}
 use Rattle.px_world.specs.declared.edits.RoomEdit.TheVariants as room_edit
 use Rattle.px_world.specs.declared.thing.Thing.TheVariants as thing
-use Rattle.px_script.specs.Commands.{Plan, Show, DisturbRooms, Facts}
+use Rattle.px_script.specs.declared.command.Command.TheVariants.{Plan, Show, DisturbRooms, Facts}
 use Rattle.px_script.specs.Content.{ScriptValue}
 use Rattle.px_script.specs.Limits.{default_height, default_nodes, default_shapes}
 use Rattle.px_script.specs.Lines.{mark}

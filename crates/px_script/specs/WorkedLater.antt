@@ -3,7 +3,7 @@ use Rattle.std.specs.Prelude.{◌≡◌, ℕ, false, List, [], ◌∷◌, ◌++�
 use Rattle.px_script.specs.Common.{Var}
 use Rattle.px_script.specs.Items.{open_variable, bare}
 use Rattle.px_script.specs.Statements.{line_of, edit, pursue}
-use Rattle.px_script.specs.Commands.{Plan, Learn, Pursue}
+use Rattle.px_script.specs.declared.command.Command.TheVariants.{Plan, Learn, Pursue}
 use Rattle.px_script.specs.Limits as limit
 use Rattle.px_script.specs.Limits.{greatest}
 use Rattle.px_script.specs.Declarations.{nothing_declared}

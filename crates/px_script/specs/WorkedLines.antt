@@ -10,7 +10,7 @@ use Rattle.px_world.specs.declared.thing.Thing.TheVariants as thing
 use Rattle.px_script.specs.Items.{Argument, SignedAtom, Sign, named, open_variable, anything, bare, negated, added, removed, robot_to, box_to, door_to}
 use Rattle.px_script.specs.Statements.{Statement, spelling, building, room, robot, door, box, «axiom», operator, delete, height, shapes, plan, learn, show, disturb_atoms, disturb_rooms, run, duo, edit}
 use Rattle.px_script.specs.Lexemes.{Lexes}
-use Rattle.px_script.specs.Commands.{Facts, Plan, Learn, Show, DisturbAtoms, DisturbRooms, Run, Duo, Edit}
+use Rattle.px_script.specs.declared.command.Command.TheVariants.{Facts, Plan, Learn, Show, DisturbAtoms, DisturbRooms, Run, Duo, Edit}
 use Rattle.px_script.specs.Declarations.{Declared, nothing_declared}
 use Rattle.px_script.specs.Stages.{whole_language}
 use Rattle.px_script.specs.Scripts.{Passes, PassAll, Fails}

@@ -9,7 +9,7 @@ use Rattle.px_table.specs.declared.table.Table.{Table}
 use Rattle.px_script.specs.Common.{Var}
 use Rattle.px_script.specs.Items.{Argument, SignedAtom, named, open_variable, bare, a_fact, an_ancestor, an_axiom, are_proofs}
 use Rattle.px_script.specs.Statements.{table, step, goal, proof, save, certify}
-use Rattle.px_script.specs.Commands.{Plan, Learn, Show, Save, Certify, Run, Duo, Edit}
+use Rattle.px_script.specs.declared.command.Command.TheVariants.{Plan, Learn, Show, Save, Certify, Run, Duo, Edit}
 use Rattle.px_script.specs.Declarations.{Declared}
 use Rattle.px_script.specs.WorkedLines.{Exceed, Fit, Leave, LeaveBoth, Refuse, RefuseWhere, Spell, closed_building, in_operator, numbered, q, commands, learned, learned_in_two, small, times, with_sign}
 

@@ -101,6 +101,13 @@ pub enum Command {
         goal: Sequence<Atom>,
         vars: u32,
     },
+    /// Search for a goal with room for so many nodes, and answer the tree of the search. It gives no table.
+    Tree {
+        name: u32,
+        nodes: u32,
+        goal: Sequence<Atom>,
+        vars: u32,
+    },
     /// Answer the facts.
     Facts,
 }

@@ -36,8 +36,9 @@
 //! - [`worked_lines`] and [`worked_texts`]: what the definition says of small lines, and of small texts from their bytes, to be
 //!   compared with what a reader expects.
 //!
-//! The modules of `proofs` that px_lines, px_reader and px_saved cite (`Scanning`, `Parsing`, `Rows`, `Faultless`, `States`, `Kept` and
-//! lemmas) aren't part of what a script is: of public calls only those of px_lines speak of them.
+//! The modules of `proofs` that px_lines, the crates of the reader and px_saved cite (`Scanning`, `Parsing`, `Rows`, `Faultless`, `States`,
+//! `Kept` and lemmas) aren't part of what a script is: of public calls those of px_lines, px_statements, px_causes and px_effects speak of
+//! them.
 #![tactic(auto)]
 
 ghost use Rattle.std.specs.Prelude.{List, ℕ};
@@ -51,7 +52,7 @@ ghost use Rattle.px_script.specs.Scripts.{ReadsOneWay, IsScript};
 ghost use Rattle.px_script.specs.Worked.{WorkedScripts, WorkedRefusals};
 ghost use Rattle.px_script.specs.WorkedLines.{WorkedBuildings, WorkedCommands, WorkedDomains, WorkedDuos, WorkedEdits, WorkedLimits, WorkedSorts, WorkedSpellings};
 ghost use Rattle.px_script.specs.WorkedTables.{WorkedSaves, WorkedTables};
-ghost use Rattle.px_script.specs.WorkedThree.{WorkedWeights};
+ghost use Rattle.px_script.specs.WorkedThree.{WorkedTrees, WorkedWeights};
 ghost use Rattle.px_script.specs.WorkedLater.{WorkedLater, WorkedPursuits};
 
 mod command;
@@ -63,8 +64,8 @@ pub use command::{Binding, Command};
 pub use kinds::{Block, Choice, Last, Manner, Named, One, Place, Sign};
 pub use limits::{
     DEFAULT_HEIGHT, DEFAULT_NODES, DEFAULT_OLD_NODES, DEFAULT_SHAPES, DEFAULT_WEIGHT, EXECUTORS,
-    LAST_NUMBER, LAST_PARAMETER, LAST_TURN, LAST_VERSION, Limit, MOST_OLD_NODES, NAME_BYTES,
-    NUMBER_OF_NUMBERS, default_nodes, default_weight, greatest, most_script_nodes,
+    LAST_NUMBER, LAST_PARAMETER, LAST_TURN, LAST_VERSION, Limit, MOST_OLD_NODES, MOST_TREE_NODES,
+    NAME_BYTES, NUMBER_OF_NUMBERS, default_nodes, default_weight, greatest, most_script_nodes,
     most_script_weight,
 };
 pub use script::Script;
@@ -84,6 +85,7 @@ pub fn worked_lines()
     ensures tables { WorkedTables }
     ensures saves { WorkedSaves }
     ensures weights { WorkedWeights }
+    ensures trees { WorkedTrees }
     ensures later { WorkedLater }
 {}
 

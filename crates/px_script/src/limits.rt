@@ -94,6 +94,8 @@ pub const LAST_VERSION: u32 = 3;
 pub const NUMBER_OF_NUMBERS: u8 = 16;
 /// The most nodes that a script before version 3 may ask for, which are fewer than a problem may have.
 pub const MOST_OLD_NODES: u32 = 50_000;
+/// The most nodes of a search tree.
+pub const MOST_TREE_NODES: u32 = 1_000;
 /// The last turn that a disturbance may name.
 pub const LAST_TURN: u32 = 9999;
 /// The greatest number of a table's block, and of an edit of a table.

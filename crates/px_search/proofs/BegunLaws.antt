@@ -18,7 +18,7 @@ use Rattle.px_numbers.specs.declared.nodes.NodeKey.{NodeKey}
 use Rattle.px_numbers.specs.Numbers.{Kept, IsKeyOf, KeepsAll}
 use Rattle.px_search.specs.declared.picker.Picker.{Picker}
 use Rattle.px_search.specs.declared.progress.Progress.{Progress}
-use Rattle.px_search.specs.declared.progress.Progress.TheVariants.{Unsolved, Solved, Full}
+use Rattle.px_search.specs.declared.progress.Progress.TheVariants.{Unsolved, Solved, Full, Limited}
 use Rattle.px_search.specs.declared.step.Step.{Step}
 use Rattle.px_search.specs.declared.step.Origin.{Origin}
 use Rattle.px_search.specs.Going.{AreFirstOf, AreMovesOf, IsGoneOn, LimitsNode}
@@ -112,6 +112,7 @@ module _ (task : Task) where
   progress-goes kept keys origins P Q Unsolved goes known = goes known
   progress-goes kept keys origins P Q Solved goes known = known
   progress-goes kept keys origins P Q (Full moves) goes known = known
+  progress-goes kept keys origins P Q (Limited limit) goes known = known
 
   -- ---- from the first moves to all
 

@@ -16,11 +16,11 @@ use Rattle.px_ops.specs.Keeping.{Keeps}
 use Rattle.px_ops.specs.KeepLaws.{place_within, has_at, push-cases}
 use Rattle.px_numbers.specs.declared.nodes.NodeKey.{NodeKey}
 use Rattle.px_numbers.specs.Numbers.{Kept, AreEachOnce, IsKeyOf, KeepsAll, AllStand}
-use Rattle.px_numbers.specs.NumberLaws.{one_at, node_of_key, seen, unseen, all_stand-grows, all_stand-push}
+use Rattle.px_numbers.specs.NumberLaws.{one_at, node_of_key, seen, unseen, stands-grows, all_stand-grows, all_stand-push}
 use Rattle.px_order.specs.Places.{at_end, contains_place, place_of, still_there}
 use Rattle.px_order.specs.RunLaws.{behind, made, made-push, node-push}
-use Rattle.px_order.specs.Runs.{IsNew, IsNext}
-use Rattle.px_ends.specs.ByValue.{space_of, IsExhausted, IsFound, IsNodeLimit, IsShapeLimit}
+use Rattle.px_order.specs.Runs.{Comes, IsNew, IsNext}
+use Rattle.px_ends.specs.ByValue.{space_of}
 use Rattle.px_ends.specs.Ends.{AreMoves, node_of}
 use Rattle.px_ends.specs.Moves.{CanMake, reached}
 use Rattle.px_ends.specs.Tasks.{Task, initial_node, IsAllowed, IsSolved, after, goal_question}
@@ -29,7 +29,7 @@ use Rattle.px_search.specs.declared.step.Step.{Step}
 use Rattle.px_search.specs.declared.step.Origin.{Origin}
 use Rattle.px_search.specs.Asking.{IsTriedAt}
 use Rattle.px_search.specs.Going.{IsAskedAt, IsBegunOn, LimitsNode}
-use Rattle.px_search.specs.Looping.{AreNumbered, Between, Going, Trying}
+use Rattle.px_search.specs.Looping.{AreFoundBy, AreNumbered, AtPick, Between, Going, IsFull, IsLimitedAt, IsReached, IsSpent, Trying}
 use Rattle.px_search.specs.Picking.{AreWithin, IsOnward, IsPickerOf}
 use Rattle.px_search.specs.Searching.{IsBelowLimit, IsMaking, Searching, order_of}
 use Rattle.px_search.specs.Steps.{DescribesMove, AreEarlier, Trace}
@@ -37,7 +37,8 @@ use Rattle.px_search.proofs.FirstMoves.{first_new}
 use Rattle.px_search.proofs.PickerLaws.{picker-grows}
 use Rattle.px_search.proofs.StepLaws.{step-grows, steps-grow}
 use Rattle.px_search.proofs.TurnLaws.{between_next, making_found, making_seen, making_start}
-use Rattle.px_search.proofs.ValueEndings.{ends_found, ends_full, ends_limited, ends_limited_there, ends_over, searching_found}
+use Rattle.px_search.proofs.FirstLimits.{first_here, first_there}
+use Rattle.px_search.proofs.ValueEndings.{comes, ends_found, ends_full, ends_over, searching_found}
 
 -- ---- the entries on the stacks of nodes that moves reach are entries
 
@@ -188,8 +189,32 @@ module _ (task : Task) where
 
   -- ---- the start
 
+  -- the initial node alone is found
+  pub numbered-start : (kept : Kept) (key : NodeKey) → IsKeyOf kept key (initial_node task)
+      → AreNumbered task kept (key ∷ []) [] ([] ∷ [])
+  numbered-start kept key stands = record {
+    stand = record { count = refl; each = λ k key' node' at at'. one k key' node' at at' };
+    trace = record { first = refl; later = λ k origin at. absurd (nothing_at k origin at) };
+    earlier = λ k origin at. absurd (nothing_at k origin at);
+    one_more = refl;
+  }
+    where
+      nothing_at : (k : ℕ) (origin : Origin) → ¬ (slice_get [] k ≡ Some origin)
+      nothing_at k origin at = cc
+
+      one : (k : ℕ) (key' : NodeKey) (node' : Node) → slice_get (key ∷ []) k ≡ Some key' → slice_get (initial_node task ∷ []) k ≡ Some node'
+          → IsKeyOf kept key' node'
+      one zero key' node' at at' =
+          let same : key ≡ key' = cc in
+          let same_node : initial_node task ≡ node' = cc in
+          subst (λ (x : NodeKey). IsKeyOf kept x node') same (subst (λ (x : Node). IsKeyOf kept key x) same_node stands)
+      one (suc k) key' node' at at' = absurd (cc)
+
+  pub found-start : (kept : Kept) (key : NodeKey) → IsKeyOf kept key (initial_node task) → AreFoundBy task kept (key ∷ []) [] ([] ∷ [])
+  found-start kept key stands = record { begins = ([], (0, (refl, refl))); numbered = numbered-start kept key stands }
+
   pub between-start : (kept : Kept) (key : NodeKey) (picker : Picker) → IsKeyOf kept key (initial_node task)
-      → IsTriedAt task (initial_node task) Unanswered → 1 ≤ task.problem.nodes → IsPickerOf task kept ([] ∷ []) [] picker
+      → IsTriedAt task (initial_node task) Unanswered → 1 ≤ task.nodes → IsPickerOf task kept ([] ∷ []) [] picker
       → Between task kept (key ∷ []) [] picker []
   between-start kept key picker stands tried room picking = record {
     found = [] ∷ [];
@@ -203,12 +228,7 @@ module _ (task : Task) where
       };
       done = tt;
     };
-    numbered = record {
-      stand = record { count = refl; each = λ k key' node' at at'. one k key' node' at at' };
-      trace = record { first = refl; later = λ k origin at. absurd (nothing_at k origin at) };
-      earlier = λ k origin at. absurd (nothing_at k origin at);
-      one_more = refl;
-    };
+    numbered = numbered-start kept key stands;
     picking = picking;
   }
     where
@@ -216,35 +236,34 @@ module _ (task : Task) where
       only x (zero, h, e) = e
       only x (suc k, h, e) = absurd (omega (arith, h))
 
-      nothing_at : (k : ℕ) (origin : Origin) → ¬ (slice_get [] k ≡ Some origin)
-      nothing_at k origin at = cc
-
-      one : (k : ℕ) (key' : NodeKey) (node' : Node) → slice_get (key ∷ []) k ≡ Some key' → slice_get (initial_node task ∷ []) k ≡ Some node'
-          → IsKeyOf kept key' node'
-      one zero key' node' at at' =
-          let same : key ≡ key' = cc in
-          let same_node : initial_node task ≡ node' = cc in
-          subst (λ (x : NodeKey). IsKeyOf kept x node') same (subst (λ (x : Node). IsKeyOf kept key x) same_node stands)
-      one (suc k) key' node' at at' = absurd (cc)
-
   -- ---- between nodes
 
   -- a place is picked
   pub going-start : (kept : Kept) (keys : List NodeKey) (origins : List Origin) (old new : Picker) (picked : List ℕ) (next : ℕ)
       → (b : Between task kept keys origins old picked) → IsNext (space_of task) (order_of task) b.found picked next
-      → IsPickerOf task kept b.found (next ∷ picked) new → Going task kept keys origins new picked next []
-  going-start kept keys origins old new picked next b is_next picking = record {
-    found = b.found;
-    making = making_start task b.found picked b.between next is_next;
-    numbered = b.numbered;
-    picking = picking;
+      → IsPickerOf task kept b.found (next ∷ picked) new → AtPick task kept keys origins new picked next
+  going-start kept keys origins old new picked next b is_next picking =
+      record { found = b.found; between = b.between; is_next = is_next; numbered = b.numbered; picking = picking }
+
+  -- no move from it is made yet
+  abbrev pub pick-going : (kept : Kept) (keys : List NodeKey) (origins : List Origin) (picker : Picker) (picked : List ℕ) (next : ℕ)
+      → AtPick task kept keys origins picker picked next → Going task kept keys origins picker picked next []
+  pick-going kept keys origins picker picked next a = record {
+    found = a.found;
+    making = making_start task a.found picked a.between next a.is_next;
+    numbered = a.numbered;
+    picking = a.picking;
   }
 
   -- no place is left
   pub going-exhausted : (kept : Kept) (keys : List NodeKey) (origins : List Origin) (picker : Picker) (picked : List ℕ)
       → (b : Between task kept keys origins picker picked)
-      → ((k : ℕ) (moves : List Move) → slice_get b.found k ≡ Some moves → Contains picked k) → IsExhausted task task.problem.weight
-  going-exhausted kept keys origins picker picked b all = ends_over task b.found picked b.between all
+      → ((k : ℕ) (moves : List Move) → slice_get b.found k ≡ Some moves → Contains picked k) → IsSpent task kept keys origins
+  going-exhausted kept keys origins picker picked b all = (
+    b.found,
+    record { begins = (picked, b.between.searching.known); numbered = b.numbered },
+    ends_over task b.found picked b.between all,
+  )
 
   -- ---- at a node
 
@@ -317,20 +336,28 @@ module _ (task : Task) where
 
   -- there is room for more, or as many as may be kept
   pub going-room : (kept : Kept) (keys : List NodeKey) (origins : List Origin) (picker : Picker) (picked : List ℕ) (next : ℕ)
-      (tried : List Move) → Going task kept keys origins picker picked next tried → length keys ≤ task.problem.nodes
+      (tried : List Move) → Going task kept keys origins picker picked next tried → length keys ≤ task.nodes
   going-room kept keys origins picker picked next tried g =
       omega (arith, counted kept keys origins g.found g.numbered, g.making.searching.room)
 
-  -- a question of the node meets the limit
-  pub limit-here : (kept : Kept) (keys : List NodeKey) (origins : List Origin) (picker : Picker) (picked : List ℕ) (next : ℕ)
-      (key : NodeKey) (formula : List Atom) (shapes : List (List Tick)) → (g : Going task kept keys origins picker picked next [])
-      → (at : slice_get keys next ≡ Some key)
-      → LimitsNode task (here_of kept keys origins picker picked next [] key g at).node formula shapes
-      → IsShapeLimit task task.problem.weight (here_of kept keys origins picker picked next [] key g at).node formula shapes
-  unfolding list_of here_of
-  limit-here kept keys origins picker picked next key formula shapes g at limits =
-      let here = list_of kept keys origins g.found g.numbered next key at in
-      ends_limited task g.found next picked picked g.making.searching here.0 limits.question formula shapes here.1 limits.asked limits.met
+  -- a question of the node that was picked meets the limit
+  pub limit-here : (old new : Kept) (keys : List NodeKey) (origins : List Origin) (picker : Picker) (picked : List ℕ) (next : ℕ)
+      (key : NodeKey) (formula : List Atom) (shapes : List (List Tick)) → KeepsAll old new
+      → AtPick task old keys origins picker picked next → slice_get keys next ≡ Some key
+      → ((node : Node) → IsKeyOf old key node → LimitsNode task node formula shapes)
+      → IsLimitedAt task new keys origins (record { key = key; formula = formula; shapes = shapes })
+  limit-here old new keys origins picker picked next key formula shapes keeps a at limits =
+      let here = list_of old keys origins a.found a.numbered next key at in
+      let l = limits (goes here.0) here.2 in
+      record {
+        found = a.found;
+        are = record {
+          begins = (picked, a.between.searching.known);
+          numbered = numbered-grows old new keys origins a.found keeps a.numbered;
+        };
+        first = first_here task a.found picked a.between next a.is_next here.0 here.1 l.question l.asked formula shapes l.met;
+        stands = stands-grows old new key (goes here.0) keeps here.2;
+      }
 
   pub going-next : (kept : Kept) (keys : List NodeKey) (origins : List Origin) (picker : Picker) (picked : List ℕ) (next : ℕ)
       (steps : List Step) (is_all : Bool) (i : ℕ) (t : Trying task kept keys origins picker picked next steps is_all i)
@@ -448,10 +475,10 @@ module _ (task : Task) where
           (λ r. unseen kept once keys (map goes g.found) there next_node g.numbered.stand there_stands fresh
           (subst (λ (x : Node). Contains (map goes g.found) x) r.2 (to_map g.found r.0 r.1)))
 
-      room_there : length keys < task.problem.nodes → length g.found < task.problem.nodes
+      room_there : length keys < task.nodes → length g.found < task.nodes
       room_there room = omega (arith, counted kept keys origins g.found g.numbered, room)
 
-      pub trying-new : (new : Picker) → length keys < task.problem.nodes → IsTriedAt task next_node Unanswered
+      pub trying-new : (new : Picker) → length keys < task.nodes → IsTriedAt task next_node Unanswered
           → IsPickerOf task kept (g.found ++ more_moves ∷ []) (next ∷ picked) new
           → Trying task kept (keys ++ there ∷ []) more_origins new picked next steps is_all (i + 1)
       trying-new new room tried picking =
@@ -471,45 +498,47 @@ module _ (task : Task) where
             list_at = still_there g.found (more_moves ∷ []) next t.list t.list_at;
           }
 
-      pub going-found : (moves : List Move) → length keys < task.problem.nodes → IsTriedAt task next_node Answered
-          → ((found : List (List Move)) → Trace kept more_origins found → slice_get found (length more_origins) ≡ Some moves)
-          → IsFound task task.problem.weight moves
-      going-found moves room tried traced =
-          let t_new = subst (λ (x : Node). IsTriedAt task x Answered) (sym new_goes) tried in
-          let same : more_moves ≡ moves =
-          one_at (g.found ++ more_moves ∷ []) (length more_origins) more_moves moves last_traced
-          (traced (g.found ++ more_moves ∷ []) more_trace) in
-          subst (IsFound task task.problem.weight) same
-          (ends_found task g.found next picked g.making.searching t.list t.list_at m is_new (room_there room) t_new.0 t.begun.unlimited
-          t_new.1)
+      comes_there : Comes (space_of task) (order_of task) (g.found ++ more_moves ∷ []) (next ∷ picked)
+      comes_there = comes task g.found next picked g.making.searching t.list t.list_at m is_new
 
-      pub going-limit : (formula : List Atom) (shapes : List (List Tick)) → length keys < task.problem.nodes
-          → IsTriedAt task next_node (Limited formula shapes) → IsShapeLimit task task.problem.weight next_node formula shapes
+      pub found-more : AreFoundBy task kept (keys ++ there ∷ []) more_origins (g.found ++ more_moves ∷ [])
+      found-more = record { begins = (next ∷ picked, comes_there); numbered = numbered-more }
+
+      pub going-found : length keys < task.nodes → IsTriedAt task next_node Answered
+          → IsReached task kept (keys ++ there ∷ []) more_origins
+      going-found room tried =
+          let t_new = subst (λ (x : Node). IsTriedAt task x Answered) (sym new_goes) tried in (
+            g.found ++ more_moves ∷ [],
+            found-more,
+            ends_found task g.found next picked g.making.searching t.list t.list_at m is_new (room_there room) t_new.0 t.begun.unlimited
+                t_new.1,
+          )
+
+      pub going-limit : (formula : List Atom) (shapes : List (List Tick)) → length keys < task.nodes
+          → IsTriedAt task next_node (Limited formula shapes)
+          → IsLimitedAt task kept (keys ++ there ∷ []) more_origins (record { key = there; formula = formula; shapes = shapes })
       going-limit formula shapes room tried =
           let t_new = subst (λ (x : Node). IsTriedAt task x (Limited formula shapes)) (sym new_goes) tried in
-          subst (λ (x : Node). IsShapeLimit task task.problem.weight x formula shapes) new_goes
-          (ends_limited_there task g.found next picked g.making.searching t.list t.list_at m is_new (room_there room) t_new.0 formula shapes
-          t_new.1)
+          record {
+            found = g.found ++ more_moves ∷ [];
+            are = found-more;
+            first = first_there task g.found next picked g.making.searching t.list t.list_at m is_new t.begun.unlimited (room_there room)
+                t_new.0 formula shapes t_new.1;
+            stands = new_stands;
+          }
 
-      pub going-full : (made : List Node) (moves : List Move) → task.problem.nodes ≤ length keys
-          → ((nodes : List Node) → AllStand kept (keys ++ there ∷ []) nodes → made ≡ take task.problem.nodes nodes)
-          → ((found : List (List Move)) → Trace kept more_origins found → slice_get found (length more_origins) ≡ Some moves)
-          → IsNodeLimit task task.problem.weight made (length moves)
-      going-full made moves enough all traced =
-          let full : length g.found ≡ task.problem.nodes =
+      pub going-full : (count : ℕ) → task.nodes ≤ length keys
+          → ((moves : List Move) × (count ≡ length moves)
+          × ((found : List (List Move)) → Trace kept more_origins found → slice_get found (length more_origins) ≡ Some moves))
+          → IsFull task kept (keys ++ there ∷ []) more_origins count
+      going-full count enough (moves, count_is, traced) =
+          let full : length g.found ≡ task.nodes =
           omega (arith, enough, counted kept keys origins g.found g.numbered, g.making.searching.room) in
-          let full_nodes : task.problem.nodes ≡ length (map goes g.found) = sym full ∙ sym (length-map g.found goes) in
           let same : more_moves ≡ moves =
           one_at (g.found ++ more_moves ∷ []) (length more_origins) more_moves moves last_traced
           (traced (g.found ++ more_moves ∷ []) more_trace) in
-          let nodes_are : made ≡ map goes g.found =
-          all (map goes g.found ++ goes more_moves ∷ [])
-          (all_stand-push kept keys (map goes g.found) there (goes more_moves) g.numbered.stand new_stands)
-          ∙ take_kept (map goes g.found) (goes more_moves) task.problem.nodes full_nodes in
-          subst (λ (l : List Move). IsNodeLimit task task.problem.weight made (length l)) same
-          (subst (λ (l : List Node). IsNodeLimit task task.problem.weight l (length more_moves)) (sym nodes_are)
-          (ends_full task g.found next picked g.making.searching t.list t.list_at m is_new full t.begun.unlimited))
-        where
-          take_kept : {A : Type 0} (xs : List A) (x : A) (n : ℕ) → n ≡ length xs → take n (xs ++ x ∷ []) ≡ xs
-          take_kept [] x n long = rw long refl
-          take_kept (y ∷ xs) x n long = rw long (ap (λ t. y ∷ t) (take_kept xs x (length xs) refl))
+          subst (λ (n : ℕ). IsFull task kept (keys ++ there ∷ []) more_origins n) (ap length same ∙ sym count_is) (record {
+            found = g.found;
+            end = ends_full task g.found next picked g.making.searching t.list t.list_at m is_new full t.begun.unlimited;
+            are = found-more;
+          })

@@ -3,6 +3,7 @@ pub mod Answering
 pub mod BeginningLaws
 pub mod BegunLaws
 pub mod EffectLaws
+pub mod FirstLimits
 pub mod FirstMoves
 pub mod FromLaws
 pub mod GoingLaws
@@ -20,6 +21,9 @@ pub mod StackSums
 pub mod StepLaws
 pub mod Stepping
 pub mod StruckLaws
+pub mod TreeLaws
+pub mod TreeNodes
 pub mod TurnLaws
 pub mod ValueEndings
 pub mod WholeLaws
+pub mod WorkedTrees

@@ -1,7 +1,7 @@
 -- What the search keeps at each turn, from what its calls say.
-use Rattle.std.proofs.Common.{◌≡◌, ℕ, Bool, true, zero, suc, ◌+◌, ◌<◌, ◌≤◌, List, [], ◌∷◌, ◌++◌, map, take, length, refl, sym, ap, subst, arith, Some, slice_get, Contains}
+use Rattle.std.proofs.Common.{◌≡◌, ℕ, Bool, true, zero, suc, ◌+◌, ◌<◌, ◌≤◌, List, [], ◌∷◌, ◌++◌, map, take, length, refl, sym, ◌∙◌, ap, inl, subst, arith, Some, slice_get, Contains}
 use Rattle.std.specs.Prelude.{All}
-use Rattle.std.proofs.lemmas.List.{take_all, length-append}
+use Rattle.std.proofs.lemmas.List.{take_all, length-append, length-map, map-append}
 use Rattle.px_terms.specs.declared.atom.Atom.{Atom}
 use Rattle.px_proof.specs.declared.shape.Tick.{Tick}
 use Rattle.px_table.specs.declared.entry.Move.{Move}
@@ -13,19 +13,25 @@ use Rattle.px_ops.specs.Keeping.{Keeps}
 use Rattle.px_numbers.specs.declared.nodes.NodeKey.{NodeKey}
 use Rattle.px_numbers.specs.Numbers.{Kept, AreEachOnce, IsKeyOf, KeepsAll, AllStand}
 use Rattle.px_numbers.specs.NumberLaws.{one_list}
-use Rattle.px_ends.proofs.AtStart.{found_at_start, limited_at_start}
-use Rattle.px_ends.specs.ByValue.{IsFound, IsNodeLimit, IsShapeLimit}
+use Rattle.px_order.proofs.LawProofs.{one_stop}
+use Rattle.px_order.specs.Ends as order_ends
+use Rattle.px_order.specs.Places.{at_end, some-one}
+use Rattle.px_ends.proofs.AtStart.{found_at_start}
+use Rattle.px_ends.specs.ByValue.{IsFound, IsNodeLimit, aim_of, space_of}
 use Rattle.px_ends.specs.Ends.{node_of}
-use Rattle.px_ends.specs.Tasks.{Task, initial_node, after}
+use Rattle.px_ends.specs.Tasks.{Task, initial_node, IsSolved, after}
+use Rattle.px_search.specs.declared.progress.Limit.{Limit}
 use Rattle.px_search.specs.declared.picker.Picker.{Picker}
 use Rattle.px_search.specs.declared.step.Step.{Step}
 use Rattle.px_search.specs.declared.step.Origin.{Origin}
 use Rattle.px_search.specs.Asking.{IsTriedAt}
-use Rattle.px_search.specs.Going.{LimitsNode}
-use Rattle.px_search.specs.Looping.{Between, Going, IsFull, IsReached, Trying}
+use Rattle.px_search.specs.Looping.{AreFoundBy, Between, IsFull, IsLimitedAt, IsReached, Trying}
+use Rattle.px_search.specs.Searching.{order_of}
 use Rattle.px_search.specs.Picking.{AreWithin, IsOnward, IsPickerOf}
 use Rattle.px_search.specs.Steps.{DescribesMove, AreStepsOf, AreEarlier, Trace}
-use Rattle.px_search.proofs.GoingLaws.{here_of, between-start, trying-grows, trying-seen, trying-new, going-found, going-limit, going-full, going-next, going-room, limit-here, onward, same_here, kept_old, kept_new, more_earlier, numbered-more, picked-within, some_trace}
+use Rattle.px_search.proofs.GoingLaws.{counted, here_of, between-start, found-start, trying-grows, trying-seen, trying-new, going-found, going-limit, going-full, going-next, going-room, onward, same_here, kept_old, kept_new, more_earlier, picked-within, some_trace}
+use Rattle.px_search.proofs.FirstLimits.{first_at_start}
+use Rattle.px_search.proofs.ValueEndings.{linear}
 use Rattle.px_search.proofs.StepLaws.{step-grows, steps-count}
 
 -- ---- the step at a place
@@ -38,44 +44,66 @@ step_move kept (x ∷ ss) [] i s are at = absurd are
 step_move kept (x ∷ ss) (m ∷ ms) zero s are at = let same : x ≡ s = cc in (m, refl, subst (λ (y : Step). DescribesMove kept y m) same are.0)
 step_move kept (x ∷ ss) (m ∷ ms) (suc i) s are at = step_move kept ss ms i s are.1 at
 
+take_front : {A : Type 0} (xs : List A) (x : A) (n : ℕ) → n ≡ length xs → take n (xs ++ x ∷ []) ≡ xs
+take_front [] x n long = rw long refl
+take_front (y ∷ xs) x n long = rw long (ap (λ t. y ∷ t) (take_front xs x (length xs) refl))
+
 module _ (task : Task) where
   -- ---- the start
 
-  pub start-found : (kept : Kept) (key : NodeKey) (tried : Tried) (moves : List Move) → IsKeyOf kept key (initial_node task)
-      → ((node : Node) → IsKeyOf kept key node → IsTriedAt task node tried) → tried ≡ Answered → 1 ≤ task.problem.nodes
-      → moves ≡ [] → IsFound task task.problem.weight moves
-  start-found kept key tried moves stands says is room none =
+  -- the pair is the initial node, and is alone
+  pub start-alone : (kept : Kept) (key : NodeKey) (old keys : List NodeKey) (place : ℕ) → old ≡ [] → Keeps old keys key place
+      → keys ≡ key ∷ []
+  start-alone kept key old keys place none kept_key =
+      (kept_new [] keys key place (subst (λ (l : List NodeKey). Keeps l keys key place) none kept_key) (λ h. omega (arith, h))).1
+
+  pub start-are : (kept : Kept) (key : NodeKey) (keys : List NodeKey) (origins : List Origin) → IsKeyOf kept key (initial_node task)
+      → keys ≡ key ∷ [] → origins ≡ [] → AreFoundBy task kept keys origins ([] ∷ [])
+  start-are kept key keys origins stands one none =
+      subst (λ (l : List NodeKey). AreFoundBy task kept l origins ([] ∷ [])) (sym one)
+      (subst (λ (o : List Origin). AreFoundBy task kept (key ∷ []) o ([] ∷ [])) (sym none) (found-start task kept key stands))
+
+  pub start-found : (kept : Kept) (key : NodeKey) (keys : List NodeKey) (origins : List Origin) (tried : Tried)
+      → IsKeyOf kept key (initial_node task) → keys ≡ key ∷ [] → origins ≡ []
+      → ((node : Node) → IsKeyOf kept key node → IsTriedAt task node tried) → tried ≡ Answered → 1 ≤ task.nodes
+      → IsReached task kept keys origins
+  start-found kept key keys origins tried stands one none says is room =
       let t : IsTriedAt task (initial_node task) Answered =
       subst (IsTriedAt task (initial_node task)) is (says (initial_node task) stands) in
-      subst (IsFound task task.problem.weight) (sym none) (found_at_start task task.problem.weight room t.0 t.1)
+      let end = found_at_start task task.problem.weight room t.0 t.1 in
+      let same =
+      (one_stop (space_of task) (aim_of task)).stop (order_of task) (linear task) [] end.earlier [] [] (start-stop t.0) end.stop in
+      ([] ∷ [], start-are kept key keys origins stands one none, ([], end, ap (λ (l : List (List Move)). l ++ [] ∷ []) same.0))
+    where
+      start-stop : IsSolved task (initial_node task) → order_ends.IsStop (space_of task) (order_of task) (aim_of task) [] []
+      start-stop solved = record {
+        begins = ([], (0, (refl, refl)));
+        unsolved = λ moves has. absurd (omega (arith, has.1));
+        room = omega arith;
+        stops = inl solved;
+      }
 
-  pub start-limit : (kept : Kept) (key : NodeKey) (tried : Tried) (formula : List Atom) (shapes : List (List Tick))
-      → IsKeyOf kept key (initial_node task) → ((node : Node) → IsKeyOf kept key node → IsTriedAt task node tried)
-      → tried ≡ Limited formula shapes → 1 ≤ task.problem.nodes
-      → IsShapeLimit task task.problem.weight (initial_node task) formula shapes
-  start-limit kept key tried formula shapes stands says is room =
+  pub start-limit : (kept : Kept) (key : NodeKey) (keys : List NodeKey) (origins : List Origin) (tried : Tried) (formula : List Atom)
+      (shapes : List (List Tick)) → IsKeyOf kept key (initial_node task) → keys ≡ key ∷ [] → origins ≡ []
+      → ((node : Node) → IsKeyOf kept key node → IsTriedAt task node tried) → tried ≡ Limited formula shapes → 1 ≤ task.nodes
+      → IsLimitedAt task kept keys origins (record { key = key; formula = formula; shapes = shapes })
+  start-limit kept key keys origins tried formula shapes stands one none says is room =
       let t : IsTriedAt task (initial_node task) (Limited formula shapes) =
       subst (IsTriedAt task (initial_node task)) is (says (initial_node task) stands) in
-      limited_at_start task task.problem.weight room formula shapes t.1
+      record {
+        found = [] ∷ [];
+        are = start-are kept key keys origins stands one none;
+        first = first_at_start task room formula shapes t.1;
+        stands = stands;
+      }
 
-  pub start-from : (kept : Kept) (key : NodeKey) (keys : List NodeKey) (place : ℕ) (origins : List Origin) (picker : Picker)
-      → IsKeyOf kept key (initial_node task) → IsTriedAt task (initial_node task) Unanswered → 1 ≤ task.problem.nodes
-      → Keeps [] keys key place → origins ≡ [] → IsPickerOf task kept ([] ∷ []) [] picker → Between task kept keys origins picker []
-  start-from kept key keys place origins picker stands tried room kept_key none picking =
-      let one : keys ≡ key ∷ [] = (kept_new [] keys key place kept_key (λ h. omega (arith, h))).1 in
+  pub start-from : (kept : Kept) (key : NodeKey) (keys : List NodeKey) (origins : List Origin) (picker : Picker)
+      → IsKeyOf kept key (initial_node task) → IsTriedAt task (initial_node task) Unanswered → 1 ≤ task.nodes
+      → keys ≡ key ∷ [] → origins ≡ [] → IsPickerOf task kept ([] ∷ []) [] picker → Between task kept keys origins picker []
+  start-from kept key keys origins picker stands tried room one none picking =
       subst (λ (l : List NodeKey). Between task kept l origins picker []) (sym one)
       (subst (λ (o : List Origin). Between task kept (key ∷ []) o picker []) (sym none)
       (between-start task kept key picker stands tried room picking))
-
-  -- ---- a node
-
-  pub limit-of_node : (old : Kept) (keys : List NodeKey) (origins : List Origin) (picker : Picker) (picked : List ℕ) (next : ℕ)
-      (key : NodeKey) (formula : List Atom) (shapes : List (List Tick)) → (g : Going task old keys origins picker picked next [])
-      → (at : slice_get keys next ≡ Some key) → ((node : Node) → IsKeyOf old key node → LimitsNode task node formula shapes)
-      → IsShapeLimit task task.problem.weight (here_of task old keys origins picker picked next [] key g at).node formula shapes
-  limit-of_node old keys origins picker picked next key formula shapes g at limits =
-      let h = here_of task old keys origins picker picked next [] key g at in
-      limit-here task old keys origins picker picked next key formula shapes g at (limits h.node h.stands)
 
   -- ---- a move of it
 
@@ -150,22 +178,11 @@ module _ (task : Task) where
       fresh : (¬ Contains keys there) × (new ≡ keys ++ there ∷ [])
       fresh = kept_new keys new there place kept_key above
 
-      pub step-few : length keys ≤ task.problem.nodes
+      pub step-few : length keys ≤ task.nodes
       step-few = going-room task kept keys origins picker picked next (take i st.t.begun.moves) st.t.going
 
-      pub step-count : task.problem.nodes ≤ length keys → task.problem.nodes ≤ length new
-      step-count enough = omega (arith, enough, ap length fresh.1, length-append keys (there ∷ []))
-
-      pub step-stand : (nodes : List Node) × AllStand kept new nodes
-      step-stand =
-          subst (λ (l : List NodeKey). (nodes : List Node) × AllStand kept l nodes) (sym fresh.1) (
-            map (node_of task) (st.t.going.found ++ step-moves ∷ []),
-            (numbered-more task kept once keys origins picker picked next steps is_all i s st.t st.m st.at_m st.step_is there
-                st.stands).stand,
-          )
-
       pub step-new : (made : List Origin) (tried : Tried) (later : Picker) → made ≡ origins ++ origin ∷ []
-          → length keys < task.problem.nodes → ((node : Node) → IsKeyOf kept there node → IsTriedAt task node tried) → tried ≡ Unanswered
+          → length keys < task.nodes → ((node : Node) → IsKeyOf kept there node → IsTriedAt task node tried) → tried ≡ Unanswered
           → IsPickerOf task kept (st.t.going.found ++ step-moves ∷ []) (next ∷ picked) later
           → Trying task kept new made later picked next steps is_all (i + 1)
       step-new made tried later is room says same picking =
@@ -175,53 +192,93 @@ module _ (task : Task) where
           (trying-new task kept once keys origins picker picked next steps is_all i s st.t st.m st.at_m st.step_is there st.stands fresh.0
           later room t picking))
 
-      pub step-found : (made : List Origin) (tried : Tried) (moves : List Move) → made ≡ origins ++ origin ∷ []
-          → length keys < task.problem.nodes → ((node : Node) → IsKeyOf kept there node → IsTriedAt task node tried) → tried ≡ Answered
-          → ((found : List (List Move)) → Trace kept made found → slice_get found (length made) ≡ Some moves)
-          → IsFound task task.problem.weight moves
-      step-found made tried moves is room says same traced =
-          let t = subst (IsTriedAt task there_stands.0) same (says there_stands.0 st.stands) in
-          going-found task kept once keys origins picker picked next steps is_all i s st.t st.m st.at_m st.step_is there st.stands fresh.0
-          moves room t
-          (subst (λ (l : List Origin). (found : List (List Move)) → Trace kept l found → slice_get found (length l) ≡ Some moves) is traced)
-
-      pub step-reached : (made : List Origin) (tried : Tried) → made ≡ origins ++ origin ∷ [] → length keys < task.problem.nodes
-          → ((node : Node) → IsKeyOf kept there node → IsTriedAt task node tried) → tried ≡ Answered → IsReached task kept made
+      pub step-reached : (made : List Origin) (tried : Tried) → made ≡ origins ++ origin ∷ [] → length keys < task.nodes
+          → ((node : Node) → IsKeyOf kept there node → IsTriedAt task node tried) → tried ≡ Answered → IsReached task kept new made
       step-reached made tried is room says same =
-          record {
-            earlier = step-earlier made is;
-            traced = step-trace made is;
-            found = λ moves traced. step-found made tried moves is room says same traced;
-          }
+          let t = subst (IsTriedAt task there_stands.0) same (says there_stands.0 st.stands) in
+          subst (λ (l : List NodeKey). IsReached task kept l made) (sym fresh.1)
+          (subst (λ (l : List Origin). IsReached task kept (keys ++ there ∷ []) l) (sym is)
+          (going-found task kept once keys origins picker picked next steps is_all i s st.t st.m st.at_m st.step_is there st.stands fresh.0
+          room t))
 
       -- there are fewer origins than numbers of 32 bits
-      pub step-origins : (made : List Origin) → made ≡ origins ++ origin ∷ [] → length made ≤ task.problem.nodes
+      pub step-origins : (made : List Origin) → made ≡ origins ++ origin ∷ [] → length made ≤ task.nodes
       step-origins made is = omega (arith, step-few, st.t.going.numbered.one_more, ap length is, length-append origins (origin ∷ []))
 
-      pub step-limit : (tried : Tried) (formula : List Atom) (shapes : List (List Tick)) → length keys < task.problem.nodes
+      pub step-limit : (made : List Origin) (tried : Tried) (formula : List Atom) (shapes : List (List Tick))
+          → made ≡ origins ++ origin ∷ [] → length keys < task.nodes
           → ((node : Node) → IsKeyOf kept there node → IsTriedAt task node tried) → tried ≡ Limited formula shapes
-          → IsShapeLimit task task.problem.weight there_stands.0 formula shapes
-      step-limit tried formula shapes room says same =
+          → IsLimitedAt task kept new made (record { key = there; formula = formula; shapes = shapes })
+      step-limit made tried formula shapes is room says same =
           let t = subst (IsTriedAt task there_stands.0) same (says there_stands.0 st.stands) in
-          going-limit task kept once keys origins picker picked next steps is_all i s st.t st.m st.at_m st.step_is there st.stands fresh.0
-          formula shapes room t
+          let limit : Limit = record { key = there; formula = formula; shapes = shapes } in
+          subst (λ (l : List NodeKey). IsLimitedAt task kept l made limit) (sym fresh.1)
+          (subst (λ (l : List Origin). IsLimitedAt task kept (keys ++ there ∷ []) l limit) (sym is)
+          (going-limit task kept once keys origins picker picked next steps is_all i s st.t st.m st.at_m st.step_is there st.stands fresh.0
+          formula shapes room t))
 
-      pub step-full : (made : List Origin) (count : ℕ) → made ≡ origins ++ origin ∷ [] → task.problem.nodes ≤ length keys
+      pub step-full : (made : List Origin) (count : ℕ) → made ≡ origins ++ origin ∷ [] → task.nodes ≤ length keys
           → ((moves : List Move) × (count ≡ length moves)
           × ((found : List (List Move)) → Trace kept made found → slice_get found (length made) ≡ Some moves))
-          → IsFull task kept new count
-      step-full made count is enough (moves, count_is, traced) = record {
-        count = step-count enough;
-        stand = step-stand;
-        limit = λ all stand.
-            let here : AllStand kept (keys ++ there ∷ []) all = subst (λ (l : List NodeKey). AllStand kept l all) fresh.1 stand in
-            subst (λ (n : ℕ). IsNodeLimit task task.problem.weight (take task.problem.nodes all) n) (sym count_is)
-            (going-full task kept once keys origins picker picked next steps is_all i s st.t st.m st.at_m st.step_is there st.stands fresh.0
-            (take task.problem.nodes all) moves enough
-            (λ nodes others. ap (λ (l : List Node). take task.problem.nodes l) (one_list kept (keys ++ there ∷ []) all nodes here others))
-            (subst (λ (l : List Origin). (found : List (List Move)) → Trace kept l found → slice_get found (length l) ≡ Some moves) is
-            traced));
-      }
+          → IsFull task kept new made count
+      step-full made count is enough traced =
+          subst (λ (l : List NodeKey). IsFull task kept l made count) (sym fresh.1)
+          (subst (λ (l : List Origin). IsFull task kept (keys ++ there ∷ []) l count) (sym is)
+          (going-full task kept once keys origins picker picked next steps is_all i s st.t st.m st.at_m st.step_is there st.stands fresh.0
+          count enough
+          (subst (λ (l : List Origin). (moves : List Move) × (count ≡ length moves)
+          × ((found : List (List Move)) → Trace kept l found → slice_get found (length l) ≡ Some moves)) is traced)))
+
+  -- ---- the end
+
+  -- the last of the found lists is the one that is traced
+  pub reached-moves : (kept : Kept) (keys : List NodeKey) (origins : List Origin) (moves : List Move) → IsReached task kept keys origins
+      → ((found : List (List Move)) → Trace kept origins found → slice_get found (length origins) ≡ Some moves)
+      → IsFound task task.problem.weight moves
+  reached-moves kept keys origins moves (found, are, (last, end, is)) traced =
+      let number : length end.earlier ≡ length origins =
+      omega (
+        arith,
+        counted task kept keys origins found are.numbered,
+        are.numbered.one_more,
+        ap length is,
+        length-append end.earlier
+            (last ∷ []),
+      ) in
+      let at_last : slice_get found (length origins) ≡ Some last =
+      subst (λ (n : ℕ). slice_get found n ≡ Some last) number
+      (subst (λ (l : List (List Move)). slice_get l (length end.earlier) ≡ Some last) (sym is) (at_end end.earlier last)) in
+      subst (IsFound task task.problem.weight)
+      (some-one last moves (sym at_last ∙ traced found are.numbered.trace)) end
+
+  module _ (kept : Kept) (keys : List NodeKey) (origins : List Origin) (moves : ℕ) (full : IsFull task kept keys origins moves) where
+    abbrev all_lists : List (List Move)
+    all_lists = full.found ++ full.end.last ∷ []
+
+    pub full-count : task.nodes ≤ length keys
+    full-count =
+        omega (
+          arith,
+          full.end.full,
+          counted task kept keys origins all_lists full.are.numbered,
+          length-append full.found (full.end.last ∷ []),
+        )
+
+    pub full-stand : (nodes : List Node) × AllStand kept keys nodes
+    full-stand = (map (node_of task) all_lists, full.are.numbered.stand)
+
+    pub full-limit : (nodes : List Node) → AllStand kept keys nodes
+        → IsNodeLimit task task.problem.weight (take task.nodes nodes) moves
+    full-limit nodes stand = record {
+      earlier = full.found;
+      limit = full.end;
+      nodes_are =
+          ap (λ (l : List Node). take task.nodes l)
+          (one_list kept keys nodes (map (node_of task) all_lists) stand full.are.numbered.stand
+          ∙ map-append (node_of task) full.found (full.end.last ∷ []))
+          ∙ take_front (map (node_of task) full.found) (node_of task full.end.last) task.nodes
+          (sym full.end.full ∙ sym (length-map full.found (node_of task)));
+    }
 
   pub node-done : (kept : Kept) (keys : List NodeKey) (origins : List Origin) (picker : Picker) (picked : List ℕ) (next : ℕ)
       (steps : List Step) (is_all : Bool) (i : ℕ) → Trying task kept keys origins picker picked next steps is_all i → length steps ≤ i

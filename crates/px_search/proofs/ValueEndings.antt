@@ -1,9 +1,7 @@
 -- What a search knows gives each end, by whatever weight.
-use Rattle.std.proofs.Common.{◌≡◌, ℕ, suc, ◌<◌, ◌⊎◌, List, [], ◌∷◌, ◌++◌, map, length, refl, sym, ◌∙◌, ap, subst, inl, inr, arith, Some, slice_get, Contains, length-append}
+use Rattle.std.proofs.Common.{◌≡◌, ℕ, suc, ◌<◌, ◌⊎◌, List, [], ◌∷◌, ◌++◌, length, refl, sym, ◌∙◌, ap, subst, inl, inr, arith, Some, slice_get, Contains, length-append}
 use Rattle.std.proofs.lemmas.List.Elements.{Contains-push_cases}
 use Rattle.px_base.specs.ListLaws.{Contains-cases}
-use Rattle.px_terms.specs.declared.atom.Atom.{Atom}
-use Rattle.px_proof.specs.declared.shape.Tick.{Tick}
 use Rattle.px_table.specs.declared.entry.Move.{Move}
 use Rattle.px_gaps.specs.Questions.{Question, MeetsLimit}
 use Rattle.px_order.proofs.LawProofs.{asked_by_run}
@@ -13,16 +11,18 @@ use Rattle.px_order.specs.RunLaws.{behind}
 use Rattle.px_order.specs.Runs.{Comes, IsNew, IsNext, IsOver}
 use Rattle.px_order.specs.Spaces.{IsLinear}
 use Rattle.px_ends.proofs.MoveLaws.{move_cmp-total, move_cmp-same}
-use Rattle.px_ends.specs.ByValue.{aim_of, space_of, IsExhausted, IsFound, IsNodeLimit, IsShapeLimit}
+use Rattle.px_ends.specs.ByValue.{aim_of, space_of}
 use Rattle.px_ends.specs.Ends.{node_of}
 use Rattle.px_ends.specs.Tasks.{Task, IsSolved, AsksAt, goal_question}
+use Rattle.px_tree.specs.declared.nodes.TreeEnd.TheVariants.{Solved, Exhausted, More}
 use Rattle.px_search.specs.Searching.{IsBelowLimit, IsBetween, Searching, order_of}
+use Rattle.px_ends.specs.Trees.{EndsTree}
 
 module _ (task : Task) where
   abbrev weight : ℕ
   weight = task.problem.weight
 
-  linear : IsLinear (order_of task)
+  pub linear : IsLinear (order_of task)
   linear = record { total = move_cmp-total; identical = move_cmp-same }
 
   abbrev pub goal_there : List Move → Question
@@ -32,43 +32,21 @@ module _ (task : Task) where
   abbrev pub AsksBelowLimit : List Move → Type 0
   AsksBelowLimit moves = (q : Question) → AsksAt task (node_of task moves) q → IsBelowLimit task q
 
-  -- ---- a question of the place that was picked last meets the limit
-
-  pub ends_limited : (found : List (List Move)) (place : ℕ) (picked asked : List ℕ) → Searching task found (place ∷ picked) asked
-      → (p : List Move) (q : Question) (formula : List Atom) (shapes : List (List Tick)) → slice_get found place ≡ Some p
-      → AsksAt task (node_of task p) q → MeetsLimit task.problem q formula shapes
-      → IsShapeLimit task weight (node_of task p) formula shapes
-  ends_limited found place picked asked s p q formula shapes at asks met = record {
-    moves = p;
-    question = q;
-    node_is = refl;
-    asked = inl (
-      record {
-        found = found;
-        place = place;
-        picked = picked;
-        comes = s.known;
-        stands = at;
-        unsolved = s.unsolved;
-        room = s.room;
-      },
-      asks,
-    );
-    met = met;
-  }
-
   -- ---- no place is left
 
   pub ends_over : (found : List (List Move)) (picked : List ℕ) → IsBetween task found picked
-      → ((k : ℕ) (moves : List Move) → slice_get found k ≡ Some moves → Contains picked k) → IsExhausted task weight
-  ends_over found picked b all = record {
-    unlimited = unlimited;
-    lists = found;
-    picked = picked;
-    over = over;
-    unsolved = b.searching.unsolved;
-    room = b.searching.room;
-  }
+      → ((k : ℕ) (moves : List Move) → slice_get found k ≡ Some moves → Contains picked k) → EndsTree task weight found Exhausted
+  ends_over found picked b all = (
+    record {
+      unlimited = unlimited;
+      lists = found;
+      picked = picked;
+      over = over;
+      unsolved = b.searching.unsolved;
+      room = b.searching.room;
+    },
+    refl,
+  )
     where
       over : IsOver (space_of task) (order_of task) found picked
       over = record { comes = b.searching.known; done = b.done; all = all }
@@ -105,7 +83,7 @@ module _ (task : Task) where
     abbrev new_moves : List Move
     new_moves = p ++ m ∷ []
 
-    comes : Comes (space_of task) (order_of task) (found ++ new_moves ∷ []) (place ∷ picked)
+    abbrev pub comes : Comes (space_of task) (order_of task) (found ++ new_moves ∷ []) (place ∷ picked)
     comes = (
       suc s.known.0,
       (
@@ -139,7 +117,7 @@ module _ (task : Task) where
     ]
 
     -- it isn't solved, and there is room for it
-    pub searching_found : length found < task.problem.nodes → (¬ IsSolved task (node_of task new_moves))
+    pub searching_found : length found < task.nodes → (¬ IsSolved task (node_of task new_moves))
         → ((node_of task new_moves).stack ≡ [] → IsBelowLimit task (goal_there new_moves))
         → Searching task (found ++ new_moves ∷ []) (place ∷ picked) picked
     searching_found room unsolved tested = record {
@@ -161,13 +139,13 @@ module _ (task : Task) where
         later : (k : ℕ) → Contains picked k → Contains (place ∷ picked) k
         later k has = (suc has.0, omega (arith, has.1), has.2)
 
-    abbrev stop : IsSolved task (node_of task new_moves) ⊎ (length found ≡ task.problem.nodes)
+    abbrev stop : IsSolved task (node_of task new_moves) ⊎ (length found ≡ task.nodes)
         → order_ends.IsStop (space_of task) (order_of task) (aim_of task) found new_moves
     stop stops = record { begins = (place ∷ picked, comes); unsolved = s.unsolved; room = s.room; stops = stops }
 
     -- what is asked before a stop there doesn't meet the limit
-    module _ (stops : IsSolved task (node_of task new_moves) ⊎ (length found ≡ task.problem.nodes)) (here : AsksBelowLimit p)
-        (goal : length found < task.problem.nodes → IsBelowLimit task (goal_there new_moves)) where
+    module _ (stops : IsSolved task (node_of task new_moves) ⊎ (length found ≡ task.nodes)) (here : AsksBelowLimit p)
+        (goal : length found < task.nodes → IsBelowLimit task (goal_there new_moves)) where
       gone_below : (k : ℕ) (moves : List Move) → Contains (place ∷ picked) k → slice_get found k ≡ Some moves → AsksBelowLimit moves
       gone_below k moves has at_k q asks = elim (Contains-cases place picked k has) [
         | inl e ↦
@@ -176,7 +154,7 @@ module _ (task : Task) where
         | inr earlier ↦ s.gone_through k moves q earlier at_k asks
       ]
 
-      unlimited_there : order_ends.IsUnlimited (space_of task) (order_of task) (aim_of task)
+      pub unlimited_there : order_ends.IsUnlimited (space_of task) (order_of task) (aim_of task)
       unlimited_there moves q (inl (gone, asks)) met =
           let r =
           (asked_by_run (space_of task) (aim_of task)).gone_through (order_of task) linear found new_moves (stop stops) moves gone in
@@ -193,33 +171,19 @@ module _ (task : Task) where
           contains : (k : ℕ) (x : List Move) → slice_get found k ≡ Some x → Contains found x
           contains k x e = contains_place found k x e
 
-    pub ends_found : length found < task.problem.nodes → IsSolved task (node_of task new_moves) → AsksBelowLimit p
-        → IsBelowLimit task (goal_there new_moves) → IsFound task weight new_moves
-    ends_found room solved here goal =
-        record { unlimited = unlimited_there (inl solved) here (λ _. goal); earlier = found; stop = stop (inl solved); room = room }
+    pub ends_found : length found < task.nodes → IsSolved task (node_of task new_moves) → AsksBelowLimit p
+        → IsBelowLimit task (goal_there new_moves) → EndsTree task weight (found ++ new_moves ∷ []) Solved
+    ends_found room solved here goal = (
+      new_moves,
+      record { unlimited = unlimited_there (inl solved) here (λ _. goal); earlier = found; stop = stop (inl solved); room = room },
+      refl,
+    )
 
-    pub ends_full : length found ≡ task.problem.nodes → AsksBelowLimit p
-        → IsNodeLimit task weight (map (node_of task) found) (length new_moves)
+    abbrev pub ends_full : length found ≡ task.nodes → AsksBelowLimit p → EndsTree task weight found (More (length new_moves))
     ends_full full here = record {
-      earlier = found;
-      limit = record {
-        unlimited = unlimited_there (inr full) here (λ room. absurd (omega (arith, room, full)));
-        last = new_moves;
-        stop = stop (inr full);
-        full = full;
-        moves_are = refl;
-      };
-      nodes_are = refl;
-    }
-
-    -- trying the goal there meets the limit
-    pub ends_limited_there : length found < task.problem.nodes → (node_of task new_moves).stack ≡ []
-        → (formula : List Atom) (shapes : List (List Tick)) → MeetsLimit task.problem (goal_there new_moves) formula shapes
-        → IsShapeLimit task weight (node_of task new_moves) formula shapes
-    ends_limited_there room empty formula shapes met = record {
-      moves = new_moves;
-      question = goal_there new_moves;
-      node_is = refl;
-      asked = inr (record { earlier = found; begins = (place ∷ picked, comes); unsolved = s.unsolved; room = room }, (empty, refl));
-      met = met;
+      unlimited = unlimited_there (inr full) here (λ room. absurd (omega (arith, room, full)));
+      last = new_moves;
+      stop = stop (inr full);
+      full = full;
+      moves_are = refl;
     }

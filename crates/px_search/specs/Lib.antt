@@ -10,3 +10,4 @@ pub mod Searching
 pub mod Steps
 pub mod Picking
 pub mod Planned
+pub mod WorkedTrees

@@ -1,28 +1,32 @@
 -- What a search keeps at each turn, and what it answers.
-use Rattle.std.specs.Prelude.{◌≡◌, ◌+◌, ◌≤◌, ℕ, Bool, List, [], ◌∷◌, None, Some, length, map, take, slice_get}
+use Rattle.std.specs.Prelude.{◌≡◌, ◌+◌, ◌++◌, ℕ, Bool, List, [], ◌∷◌, None, Some, length, map, take, slice_get}
 use Rattle.px_table.specs.declared.entry.Move.{Move}
-use Rattle.px_table.specs.declared.node.Node.{Node}
 use Rattle.px_numbers.specs.declared.nodes.NodeKey.{NodeKey}
-use Rattle.px_numbers.specs.Numbers.{Kept, AllStand}
-use Rattle.px_ends.specs.ByValue.{IsFound, IsExhausted, IsNodeLimit, IsShapeLimit}
+use Rattle.px_numbers.specs.Numbers.{Kept, AllStand, IsKeyOf}
+use Rattle.px_ends.specs.ByValue.{IsFound, IsExhausted, IsNodeLimit, IsShapeLimit, space_of}
 use Rattle.px_ends.specs.Ends.{node_of}
-use Rattle.px_ends.specs.Tasks.{Task}
+use Rattle.px_ends.specs.Tasks.{Task, initial_node}
+use Rattle.px_order.specs.Runs.{Begins, IsNext}
+use Rattle.px_tree.specs.declared.nodes.TreeEnd.{TreeEnd}
+use Rattle.px_tree.specs.declared.nodes.TreeEnd.TheVariants as tree_end
 use Rattle.px_search.specs.declared.best_first.Explored.{Explored}
 use Rattle.px_search.specs.declared.ends.SearchErr.{SearchErr}
 use Rattle.px_search.specs.declared.ends.SearchErr.TheVariants.{Exhausted, NodeLimit, ShapeLimit, NoMemory}
 use Rattle.px_search.specs.declared.picker.Picker.{Picker}
 use Rattle.px_search.specs.declared.progress.SearchOutcome.{SearchOutcome}
 use Rattle.px_search.specs.declared.progress.SearchOutcome.TheVariants.{Plan, NoPlan, NoRoom}
+use Rattle.px_search.specs.declared.progress.Limit.{Limit}
 use Rattle.px_search.specs.declared.progress.Progress.{Progress}
-use Rattle.px_search.specs.declared.progress.Progress.TheVariants.{Unsolved, Solved, Full}
+use Rattle.px_search.specs.declared.progress.Progress.TheVariants.{Unsolved, Solved, Full, Limited}
 use Rattle.px_search.specs.declared.step.Origin.{Origin}
 use Rattle.px_search.specs.declared.step.Step.{Step}
 use Rattle.px_search.specs.Going.{IsBegunOn}
 use Rattle.px_search.specs.Notes.{AreRight}
 use Rattle.px_search.specs.Picking.{IsFirstPicker, IsPickerOf}
 use Rattle.px_search.specs.Scenes.{IsScene}
-use Rattle.px_search.specs.Searching.{IsBetween, IsMaking}
+use Rattle.px_search.specs.Searching.{IsBetween, IsMaking, order_of}
 use Rattle.px_search.specs.Steps.{AreEarlier, Trace}
+use Rattle.px_ends.specs.Trees.{EndsTree, IsFirstLimit}
 
 -- the pairs are the nodes of the found lists, in order, and each but the first comes from one before it
 pub record AreNumbered (task : Task) (kept : Kept) (keys : List NodeKey) (origins : List Origin) (found : List (List Move)) : Type 0 where
@@ -38,6 +42,15 @@ pub record Between (task : Task) (kept : Kept) (keys : List NodeKey) (origins : 
   pub between : IsBetween task found picked
   pub numbered : AreNumbered task kept keys origins found
   pub picking : IsPickerOf task kept found picked picker
+
+-- the place `next` was picked just now, after these places
+pub record AtPick (task : Task) (kept : Kept) (keys : List NodeKey) (origins : List Origin) (picker : Picker) (picked : List ℕ) (next : ℕ)
+    : Type 0 where
+  pub found : List (List Move)
+  pub between : IsBetween task found picked
+  pub is_next : IsNext (space_of task) (order_of task) found picked next
+  pub numbered : AreNumbered task kept keys origins found
+  pub picking : IsPickerOf task kept found (next ∷ picked) picker
 
 -- the place `next` was picked after these places, and these moves from it were made
 pub record Going (task : Task) (kept : Kept) (keys : List NodeKey) (origins : List Origin) (picker : Picker) (picked : List ℕ) (next : ℕ)
@@ -62,25 +75,47 @@ IsEnd task (NodeLimit nodes moves) = IsNodeLimit task task.problem.weight nodes 
 IsEnd task (ShapeLimit node formula shapes) = IsShapeLimit task task.problem.weight node formula shapes
 IsEnd task NoMemory = Unit {0}
 
+-- these are the lists that a search has found, and the pairs are their nodes
+pub record AreFoundBy (task : Task) (kept : Kept) (keys : List NodeKey) (origins : List Origin) (found : List (List Move)) : Type 0 where
+  pub begins : Begins (space_of task) (order_of task) found
+  pub numbered : AreNumbered task kept keys origins found
+
 -- the last of the nodes is the first solved one
-pub record IsReached (task : Task) (kept : Kept) (origins : List Origin) : Type 0 where
-  pub earlier : AreEarlier origins
-  pub traced : (found : List (List Move)) × Trace kept origins found
-  pub found : (moves : List Move) → ((found : List (List Move)) → Trace kept origins found → slice_get found (length origins) ≡ Some moves)
-      → IsFound task task.problem.weight moves
+abbrev pub IsReached : Task → Kept → List NodeKey → List Origin → Type 0
+IsReached task kept keys origins =
+    (found : List (List Move)) × AreFoundBy task kept keys origins found × EndsTree task task.problem.weight found tree_end.Solved
+
+-- no node is left, and none is solved
+abbrev pub IsSpent : Task → Kept → List NodeKey → List Origin → Type 0
+IsSpent task kept keys origins =
+    (found : List (List Move)) × AreFoundBy task kept keys origins found × EndsTree task task.problem.weight found tree_end.Exhausted
 
 -- There is no room for the last of the nodes, which this number of moves reaches: the ones before it are those of the limit.
-pub record IsFull (task : Task) (kept : Kept) (keys : List NodeKey) (moves : ℕ) : Type 0 where
-  pub count : task.problem.nodes ≤ length keys
-  pub stand : (nodes : List Node) × AllStand kept keys nodes
-  pub limit : (nodes : List Node) → AllStand kept keys nodes
-      → IsNodeLimit task task.problem.weight (take task.problem.nodes nodes) moves
+pub record IsFull (task : Task) (kept : Kept) (keys : List NodeKey) (origins : List Origin) (moves : ℕ) : Type 0 where
+  pub found : List (List Move)
+  pub end : EndsTree task task.problem.weight found (tree_end.More moves)
+  pub are : AreFoundBy task kept keys origins (found ++ end.last ∷ [])
+
+-- a question that is asked at the node of the pair is the first that meets the limit
+pub record IsLimitedAt (task : Task) (kept : Kept) (keys : List NodeKey) (origins : List Origin) (limit : Limit) : Type 0 where
+  pub found : List (List Move)
+  pub are : AreFoundBy task kept keys origins found
+  pub first : IsFirstLimit task task.problem.weight found limit.formula limit.shapes
+  pub stands : IsKeyOf kept limit.key (node_of task first.moves)
 
 -- what moves came to, where `goes` is what is known if none of the nodes is solved
 abbrev pub IsProgress : Task → Kept → List NodeKey → List Origin → Type 0 → Progress → Type 0
 IsProgress task kept keys origins goes Unsolved = goes
-IsProgress task kept keys origins goes Solved = IsReached task kept origins
-IsProgress task kept keys origins goes (Full moves) = IsFull task kept keys moves
+IsProgress task kept keys origins goes Solved = IsReached task kept keys origins
+IsProgress task kept keys origins goes (Full moves) = IsFull task kept keys origins moves
+IsProgress task kept keys origins goes (Limited limit) = IsLimitedAt task kept keys origins limit
+
+-- how the tree of a search ends that came to this, where so many shapes are the limit
+abbrev pub end_told : ℕ → Progress → TreeEnd
+end_told shapes Unsolved = tree_end.Exhausted
+end_told shapes Solved = tree_end.Solved
+end_told shapes (Full moves) = tree_end.More moves
+end_told shapes (Limited limit) = tree_end.ShapeLimit shapes
 
 -- ---- of all that is found and kept
 
@@ -94,10 +129,10 @@ abbrev pub GoesOn : Task → Explored → List ℕ → Type 0
 GoesOn task explored picked =
     Between task explored.notes.numbers explored.nodes explored.origins.items explored.picker picked
 
--- the place `next` was picked after these places
+-- the place `next` was picked just now, after these places
 abbrev pub Picked : Task → Explored → List ℕ → ℕ → Type 0
 Picked task explored picked next =
-    Going task explored.notes.numbers explored.nodes explored.origins.items explored.picker picked next []
+    AtPick task explored.notes.numbers explored.nodes explored.origins.items explored.picker picked next
 
 -- the place `next` was picked after these places, and the first `i` of these steps from its node were made
 abbrev pub TriesAt : Task → Explored → List ℕ → ℕ → List Step → Bool → ℕ → Type 0
@@ -107,6 +142,21 @@ TriesAt task explored picked next steps is_all i =
 -- what moves came to, where `goes` is what is known if none of the nodes is solved
 abbrev pub ComesTo : Task → Explored → Type 0 → Progress → Type 0
 ComesTo task explored goes progress = IsProgress task explored.notes.numbers explored.nodes explored.origins.items goes progress
+
+-- these are the lists that the search has found
+abbrev pub AreFound : Task → Explored → List (List Move) → Type 0
+AreFound task explored found = AreFoundBy task explored.notes.numbers explored.nodes explored.origins.items found
+
+-- no node is left, and none is solved
+abbrev pub IsGone : Task → Explored → Type 0
+IsGone task explored = IsSpent task explored.notes.numbers explored.nodes explored.origins.items
+
+-- the pair is the initial node, which alone is found
+pub record IsStarted (task : Task) (explored : Explored) (key : NodeKey) : Type 0 where
+  pub stands : IsKeyOf explored.notes.numbers key (initial_node task)
+  pub nodes : explored.nodes ≡ key ∷ []
+  pub origins : explored.origins.items ≡ []
+  pub picker : IsFirstPicker task explored.picker
 
 -- nothing is found yet, and what is kept is right
 pub record IsUnexplored (task : Task) (explored : Explored) : Type 0 where
@@ -120,4 +170,4 @@ pub record IsUnexplored (task : Task) (explored : Explored) : Type 0 where
 abbrev pub ComesToEnd : Task → Explored → SearchOutcome → Type 0
 ComesToEnd task explored (Plan path) = IsFound task task.problem.weight path
 ComesToEnd task explored NoPlan = IsExhausted task task.problem.weight
-ComesToEnd task explored (NoRoom moves) = IsFull task explored.notes.numbers explored.nodes moves
+ComesToEnd task explored (NoRoom moves) = IsFull task explored.notes.numbers explored.nodes explored.origins.items moves

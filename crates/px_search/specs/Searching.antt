@@ -23,7 +23,7 @@ IsBelowLimit task question = (formula : List Atom) (shapes : List (List Tick)) �
 -- whether a found node is solved, and none of the nodes at the places `asked`.
 pub record Searching (task : Task) (found : List (List Move)) (picked asked : List ℕ) : Type 0 where
   pub known : Comes (space_of task) (order_of task) found picked
-  pub room : length found ≤ task.problem.nodes
+  pub room : length found ≤ task.nodes
   pub unsolved : NoneSolved task found
   pub tested : (moves : List Move) → Contains found moves → (node_of task moves).stack ≡ []
       → IsBelowLimit task (goal_question task (node_of task moves))

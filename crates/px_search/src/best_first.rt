@@ -5,11 +5,11 @@ ghost use Rattle.px_table.specs.declared.entry.Move.{Move};
 ghost use Rattle.px_table.specs.declared.node.Node.{Node};
 ghost use Rattle.px_entries.specs.Unlimited.{IsNeverLimited};
 ghost use Rattle.px_numbers.specs.Numbers.{IsKeyOf, KeepsAll};
-ghost use Rattle.px_ends.specs.ByValue.{IsExhausted, IsFound, IsShapeLimit};
+ghost use Rattle.px_ends.specs.ByValue.{IsFound, IsShapeLimit};
 ghost use Rattle.px_ends.specs.Tasks.{Task, initial_node};
 ghost use Rattle.px_support.specs.Asking.{IsAskable, task_for};
 ghost use Rattle.px_search.specs.Asking.{IsTriedAt};
-ghost use Rattle.px_search.specs.Looping.{ComesTo, ComesToEnd, GoesOn, IsEnd, IsExploring, IsFull, IsUnexplored, Picked, TriesAt};
+ghost use Rattle.px_search.specs.Looping.{ComesTo, ComesToEnd, GoesOn, IsEnd, IsExploring, IsFull, IsGone, IsStarted, IsUnexplored, Picked, TriesAt};
 ghost use Rattle.px_search.specs.Steps.{AreEarlier, Trace};
 ghost use Rattle.px_search.specs.declared.step.Step.{Step};
 
@@ -17,30 +17,29 @@ use crate::ends::SearchErr;
 use crate::notes::Notes;
 use crate::origins::moves_to;
 use crate::picker::Picker;
-use crate::progress::{Progress, SearchOutcome};
+use crate::progress::{Limit, Progress, SearchOutcome};
 use crate::scene::Scene;
 use crate::step::{Origin, Step};
 use crate::tried::try_node;
 use px_gaps::{AskErr, Tried};
 use px_numbers::{FirstNodes, NodeKey, NodeSet, Numbers, node_at};
-use px_proof::Shape;
 use px_support::Asked;
 use px_table::Move;
-use px_terms::{Atom, NoMemory, Sequence};
+use px_terms::{NoMemory, Sequence};
 use std::alloc::Global;
 
-/// Returns the end at a node where a question meets the limit.
-fn limit_at(
-    asked: &Asked,
-    numbers: &Numbers,
-    key: NodeKey,
-    formula: Sequence<Atom>,
-    shapes: Sequence<Shape>,
-) -> SearchErr
-    requires { (node : Node) × IsKeyOf numbers.now key node }
-    ensures { (node : Node) → IsKeyOf numbers.now key node
-        → IsShapeLimit (task_for asked.now) asked.now.problem.now.weight node formula shapes → IsEnd (task_for asked.now) result }
+/// Returns the end where a question meets the limit.
+fn limit_at(asked: &Asked, numbers: &Numbers, limit: Limit) -> SearchErr
+    requires { (node : Node) × IsKeyOf numbers.now limit.key node }
+    ensures { (node : Node) → IsKeyOf numbers.now limit.key node
+        → IsShapeLimit (task_for asked.now) asked.now.problem.now.weight node limit.formula limit.shapes
+        → IsEnd (task_for asked.now) result }
 {
+    let Limit {
+        key,
+        formula,
+        shapes,
+    } = limit;
     match node_at(asked.alloc, numbers, key) {
         Ok(node) => SearchErr::ShapeLimit {
             node,
@@ -113,7 +112,7 @@ pub struct Explored {
 
 impl Explored {
     /// Makes the move from the node at the place `next`, and keeps the node that it leads to, if that is new.
-    fn make_move(&mut self, asked: &Asked, next: usize, step: Step) -> Result<Progress, SearchErr>
+    fn make_move(&mut self, asked: &Asked, next: usize, step: Step) -> Result<Progress, NoMemory>
         requires asked { IsAskable asked.now }
         requires explored { IsExploring (task_for asked.now) self.old }
         requires trying { (picked : List ℕ) × (steps : List Step) × (is_all : Bool) × (i : ℕ)
@@ -123,7 +122,6 @@ impl Explored {
             ((picked : List ℕ) (steps : List Step) (is_all : Bool) (i : ℕ)
             → TriesAt (task_for asked.now) self.old picked next steps is_all i
             → slice_get steps i ≡ Some step → TriesAt (task_for asked.now) self.new picked next steps is_all (i + 1))) }
-        ensures ends { IfErr result (IsEnd (task_for asked.now)) }
     {
         let key = self.nodes.node(next);
         let there = self.notes.after(asked, key, step)?;
@@ -138,7 +136,7 @@ impl Explored {
             last: step,
         };
         self.origins.push(origin)?;
-        if count >= asked.problem.nodes as usize {
+        if count >= asked.nodes as usize {
             let moves = count_to(asked.alloc, &self.notes.numbers, &self.origins)?;
             return Ok(Progress::Full { moves });
         }
@@ -150,21 +148,23 @@ impl Explored {
                     .go_on(asked, &self.notes.numbers, origin, there)?;
                 Ok(Progress::Unsolved)
             }
-            Tried::Limited { formula, shapes } => {
-                Err(limit_at(asked, &self.notes.numbers, there, formula, shapes))
-            }
+            Tried::Limited { formula, shapes } => Ok(Progress::Limited(Limit {
+                key: there,
+                formula,
+                shapes,
+            })),
         }
     }
 
-    /// Makes the moves from the node at the place `next`, from the one at the place `from` on, or those up to the first that leads to a
-    /// solved node or to one without room.
+    /// Makes the moves from the node at the place `next`, from the one at the place `from` on, or those up to the first that ends the
+    /// search: it leads to a solved node, to one without room, or to one where the question of the goal meets the limit of shapes.
     fn make_all(
         &mut self,
         asked: &Asked,
         next: usize,
         steps: &Vec<Step>,
         from: usize,
-    ) -> Result<Progress, SearchErr>
+    ) -> Result<Progress, NoMemory>
         requires asked { IsAskable asked.now }
         requires explored { IsExploring (task_for asked.now) self.old }
         requires trying { (picked : List ℕ) × (is_all : Bool)
@@ -174,7 +174,6 @@ impl Explored {
         ensures made { IfOk result (ComesTo (task_for asked.now) self.new
             ((picked : List ℕ) (is_all : Bool) → TriesAt (task_for asked.now) self.old picked next steps.now.items is_all from
             → TriesAt (task_for asked.now) self.new picked next steps.now.items is_all (length steps.now.items))) }
-        ensures ends { IfErr result (IsEnd (task_for asked.now)) }
     {
         for turn in from..steps.len() {
             let step = step_at(steps, turn);
@@ -183,6 +182,7 @@ impl Explored {
                 Progress::Unsolved => {}
                 Progress::Solved => return Ok(Progress::Solved),
                 Progress::Full { moves } => return Ok(Progress::Full { moves }),
+                Progress::Limited(limit) => return Ok(Progress::Limited(limit)),
             }
         }
         Ok(Progress::Unsolved)
@@ -190,13 +190,8 @@ impl Explored {
 
     // Alike: the head of `top_steps` in moves.rt, by the number of arguments alone.
     /// Makes the moves from the node at the place `next` that come after the first ones, which are as many as `from` and were made, or
-    /// those up to the first that leads to a solved node or to one without room.
-    fn make_others(
-        &mut self,
-        asked: &Asked,
-        next: usize,
-        from: usize,
-    ) -> Result<Progress, SearchErr>
+    /// those up to the first that ends the search.
+    fn make_others(&mut self, asked: &Asked, next: usize, from: usize) -> Result<Progress, NoMemory>
         requires asked { IsAskable asked.now }
         requires explored { IsExploring (task_for asked.now) self.old }
         requires trying { (picked : List ℕ) × (steps : List Step) × (is_all : Bool) × (from ≡ length steps)
@@ -205,21 +200,20 @@ impl Explored {
         ensures gone { IfOk result (ComesTo (task_for asked.now) self.new ((picked : List ℕ) (steps : List Step) (is_all : Bool)
             → from ≡ length steps → TriesAt (task_for asked.now) self.old picked next steps is_all from
             → GoesOn (task_for asked.now) self.new (next ∷ picked))) }
-        ensures ends { IfErr result (IsEnd (task_for asked.now)) }
     {
         let key = self.nodes.node(next);
         let steps = match self.notes.all_steps_from(asked, key) {
             Ok(steps) => steps,
             Err(AskErr::ShapeLimit { .. }) => unreachable!(),
-            Err(AskErr::NoMemory) => return Err(SearchErr::NoMemory),
+            Err(AskErr::NoMemory) => return Err(NoMemory),
         };
         let progress = self.make_all(asked, next, &steps, from)?;
         Ok(progress)
     }
 
-    /// Makes all moves from the node at the place `next`, or those up to the first that leads to a solved node or to one without room.
-    /// The moves after the first ones are asked for only where none of these leads there.
-    fn go_through(&mut self, asked: &Asked, next: usize) -> Result<Progress, SearchErr>
+    /// Makes all moves from the node at the place `next`, or those up to the first that ends the search. None is made where a question
+    /// about them meets the limit of shapes. The moves after the first ones are asked for only where none of these ends the search.
+    fn go_through(&mut self, asked: &Asked, next: usize) -> Result<Progress, NoMemory>
         requires asked { IsAskable asked.now }
         requires explored { IsExploring (task_for asked.now) self.old }
         requires picked { (picked : List ℕ) × Picked (task_for asked.now) self.old picked next }
@@ -227,21 +221,25 @@ impl Explored {
         ensures explored { OnOk result (IsExploring (task_for asked.now) self.new) }
         ensures gone { IfOk result (ComesTo (task_for asked.now) self.new ((picked : List ℕ)
             → Picked (task_for asked.now) self.old picked next → GoesOn (task_for asked.now) self.new (next ∷ picked))) }
-        ensures ends { IfErr result (IsEnd (task_for asked.now)) }
     {
         let key = self.nodes.node(next);
         let begun = match self.notes.begun_from(asked, &mut self.scene, key) {
             Ok(begun) => begun,
             Err(AskErr::ShapeLimit { formula, shapes }) => {
-                return Err(limit_at(asked, &self.notes.numbers, key, formula, shapes));
+                return Ok(Progress::Limited(Limit {
+                    key,
+                    formula,
+                    shapes,
+                }));
             }
-            Err(AskErr::NoMemory) => return Err(SearchErr::NoMemory),
+            Err(AskErr::NoMemory) => return Err(NoMemory),
         };
         let progress = self.make_all(asked, next, &begun.steps, 0)?;
         match progress {
             Progress::Unsolved => {}
             Progress::Solved => return Ok(Progress::Solved),
             Progress::Full { moves } => return Ok(Progress::Full { moves }),
+            Progress::Limited(limit) => return Ok(Progress::Limited(limit)),
         }
         if begun.is_all {
             return Ok(Progress::Unsolved);
@@ -250,14 +248,12 @@ impl Explored {
         Ok(others)
     }
 
-    /// Goes through the nodes as they are picked, up to the first move that leads to a solved node or to one without room.
-    fn walk(&mut self, asked: &Asked) -> Result<Progress, SearchErr>
+    /// Goes through the nodes as they are picked, until the search ends.
+    fn walk(&mut self, asked: &Asked) -> Result<Progress, NoMemory>
         requires asked { IsAskable asked.now }
         requires explored { IsExploring (task_for asked.now) self.old }
         requires going { GoesOn (task_for asked.now) self.old [] }
-        ensures walked { IfOk result (ComesTo (task_for asked.now) self.new
-            (IsExhausted (task_for asked.now) asked.now.problem.now.weight)) }
-        ensures ends { IfErr result (IsEnd (task_for asked.now)) }
+        ensures walked { IfOk result (ComesTo (task_for asked.now) self.new (IsGone (task_for asked.now) self.new)) }
     {
         let mut picks: u32 = 0;
         while let Some(place) = self.picker.pick(self.nodes.count()) {
@@ -266,6 +262,7 @@ impl Explored {
                 Progress::Unsolved => {}
                 Progress::Solved => return Ok(Progress::Solved),
                 Progress::Full { moves } => return Ok(Progress::Full { moves }),
+                Progress::Limited(limit) => return Ok(Progress::Limited(limit)),
             }
             picks += 1;
         }
@@ -275,7 +272,7 @@ impl Explored {
 
 impl Explored {
     /// Returns the nodes of a search with this weight that has found nothing yet.
-    fn new(alloc: Global, weight: u32, is_never_limited: bool) -> Explored
+    pub fn new(alloc: Global, weight: u32, is_never_limited: bool) -> Explored
         ensures { (task : Task) → task.problem.weight ≡ weight
             → (IsTrue is_never_limited → IsNeverLimited task.problem task.tables) → IsUnexplored task result }
     {
@@ -293,25 +290,35 @@ impl Explored {
         }
     }
 
-    /// Searches from the start, which isn't solved.
-    fn search_from(&mut self, asked: &Asked, start: NodeKey) -> Result<SearchOutcome, SearchErr>
+    /// Goes through the nodes from the start on, which isn't solved.
+    fn walk_from(&mut self, asked: &Asked, start: NodeKey) -> Result<Progress, NoMemory>
+        requires asked { IsAskable asked.now }
+        requires explored { IsExploring (task_for asked.now) self.old }
+        requires start { IsStarted (task_for asked.now) self.old start }
+        requires tried { IsTriedAt (task_for asked.now) (initial_node (task_for asked.now)) Tried.Unanswered }
+        ensures walked { IfOk result (ComesTo (task_for asked.now) self.new (IsGone (task_for asked.now) self.new)) }
+    {
+        self.picker.start(asked, &self.notes.numbers, start)?;
+        self.walk(asked)
+    }
+
+    /// Goes through the nodes from the initial model on.
+    pub fn explore(&mut self, asked: &Asked) -> Result<Progress, NoMemory>
         requires asked { IsAskable asked.now }
         requires explored { IsUnexplored (task_for asked.now) self.old }
-        requires start { IsKeyOf self.old.notes.numbers start (initial_node (task_for asked.now)) }
-        requires tried { IsTriedAt (task_for asked.now) (initial_node (task_for asked.now)) Tried.Unanswered }
-        ensures outcome { IfOk result (ComesToEnd (task_for asked.now) self.new) }
-        ensures ends { IfErr result (IsEnd (task_for asked.now)) }
+        ensures outcome { IfOk result (ComesTo (task_for asked.now) self.new (IsGone (task_for asked.now) self.new)) }
     {
+        let start = start_key(asked, &mut self.notes.numbers)?;
         self.nodes.intern(start)?;
-        self.picker.start(asked, &self.notes.numbers, start)?;
-        let progress = self.walk(asked)?;
-        match progress {
-            Progress::Unsolved => Ok(SearchOutcome::NoPlan),
-            Progress::Solved => {
-                let path = path_to(asked.alloc, &self.notes.numbers, &self.origins)?;
-                Ok(SearchOutcome::Plan(path))
-            }
-            Progress::Full { moves } => Ok(SearchOutcome::NoRoom { moves }),
+        let tried = try_node(asked, &self.notes.numbers, start)?;
+        match tried {
+            Tried::Answered => Ok(Progress::Solved),
+            Tried::Unanswered => self.walk_from(asked, start),
+            Tried::Limited { formula, shapes } => Ok(Progress::Limited(Limit {
+                key: start,
+                formula,
+                shapes,
+            })),
         }
     }
 
@@ -322,29 +329,30 @@ impl Explored {
         ensures outcome { IfOk result (ComesToEnd (task_for asked.now) self.new) }
         ensures ends { IfErr result (IsEnd (task_for asked.now)) }
     {
-        let start = start_key(asked, &mut self.notes.numbers)?;
-        let tried = try_node(asked, &self.notes.numbers, start)?;
-        match tried {
-            Tried::Answered => Ok(SearchOutcome::Plan(Sequence::from_vec(Vec::new(asked.alloc)))),
-            Tried::Unanswered => self.search_from(asked, start),
-            Tried::Limited { formula, shapes } => {
-                Err(limit_at(asked, &self.notes.numbers, start, formula, shapes))
+        let progress = self.explore(asked)?;
+        match progress {
+            Progress::Unsolved => Ok(SearchOutcome::NoPlan),
+            Progress::Solved => {
+                let path = path_to(asked.alloc, &self.notes.numbers, &self.origins)?;
+                Ok(SearchOutcome::Plan(path))
             }
+            Progress::Full { moves } => Ok(SearchOutcome::NoRoom { moves }),
+            Progress::Limited(limit) => Err(limit_at(asked, &self.notes.numbers, limit)),
         }
     }
 }
 
 /// Drops what was found, in one place, since each way out of a function that holds it has to be proved.
-fn let_go(_explored: Explored) {}
+pub fn let_go(_explored: Explored) {}
 
 /// Returns the end where there is no room for the last node, which this number of moves reaches.
 fn node_limit(asked: &Asked, explored: Explored, moves: u32) -> SearchErr
-    requires full { IsFull (task_for asked.now) explored.notes.numbers explored.nodes moves }
+    requires full { IsFull (task_for asked.now) explored.notes.numbers explored.nodes explored.origins.items moves }
     ensures { IsEnd (task_for asked.now) result }
 {
     let Explored { notes, nodes, .. } = explored;
     let Notes { numbers, .. } = notes;
-    let firsts = FirstNodes::new(numbers, nodes, asked.problem.nodes as usize);
+    let firsts = FirstNodes::new(numbers, nodes, asked.nodes as usize);
     SearchErr::NodeLimit {
         nodes: firsts,
         moves,

@@ -17,6 +17,10 @@
 //!   is the answer, or memory ran out; and where a question that is asked meets the limit, the answer is some such question.
 //! - Which questions are asked is what the definition says (`IsAsked`): those of each node that is picked up to the one from which the
 //!   stop is reached, and the goal at each node with an empty stack that is found before the stop, and at the stop itself if there is room.
+//! - [`search_tree`] goes the same way, with room for as many nodes as it is told, and answers the tree (`IsTree` of
+//!   `px_ends/specs/Trees`): for each node that was found the place of the one that it comes from, the move between them and what the node lacks, and how the search ended.
+//!   Where a question meets the limit of shapes, these are the nodes that were found before the first such question. A search has one tree
+//!   ([`trees_are_one`]).
 //!
 //! # Inside
 //!
@@ -35,7 +39,8 @@
 //! of each node. What an entry lacks in a model is counted once (`estimates`, by `px_lacks`): a push adds one such number, and after an
 //! application those of the stack are summed in the new model.
 //!
-//! No public clause cites the files of `specs/`: they serve private functions alone.
+//! Of the files of `specs/` public clauses cite `WorkedTrees` alone, the trees of the smallest searches. The others serve private functions
+//! alone.
 #![tactic(auto)]
 
 mod after;
@@ -45,6 +50,7 @@ mod best_first;
 mod effects;
 mod ends;
 mod estimates;
+mod laws;
 mod merging;
 mod moves;
 mod notes;
@@ -57,7 +63,10 @@ mod progress;
 mod results;
 mod scene;
 mod step;
+mod trees;
 mod tried;
 
 pub use ends::{Found, SearchErr};
+pub use laws::{trees_are_one, worked_trees};
 pub use planning::search;
+pub use trees::search_tree;

@@ -77,7 +77,7 @@ impl Notes {
         requires scene { IsScene (task_for asked.now) self.old.numbers scene.old }
         requires node { IsAskedAt (task_for asked.now) self.old.numbers key }
         ensures notes { OnAnswer result (HaveGrown (task_for asked.now) self.old self.new) }
-        ensures scene { OnOk result (IsScene (task_for asked.now) self.new.numbers scene.new) }
+        ensures scene { OnAnswer result (IsScene (task_for asked.now) self.new.numbers scene.new) }
         ensures steps { IfOk result (BeginsAt (task_for asked.now) self.old.numbers self.new.numbers key) }
         ensures limited { IfLimit result (LimitsAt (task_for asked.now) self.old.numbers key) }
     {

@@ -21,7 +21,7 @@ use px_diff::{First, relevance_over_models, relevance_over_stacks, relevant, rel
 use px_gaps::AskErr;
 use px_ops::Model;
 use px_support::Asked;
-use px_terms::{Atom, NoMemory, Problem, Sequence};
+use px_terms::{Atom, NoMemory, Sequence};
 use std::alloc::Global;
 
 /// Returns a copy of what is kept.
@@ -42,9 +42,9 @@ const MOST_FIRST: u32 = 50_000;
 
 /// Returns how many first moves of a node are found before the others are asked for: as many as there may be room for, and no more than
 /// `MOST_FIRST`.
-fn enough_of(problem: &Problem) -> usize {
-    if problem.nodes < MOST_FIRST {
-        problem.nodes as usize
+fn enough_of(asked: &Asked) -> usize {
+    if asked.nodes < MOST_FIRST {
+        asked.nodes as usize
     } else {
         MOST_FIRST as usize
     }
@@ -78,7 +78,7 @@ impl Notes {
             []) }
     {
         if self.is_never_limited {
-            let enough = enough_of(asked.problem);
+            let enough = enough_of(asked);
             let first = relevant_first(
                 asked.alloc,
                 asked.problem,
@@ -183,7 +183,7 @@ impl Notes {
                 Ok(begun) => begun,
                 Err(error) => return Err(error),
             };
-            if !begun.is_all || steps.len() >= enough_of(asked.problem) {
+            if !begun.is_all || steps.len() >= enough_of(asked) {
                 return Ok(None);
             }
             steps = merged(asked.alloc, &self.numbers, &steps, &begun.steps)?;

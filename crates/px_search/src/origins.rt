@@ -21,7 +21,7 @@ fn move_of(numbers: &Numbers, step: &Step) -> Result<Move, NoMemory>
 }
 
 /// Returns the origin at the place.
-fn origin_at(origins: &[Origin], place: usize) -> Origin
+pub fn origin_at(origins: &[Origin], place: usize) -> Origin
     requires { place < length origins.now }
     ensures { slice_get origins.now place ≡ Some result }
 {

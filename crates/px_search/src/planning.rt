@@ -110,6 +110,7 @@ pub fn search(
     let asked = Asked {
         alloc,
         problem,
+        nodes: problem.nodes,
         tables,
         initial,
         goal,

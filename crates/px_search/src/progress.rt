@@ -1,10 +1,23 @@
 //! What making moves comes to, and what a search comes to.
 
+use px_numbers::NodeKey;
+use px_proof::Shape;
 use px_table::Move;
-use px_terms::Sequence;
+use px_terms::{Atom, Sequence};
+
+/// A question that meets the limit of shapes.
+#[derive(Drop)]
+pub struct Limit {
+    /// The node where it is asked.
+    pub key: NodeKey,
+    /// The formula at which the limit is met.
+    pub formula: Sequence<Atom>,
+    /// The first shapes, as many as the limit.
+    pub shapes: Sequence<Shape>,
+}
 
 /// What the moves that were made came to.
-#[derive(Clone, Copy)]
+#[derive(Drop)]
 pub enum Progress {
     /// No node is solved, and there is room for all that were found.
     Unsolved,
@@ -15,6 +28,8 @@ pub enum Progress {
         /// How many moves reach it.
         moves: u32,
     },
+    /// A question met the limit of shapes.
+    Limited(Limit),
 }
 
 /// What a search came to.

@@ -134,6 +134,7 @@ module _ (problem : Problem) (old : SessionState) (new : SessionState) (valid : 
   of-command (command.Run n bound) name bytes is = absurd is
   of-command (command.Duo first second numbers) name bytes is = absurd is
   of-command (command.Pursue n goal vars) name bytes is = absurd is
+  of-command (command.Tree n nodes goal vars) name bytes is = absurd is
   of-command command.Facts name bytes is = absurd is
 
   pub reply-accepted : (given : Command) (answer : Reply) → Lawful problem old given answer new → ReplyIsAccepted problem old answer

@@ -22,7 +22,7 @@ use Rattle.px_world.specs.declared.thing.Thing.{Thing}
 use Rattle.px_rooms.specs.States.{RoomState}
 use Rattle.px_session.specs.KeptSessions.{AreAddsToWant, AreEditsToNote, IsBindingToRun, IsKeptSession, IsRunnable}
 use Rattle.px_session.specs.Lawful.{Lawful, recorded_for}
-use Rattle.px_session.specs.Named.{IsTellable}
+use Rattle.px_session.specs.Named.{HasTableNames, IsTellable, TellsOfNamed}
 use Rattle.px_session.specs.Opened.{SessionValue, opened_session, tables_of}
 use Rattle.px_session.specs.OwnStates.{IsOwnEdit, IsOwnGoal, IsOwnPursuit, edits_given}
 use Rattle.px_session.specs.Places.{IsPlaced, TakeSame, Takes}
@@ -30,7 +30,7 @@ use Rattle.px_session.specs.Sessions.{SessionState}
 use Rattle.px_session.specs.Writable.{AsksWritable}
 use Rattle.px_session.proofs.GivenNames.{commands-apart, names-next, saved-given}
 use Rattle.px_session.proofs.Kept.{sessions_are_kept}
-use Rattle.px_session.proofs.NamedReplies.{named-each}
+use Rattle.px_session.proofs.NamedReplies.{replies_are_named}
 use Rattle.px_session.proofs.Placing.{takes-later}
 use Rattle.px_session.proofs.Replied.{replied}
 use Rattle.px_session.proofs.Writables.{all-ask, certifiable-problem, writable-kept, writable-opened}
@@ -90,6 +90,17 @@ ready version problem building results (command.Pursue name goal vars) owns of =
   ),
   (of.0, of.1.atoms),
 )
+ready version problem building results (command.Tree name nodes goal vars) owns of = (
+  (
+    (
+      of.1.0,
+      omega (arith, of.1.1),
+      record { atoms = of.2.atoms; few = of.2.few_variables; some_object = some-object problem.objects vars of.2.no_objects },
+    ),
+    no-edits problem (at_first building),
+  ),
+  (of.0, of.2.atoms),
+)
 ready version problem building results command.Facts owns of = ((tt, no-edits problem (at_first building)), tt)
 
 pub ready-at : (script : ScriptValue) → IsInRange script → (k : ℕ) (c : Command) → k < length script.commands
@@ -121,6 +132,7 @@ kept-opened script range named = record {
   tellable = λ k c below. (ready-at script range k c below).1;
   once = commands-apart (saved_names script) script.commands (length script.names.results) range.commands.given;
   learned = saved-given (saved_names script) script.commands (length script.names.results) range.commands.given;
+  tables_named = replies_are_named.opened script range;
   few = few-commands script.version (length script.commands) range.commands.few;
   recorded = omega arith;
   written = writable-opened script range;
@@ -181,6 +193,7 @@ own-goal problem building (command.DisturbRooms turn between edits) runs = tt
 own-goal problem building (command.Run name bound) runs = tt
 own-goal problem building (command.Duo first second numbers) runs = tt
 own-goal problem building (command.Pursue name goal vars) runs = runs.0.atoms
+own-goal problem building (command.Tree name nodes goal vars) runs = runs.0.2.atoms
 own-goal problem building command.Facts runs = tt
 
 -- a pursuit's goal is so where the problem is valid
@@ -208,9 +221,9 @@ pub kept-after : (building left : Option RoomState) (session : SessionValue) (gi
     (done : ℕ)
     → IsKeptSession building session → done ≡ session.done + 1 → session.done < length session.commands
     → given ≡ get_or session.commands session.done given → IsRunnable session.problem building given → AsksWritable session.problem given
-    → Lawful session.problem session.state given answer new → IsPlaced session.problem left new → TakeSame building left
-    → IsKeptSession left (after_command session new done)
-kept-after building left session given answer new done kept more below is runs asks lawful placed same =
+    → IsTellable session.problem (length session.names.results) given → Lawful session.problem session.state given answer new
+    → IsPlaced session.problem left new → TakeSame building left → IsKeptSession left (after_command session new done)
+kept-after building left session given answer new done kept more below is runs asks tellable lawful placed same =
     let parts = keeps-parts session.problem session.state given answer new lawful in
     let names = names-next session.commands session.done given below is session.state.learned.names new.learned.names kept.once kept.learned
     parts.learned in
@@ -229,6 +242,8 @@ kept-after building left session given answer new done kept more below is runs a
       once = kept.once;
       learned = subst (λ n. All (λ name. ¬ Contains (flat_map result_given (drop n session.commands)) name) new.learned.names) (sym more)
           names;
+      tables_named = replies_are_named.kept session.problem (length session.names.results) session.state given answer new kept.tables_named
+          tellable lawful;
       few = kept.few;
       recorded = omega (arith, more, parts.recorded, kept.recorded);
       written = writable-kept session.problem session.state given answer new kept.problem kept.state kept.written asks lawful;
@@ -238,12 +253,17 @@ kept-after building left session given answer new done kept more below is runs a
       short_names = kept.short_names;
     }
 
+tells-of-named : (results : ℕ) (state : SessionState) (given : Command) → HasTableNames results state → TellsOfNamed results state given
+tells-of-named results state (command.Tree name nodes goal vars) named = named
+tells-of-named results state given named = tt
+
 pub named-after : (building : Option RoomState) (session : SessionValue) (given : Command) (answer : Reply) (new : SessionState)
     → IsKeptSession building session
     → IsTellable session.problem (length session.names.results) given → Lawful session.problem session.state given answer new
     → IsReplyNamed session.names answer
 named-after building session given answer new kept tellable lawful =
-    named-each session.problem session.names session.state given answer new kept.problem kept.names kept.own.atoms kept.state tellable lawful
+    replies_are_named.replies session.problem session.names session.state given answer new kept.problem kept.names kept.own.atoms kept.state
+    (tells-of-named (length session.names.results) session.state given kept.tables_named) tellable lawful
 
 -- the kernels of its tables carry
 pub kernels-after : (building : Option RoomState) (session : SessionValue) (given : Command) (answer : Reply) (new : SessionState)

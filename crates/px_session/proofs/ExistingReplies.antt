@@ -7,7 +7,7 @@ use Rattle.px_terms.specs.declared.problem.Problem.{Problem}
 use Rattle.px_terms.specs.Validity.{IsAtomOf, IsValid}
 use Rattle.px_table.specs.declared.table.Table.{Table}
 use Rattle.px_table.specs.Tables.{IsTable}
-use Rattle.px_ends.specs.Tasks.{Task, steps_of, task_of}
+use Rattle.px_ends.specs.Tasks.{Task, steps_of, task_of, task_with}
 use Rattle.px_library.specs.Libraries.{table_named, with_table}
 use Rattle.px_planex.specs.Existing.{TracesExist}
 use Rattle.px_planex.specs.Turns.{AtGoal, AtNoKernel, ByActing, BySlipping, Recorded, RunsTable, TurnValue}
@@ -43,6 +43,7 @@ use Rattle.px_session.proofs.OneLearning.{any-right}
 use Rattle.px_session.proofs.OneSaving.{certify-reply, save-reply}
 use Rattle.px_session.proofs.OwnDuos.{each_table}
 use Rattle.px_session.proofs.PursuitsEnd.{pursuits_end}
+use Rattle.px_totality.proofs.TreesExist.{trees_exist}
 
 -- ---- turns are told
 
@@ -68,6 +69,14 @@ turns-back (turn ∷ turns) =
     ap (λ (end : executed.TurnEnd). record { kernel = turn.kernel; op = turn.op; end = end }) (same_end turn.end) in
     let rest = turns-back turns in
     λ i. here i ∷ rest i
+
+-- ---- trees
+
+tree-reply : (problem : Problem) (old : SessionState) (name nodes : ℕ) (goal : List Atom) (vars : ℕ)
+    → ¬ ¬ HasReply problem old (command.Tree name nodes goal vars)
+tree-reply problem old name nodes goal vars never =
+    trees_exist (task_with problem nodes old.learned.tables old.atoms goal vars) problem.weight
+    (λ grown. never (reply.Tree name old.learned.names grown.0, (old, (refl, refl, grown.1, refl))))
 
 -- ---- each command
 
@@ -168,6 +177,7 @@ module _ (traces-exist : TracesExist leaves_edit) (duo-traces-exist : DuoTracesE
     other-reply (command.Learn name source) asks = absurd asks
     other-reply (command.Edit name source prefix wanted) asks = absurd asks
     other-reply (command.Pursue name goal vars) asks = absurd asks
+    other-reply (command.Tree name nodes goal vars) asks = absurd asks
     other-reply (command.Show name) asks = shown name
     other-reply (command.Save name) asks = save-reply problem old name
     other-reply (command.Certify name) asks = certify-reply problem old name
@@ -225,6 +235,7 @@ module _ (traces-exist : TracesExist leaves_edit) (duo-traces-exist : DuoTracesE
     no-learning : (given : Command) → LearnsNothing given → IsOwnGoal problem given → ¬ ¬ HasReply problem old given
     no-learning (command.Plan name goal vars) learns own = plan-reply name goal vars own
     no-learning (command.Pursue name goal vars) learns own = pursuit-reply name goal vars own
+    no-learning (command.Tree name nodes goal vars) learns own = tree-reply problem old name nodes goal vars
     no-learning (command.Learn name source) learns own = absurd learns
     no-learning (command.Edit name source prefix wanted) learns own = edit-reply problem old name source prefix wanted valid session
     no-learning (command.Show name) learns own = λ never. never (other-reply (command.Show name) tt)
@@ -325,6 +336,7 @@ module _ (traces-exist : TracesExist leaves_edit) (duo-traces-exist : DuoTracesE
         plan-reply traces-exist duo-traces-exist stay-ready problem old valid session name goal vars own;
     pursued = λ problem old name goal vars valid session own.
         pursuit-reply traces-exist duo-traces-exist stay-ready problem old valid session name goal vars own;
+    grown = tree-reply;
     learned = learn-reply;
     edited = λ problem old name source prefix wanted valid session. edit-reply problem old name source prefix wanted valid session;
   }

@@ -3,6 +3,7 @@ use Rattle.std.specs.Prelude.{◌≡◌, ◌≤◌, ◌<◌, ◌*◌, ℕ, List,
 use Rattle.std.proofs.Common.{refl, sym, subst, arith, length-append}
 use Rattle.std.proofs.lemmas.List.Elements.{All-cons, All-head, All-nil, All-tail}
 use Rattle.px_base.specs.Bounds.{u32_max}
+use Rattle.px_terms.specs.Limits.{most_nodes}
 use Rattle.px_terms.specs.declared.atom.Atom.{Atom}
 use Rattle.px_terms.specs.declared.instance.OpInst.{OpInst}
 use Rattle.px_terms.specs.Operators.{results_of}
@@ -31,7 +32,7 @@ use Rattle.px_session.specs.Sessions.{IsPlanTable, SessionState}
 use Rattle.px_session.proofs.FoundPlans.{built, built-plan}
 
 module _ (task : Task) (valid : IsValid task.problem) (goal_of : All (IsAtomOf task.problem task.vars) task.goal)
-    (learned : AreLearned task.problem task.tables) where
+    (learned : AreLearned task.problem task.tables) (room : task.nodes ≤ most_nodes) where
   -- ---- how many steps moves take
 
   effect-short : (entry : Entry) → IsEntry task.problem task.tables entry → length (effect_of task.tables entry) ≤ most_steps
@@ -75,7 +76,7 @@ module _ (task : Task) (valid : IsValid task.problem) (goal_of : All (IsAtomOf t
     short =
         let few = (found_with_weight task task.problem.weight is.moves is.found).few in
         let all = steps-short task.initial [] is.moves (All-nil (IsEntry task.problem task.tables)) moves-are in
-        omega (arith, few, all, valid.nodes.1)
+        omega (arith, few, all, room)
 
     made-is : is.made ≡ built taken task.goal task.vars is.made.proofs
     made-is = λ i. record {

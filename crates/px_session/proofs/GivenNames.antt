@@ -1,7 +1,7 @@
 -- A command gives a name that no saved table has, and that no command before it gave.
 use Rattle.std.specs.Prelude.{◌≡◌, ◌≢◌, ◌<◌, ◌≤◌, ◌+◌, ◌++◌, ◌⊎◌, ℕ, List, [], ◌∷◌, length, drop, flat_map, All, AllPairs, Contains}
 use Rattle.std.specs.List.{range_with_len}
-use Rattle.std.proofs.Common.{zero, suc, get_or, refl, sym, subst, arith, inl, inr}
+use Rattle.std.proofs.Common.{zero, suc, get_or, refl, sym, ap, subst, arith, inl, inr}
 use Rattle.std.proofs.lemmas.List.Elements.{Contains-append_left, Contains-append_right}
 use Rattle.std.proofs.lemmas.List.FromFn.{get_or-range_with_len, length-range_with_len}
 use Rattle.std.proofs.lemmas.List.{get_or_append_left, length-append}
@@ -113,6 +113,17 @@ module _ (saved : List ℕ) (commands : List Command) (results : ℕ)
 
   pub saved-apart : AreApart saved
   saved-apart = apart-before saved (flat_map result_given commands) in-order
+
+  -- each of them is the name of a result
+  pub saved-known : All (λ name. name < results) saved
+  saved-known k d below =
+      let long = length-append saved (flat_map result_given commands) in
+      let inside : k < results = omega (arith, below, long, ap length given, length-range_with_len 0 results) in
+      let here : get_or (saved ++ flat_map result_given commands) k d ≡ get_or saved k d =
+      get_or_append_left saved (flat_map result_given commands) d k below in
+      let there : get_or (saved ++ flat_map result_given commands) k d ≡ get_or (range_with_len 0 results) k d =
+      ap (λ (l : List ℕ). get_or l k d) given in
+      omega (arith, inside, here, there, get_or-range_with_len 0 results k d inside)
 
   pub commands-apart : AreApart (flat_map result_given commands)
   commands-apart = apart-after saved (flat_map result_given commands) in-order

@@ -13,7 +13,10 @@ use Rattle.px_printer.specs.declared.reply.Reply.{Reply}
 use Rattle.px_printer.specs.declared.reply.Reply.TheVariants as reply
 use Rattle.px_printer.specs.declared.reply.Why.{Why}
 use Rattle.px_printer.specs.declared.reply.Why.TheVariants.{TooLong, TooDeep, TooWide, Full}
-use Rattle.px_session.specs.Causes.{CausesInOrder, RefusedReplies, one_learned, plan_p, where_p}
+use Rattle.px_tree.specs.declared.nodes.Tree.{Tree}
+use Rattle.px_tree.specs.declared.nodes.TreeEnd.TheVariants.{Exhausted}
+use Rattle.px_tree.specs.declared.nodes.TreeNode.{TreeNode}
+use Rattle.px_session.specs.Causes.{CausesInOrder, RefusedReplies, one_learned, plan_p, tree_p, where_p}
 use Rattle.px_session.specs.Lawful.{Lawful, RefusesLearning, TellsLearning, TellsRun, first_unknown}
 use Rattle.px_session.specs.Sessions.{SessionState, any_table}
 use Rattle.px_session.proofs.OneDuo.{no-first, no-second}
@@ -109,5 +112,23 @@ not-stored is = let names = ap (λ (s : SessionState). s.plans.names) is.1.store
 no-learned : (new : SessionState) → ¬ TellsLearning idle one_learned 2 1 (reply.Learned 2 0 0) new
 no-learned new is = let at = is.1.named in cc
 
+not-exhausted : (tables : List ℕ) (nodes : List TreeNode) (new : SessionState)
+    → ¬ Lawful idle where_p tree_p (reply.Tree 0 tables (record { nodes = nodes; end = Exhausted })) new
+not-exhausted tables nodes new is = exhausted_with_all.found task_p idle.weight idle.weight is.2.end.0 [] (there_by_value idle.weight)
+
+none-first : (names : List ℕ) → ¬ ([] ≡ 1 ∷ names)
+none-first names is = cc
+
+no-names : (tree : Tree) (new : SessionState) → ¬ Lawful idle one_learned tree_p (reply.Tree 0 [] tree) new
+no-names tree new is = none-first [] is.1
+
 pub refused_replies : RefusedReplies
-refused_replies = record { exhausted = exhausted; moved = moved; other_name = other-name; not_stored = not-stored; no_plan = no-learned }
+refused_replies = record {
+  exhausted = exhausted;
+  moved = moved;
+  other_name = other-name;
+  not_stored = not-stored;
+  no_plan = no-learned;
+  not_exhausted = not-exhausted;
+  no_names = no-names;
+}

@@ -118,7 +118,7 @@ kept problem old given answer new valid session own is =
       atoms = session.atoms;
       plans = one-more (IsPlanTable problem) old.plans.tables is.made session.plans
           (found-table (task_of problem old.learned.tables old.atoms goal vars) valid (subst (IsOwnGoal problem) by own)
-          (are-learned problem old session) name count old new steps is);
+          (are-learned problem old session) valid.nodes.1 name count old new steps is);
       learned = session.learned;
       few = session.few;
     })
@@ -167,6 +167,6 @@ sessions_are_kept = record {
   kernels = kernels;
   own = own-kept;
   plans = λ problem old name goal vars given count steps new valid session own is.
-      found-carries (task_of problem old.learned.tables old.atoms goal vars) valid own (are-learned problem old session) name count old new
-      steps is.1;
+      found-carries (task_of problem old.learned.tables old.atoms goal vars) valid own (are-learned problem old session) valid.nodes.1 name
+      count old new steps is.1;
 }

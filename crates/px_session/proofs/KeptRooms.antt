@@ -149,6 +149,8 @@ module _ (problem : Problem) (old : SessionState) (building : RoomState) (sessio
   answered (command.Run name bound) answer new taken own is = run-answered name bound answer new is
   answered (command.Duo first second numbers) answer new taken own is = duo-answered first second numbers answer new is
   answered (command.Pursue name goal vars) answer new taken own is = pursuit-answered name goal vars own answer new is
+  answered (command.Tree name nodes goal vars) answer new taken own is =
+      unmoved (command.Tree name nodes goal vars) tt answer new refl taken is
   answered command.Facts answer new taken own is = unmoved command.Facts tt answer new refl taken is
 
 -- ---- all commands

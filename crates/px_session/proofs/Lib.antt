@@ -26,6 +26,7 @@ pub mod PursuitRuns
 pub mod Shifted
 pub mod PursuitsEnd
 pub mod ToldPursuits
+pub mod ToldTrees
 pub mod Kept
 pub mod WritableGoals
 pub mod Writables
@@ -39,6 +40,8 @@ pub mod FoundPlans
 pub mod FoundTables
 pub mod NamedTerms
 pub mod NamedBlocks
+pub mod NamedTables
+pub mod NamedTrees
 pub mod NamedReplies
 pub mod Executing
 pub mod OwnRuns

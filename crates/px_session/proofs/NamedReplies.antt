@@ -10,7 +10,7 @@ use Rattle.px_terms.specs.declared.problem.Problem.{Problem}
 use Rattle.px_terms.specs.Validity.{IsAtomOf, IsValid}
 use Rattle.px_table.specs.declared.table.Table.{Table}
 use Rattle.px_planex.specs.Turns.{Recorded}
-use Rattle.px_ends.specs.Tasks.{Task, task_of}
+use Rattle.px_ends.specs.Tasks.{Task, task_of, task_with}
 use Rattle.px_duo.specs.Duos.{both}
 use Rattle.px_printer.specs.DuoLines.{IsNamedDuoLine}
 use Rattle.px_printer.specs.declared.reply.Reply.{Reply}
@@ -20,12 +20,14 @@ use Rattle.px_printer.specs.Rows.{IsNamedTable}
 use Rattle.px_printer.specs.Texts.{IsNamedAtom, IsNamedInstance}
 use Rattle.px_script.specs.declared.command.Command.{Command}
 use Rattle.px_script.specs.declared.command.Command.TheVariants as command
-use Rattle.px_session.specs.Lawful.{FindsPlan, Lawful, Notes, TellsCertifying, TellsDuo, TellsEditing, TellsFacts, TellsLearning, TellsPursuit, TellsRun, TellsSaving, TellsSearch, TellsShow, recorded_for, turn_told}
-use Rattle.px_session.specs.Named.{AreNamesOfProblem, IsTellable, RepliesAreNamed}
+use Rattle.px_session.specs.Lawful.{FindsPlan, Lawful, Notes, TellsCertifying, TellsDuo, TellsEditing, TellsFacts, TellsLearning, TellsPursuit, TellsRun, TellsSaving, TellsSearch, TellsShow, TellsTree, recorded_for, turn_told}
+use Rattle.px_session.specs.Named.{AreNamesOfProblem, HasTableNames, IsTellable, RepliesAreNamed, TellsOfNamed}
 use Rattle.px_session.specs.Sessions.{Edit, IsLearnedTable, IsPlanTable, IsSession, SessionState, any_table, of_atoms, of_rooms}
 use Rattle.px_session.proofs.FoundTables.{found-table}
 use Rattle.px_session.proofs.Learned.{are-learned}
 use Rattle.px_session.proofs.NamedBlocks.{named-block}
+use Rattle.px_session.proofs.NamedTables.{tables-named, tables-named-later}
+use Rattle.px_session.proofs.NamedTrees.{named-nodes}
 use Rattle.px_session.proofs.NamedTerms.{named-atoms, named-step-of, named-steps, named-table, named-turns}
 use Rattle.px_session.proofs.OneLearning.{any-right}
 use Rattle.px_session.proofs.OwnDuos.{duo-steps, each_table}
@@ -59,7 +61,7 @@ module _ (problem : Problem) (names : NameLists) (all : AreNamesOfProblem proble
         → All (IsNamedInstance names) steps
     named-plan count steps new is =
         let same : is.made.steps ≡ steps = is.table.steps ∙ sym is.taken in
-        let plan = found-table task valid own (are-learned problem old session) name count old new steps is in
+        let plan = found-table task valid own (are-learned problem old session) valid.nodes.1 name count old new steps is in
         subst (All (IsNamedInstance names)) same (named-steps problem names all is.made.params is.made.steps plan.table.in_range.steps)
 
     named-search : (answer : Reply) (new : SessionState) → name < length names.results → TellsSearch task name old answer new
@@ -78,6 +80,20 @@ module _ (problem : Problem) (names : NameLists) (all : AreNamesOfProblem proble
         searches (map turn_told told) end is.1.after is.1.pursues in
         (same-result given name (length names.results) is.0 below, named-turns problem names all told steps)
     named-pursuit answer new below is = absurd is
+
+  -- the tables of a tree are those of the session
+  named-tree : (old : SessionState) (session : IsSession problem old) (tables_named : HasTableNames (length names.results) old)
+      (nodes : ℕ) (goal : List Atom) (vars name : ℕ) (answer : Reply) (new : SessionState) → name < length names.results
+      → TellsTree (task_with problem nodes old.learned.tables old.atoms goal vars) name old answer new → IsReplyNamed names answer
+  named-tree old session tables_named nodes goal vars name (reply.Tree given tables tree) new below is = (
+    same-result given name (length names.results) is.0 below,
+    record {
+      tables = subst (All (λ n. n < length names.results)) (sym is.1) tables_named.known;
+      nodes = named-nodes (task_with problem nodes old.learned.tables old.atoms goal vars) names all (are-learned problem old session) tables
+          (ap length is.1 ∙ tables_named.each) problem.weight tree is.2;
+    },
+  )
+  named-tree old session tables_named nodes goal vars name answer new below is = absurd is
 
   module _ (old : SessionState) (plans : All (IsPlanTable problem) old.plans.tables)
       (learned : All (IsLearnedTable problem) old.learned.tables) where
@@ -173,34 +189,37 @@ named-certifying problem names old name (reply.Certified given bytes) new below 
 named-certifying problem names old name answer new below is = absurd is
 
 -- for each command that is built
-pub named-each : (problem : Problem) (names : NameLists) (old : SessionState) (given : Command) (answer : Reply)
+named-each : (problem : Problem) (names : NameLists) (old : SessionState) (given : Command) (answer : Reply)
     (new : SessionState)
     → IsValid problem → AreNamesOfProblem problem names → All (IsAtomOf problem 0) old.atoms → IsSession problem old
-    → IsTellable problem (length names.results) given → Lawful problem old given answer new → IsReplyNamed names answer
-named-each problem names old (command.Plan name goal vars) answer new valid all atoms session tellable is =
+    → TellsOfNamed (length names.results) old given → IsTellable problem (length names.results) given
+    → Lawful problem old given answer new → IsReplyNamed names answer
+named-each problem names old (command.Plan name goal vars) answer new valid all atoms session tables tellable is =
     named-search problem names all valid old session goal vars tellable.1 name answer new tellable.0 is
-named-each problem names old (command.Pursue name goal vars) answer new valid all atoms session tellable is =
+named-each problem names old (command.Pursue name goal vars) answer new valid all atoms session tables tellable is =
     named-pursuit problem names all valid old session goal vars tellable.1 name answer new tellable.0 is
-named-each problem names old (command.Show name) answer new valid all atoms session tellable is =
+named-each problem names old (command.Tree name nodes goal vars) answer new valid all atoms session tables tellable is =
+    named-tree problem names all old session tables nodes goal vars name answer new tellable.0 is
+named-each problem names old (command.Show name) answer new valid all atoms session tables tellable is =
     named-show problem names all old session.plans session.learned name answer new tellable is
-named-each problem names old (command.Save name) answer new valid all atoms session tellable is =
+named-each problem names old (command.Save name) answer new valid all atoms session tables tellable is =
     named-saving problem names all old session.plans session.learned name answer new tellable is
-named-each problem names old (command.Certify name) answer new valid all atoms session tellable is =
+named-each problem names old (command.Certify name) answer new valid all atoms session tables tellable is =
     named-certifying problem names old name answer new tellable is
-named-each problem names old (command.Duo first second numbers) answer new valid all atoms session tellable is =
+named-each problem names old (command.Duo first second numbers) answer new valid all atoms session tables tellable is =
     named-duo problem names all old session.plans session.learned first second numbers answer new tellable.0 tellable.1 is
-named-each problem names old command.Facts answer new valid all atoms session tellable is =
+named-each problem names old command.Facts answer new valid all atoms session tables tellable is =
     named-facts problem names all old session.plans session.learned answer new atoms is
-named-each problem names old (command.Learn name source) answer new valid all atoms session tellable is =
+named-each problem names old (command.Learn name source) answer new valid all atoms session tables tellable is =
     named-learning problem names old name source answer new tellable.0 tellable.1 is
-named-each problem names old (command.Edit name source prefix wanted) answer new valid all atoms session tellable is =
+named-each problem names old (command.Edit name source prefix wanted) answer new valid all atoms session tables tellable is =
     named-editing problem names old name source prefix wanted answer new tellable.0 tellable.1 is
-named-each problem names old (command.DisturbAtoms turn between edits) answer new valid all atoms session tellable is =
+named-each problem names old (command.DisturbAtoms turn between edits) answer new valid all atoms session tables tellable is =
     named-noted names old (recorded_for turn between (map of_atoms edits)) answer new is
-named-each problem names old (command.DisturbRooms turn between edits) answer new valid all atoms session tellable is =
+named-each problem names old (command.DisturbRooms turn between edits) answer new valid all atoms session tables tellable is =
     named-noted names old (recorded_for turn between (map of_rooms edits)) answer new is
-named-each problem names old (command.Run name bound) answer new valid all atoms session tellable is =
+named-each problem names old (command.Run name bound) answer new valid all atoms session tables tellable is =
     named-run problem names all old session.plans session.learned name bound answer new tellable is
 
 pub replies_are_named : RepliesAreNamed
-replies_are_named = record { replies = named-each }
+replies_are_named = record { replies = named-each; opened = tables-named; kept = tables-named-later }

@@ -7,7 +7,8 @@ use Rattle.px_names.specs.declared.kind.Kind.TheVariants as kind
 use Rattle.px_terms.specs.declared.problem.Problem.{Problem}
 use Rattle.px_terms.specs.Validity.{IsValid}
 use Rattle.px_planex.specs.Turns.{Recorded}
-use Rattle.px_ends.specs.Tasks.{task_of}
+use Rattle.px_ends.specs.Tasks.{Task, task_of, task_with}
+use Rattle.px_search.proofs.TreeLaws.{trees_are_one}
 use Rattle.px_printer.specs.Replies.{reply_text}
 use Rattle.px_printer.specs.Texts.{text_line, name_text}
 use Rattle.px_printer.specs.declared.reply.Reply.{Reply}
@@ -15,7 +16,7 @@ use Rattle.px_printer.specs.declared.reply.Reply.TheVariants as reply
 use Rattle.px_script.specs.declared.command.Command.{Command}
 use Rattle.px_script.specs.declared.command.Command.TheVariants as command
 use Rattle.px_session.specs.Determined.{LawfulIsOne, SameReply}
-use Rattle.px_session.specs.Lawful.{Lawful, Notes, TellsFacts, TellsShow, recorded_for}
+use Rattle.px_session.specs.Lawful.{Lawful, Notes, TellsFacts, TellsShow, TellsTree, recorded_for}
 use Rattle.px_session.specs.Sessions.{Edit, IsSession, SessionState, any_table, of_atoms, of_rooms}
 use Rattle.px_session.proofs.OneDuo.{duo-one}
 use Rattle.px_session.proofs.OneEditing.{editing-one}
@@ -25,7 +26,7 @@ use Rattle.px_session.proofs.OneRunning.{run-one}
 use Rattle.px_session.proofs.OneSaving.{certifying-one, saving-one}
 use Rattle.px_session.proofs.OneSearch.{search-one}
 
--- ---- show, disturb, facts
+-- ---- show, disturb, tree, facts
 
 show-one : (old : SessionState) (name : ℕ) (one other : Reply) (new later : SessionState) → TellsShow old name one new
     → TellsShow old name other later → SameReply one other × (new ≡ later)
@@ -45,6 +46,16 @@ notes-one : (old : SessionState) (note : Recorded Edit) (one other : Reply) (new
 notes-one old note (reply.Noted n) (reply.Noted m) new later p q = (inl (ap reply.Noted (p.0 ∙ sym q.0)), p.1 ∙ sym q.1)
 notes-one old note (reply.Noted n) other new later p q = absurd q
 notes-one old note one other new later p q = absurd p
+
+tree-one : (task : Task) (name : ℕ) (old : SessionState) (one other : Reply) (new later : SessionState) → TellsTree task name old one new
+    → TellsTree task name old other later → SameReply one other × (new ≡ later)
+tree-one task name old (reply.Tree n tables tree) (reply.Tree m others also) new later p q =
+    let names : n ≡ m = p.0 ∙ sym q.0 in
+    let same : tables ≡ others = p.1 ∙ sym q.1 in
+    let trees = trees_are_one task task.problem.weight tree also p.2 q.2 in
+    (inl (λ i. reply.Tree (names i) (same i) (trees i)), p.3 ∙ sym q.3)
+tree-one task name old (reply.Tree n tables tree) other new later p q = absurd q
+tree-one task name old one other new later p q = absurd p
 
 facts-one : (old : SessionState) (one other : Reply) (new later : SessionState) → TellsFacts old one new → TellsFacts old other later
     → SameReply one other × (new ≡ later)
@@ -77,6 +88,8 @@ reply-one problem old (command.Duo first second numbers) one other new later val
     duo-one problem old first second numbers one other new later p q
 reply-one problem old (command.Pursue name goal vars) one other new later valid session p q =
     pursuit-one problem old name goal vars one other new later p q
+reply-one problem old (command.Tree name nodes goal vars) one other new later valid session p q =
+    tree-one (task_with problem nodes old.learned.tables old.atoms goal vars) name old one other new later p q
 reply-one problem old command.Facts one other new later valid session p q = facts-one old one other new later p q
 
 pub text-one : (names : NameLists) (one other : Reply) → SameReply one other → reply_text names one ≡ reply_text names other

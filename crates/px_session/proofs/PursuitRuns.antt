@@ -93,7 +93,7 @@ module _ (problem : Problem) (tables : List Table) (goal : List Atom) (vars : �
 
   module _ (valid : IsValid problem) (learned : AreLearned problem tables) (own : All (IsAtomOf problem vars) goal) where
     pub searchable : (atoms : List Atom) → IsSearchable (task_of problem tables atoms goal vars)
-    searchable atoms = record { valid = valid; goal = own; learned = learned }
+    searchable atoms = record { valid = valid; goal = own; learned = learned; nodes = valid.nodes.1 }
 
     -- the table of each run is one
     pub run-table : (number : ℕ) (atoms : List Atom) (run : List TurnValue) (after : List Atom) (plan : Runs number atoms run after)

@@ -46,6 +46,7 @@ module _ (problem : Problem) (names : NameLists) (named : AreNameLists names) (s
   of-command (command.Run n bound) number table has is = absurd is
   of-command (command.Duo first second numbers) number table has is = absurd is
   of-command (command.Pursue n goal vars) number table has is = absurd is
+  of-command (command.Tree n nodes goal vars) number table has is = absurd is
   of-command command.Facts number table has is = absurd is
 
   pub reply-read-back : (given : Command) (answer : Reply) → IsReplyNamed names answer → Lawful problem old given answer new

@@ -5,7 +5,7 @@ use Rattle.px_terms.specs.declared.atom.Atom.{Atom}
 use Rattle.px_terms.specs.declared.instance.OpInst.{OpInst}
 use Rattle.px_terms.specs.declared.problem.Problem.{Problem}
 use Rattle.px_library.specs.Libraries.{with_table}
-use Rattle.px_ends.specs.Tasks.{task_of}
+use Rattle.px_ends.specs.Tasks.{Task, task_of, task_with}
 use Rattle.px_printer.specs.declared.duo_line.DuoLine.{DuoLine}
 use Rattle.px_printer.specs.declared.pursue_end.PursueEnd.{PursueEnd}
 use Rattle.px_printer.specs.declared.reply.Reply.{Reply}
@@ -13,7 +13,7 @@ use Rattle.px_printer.specs.declared.reply.Reply.TheVariants as reply
 use Rattle.px_printer.specs.declared.turn.Turn.{Turn}
 use Rattle.px_script.specs.declared.command.Command.{Command}
 use Rattle.px_script.specs.declared.command.Command.TheVariants as command
-use Rattle.px_session.specs.Lawful.{FindsPlan, IsDuoOf, IsEditedInto, IsLearned, IsPursuitOf, IsRunOf, Lawful, Notes, TellsCertifying, TellsDuo, TellsEditing, TellsFacts, TellsLearning, TellsPursuit, TellsRun, TellsSaving, TellsSearch, TellsShow, recorded_for}
+use Rattle.px_session.specs.Lawful.{FindsPlan, IsDuoOf, IsEditedInto, IsLearned, IsPursuitOf, IsRunOf, Lawful, Notes, TellsCertifying, TellsDuo, TellsEditing, TellsFacts, TellsLearning, TellsPursuit, TellsRun, TellsSaving, TellsSearch, TellsShow, TellsTree, recorded_for}
 use Rattle.px_session.specs.OwnStates.{edits_given}
 use Rattle.px_session.specs.Sessions.{Edit, SessionState, of_atoms, of_rooms}
 
@@ -102,6 +102,10 @@ module _ (problem : Problem) (old : SessionState) (given : Command) (P : Session
   after-pursuit name goal vars by (reply.Pursuit told searches turns end) new is = pursued name goal vars searches turns end new by is.1
   after-pursuit name goal vars by answer new is = absurd is
 
+  after-tree : (task : Task) (name : ℕ) (answer : Reply) (new : SessionState) → TellsTree task name old answer new → P new
+  after-tree task name (reply.Tree told tables tree) new is = unchanged new is.3
+  after-tree task name answer new is = absurd is
+
   after-facts : (answer : Reply) (new : SessionState) → TellsFacts old answer new → P new
   after-facts (reply.FactsAre atoms) new is = unchanged new is.2
   after-facts answer new is = absurd is
@@ -121,6 +125,8 @@ module _ (problem : Problem) (old : SessionState) (given : Command) (P : Session
   after-reply (command.Run name bound) by answer new is = after-run name bound by answer new is
   after-reply (command.Duo first second numbers) by answer new is = after-duo first second numbers by answer new is
   after-reply (command.Pursue name goal vars) by answer new is = after-pursuit name goal vars by answer new is
+  after-reply (command.Tree name nodes goal vars) by answer new is =
+      after-tree (task_with problem nodes old.learned.tables old.atoms goal vars) name answer new is
   after-reply command.Facts by answer new is = after-facts answer new is
 
   pub replied : (answer : Reply) (new : SessionState) → Lawful problem old given answer new → P new

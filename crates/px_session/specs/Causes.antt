@@ -14,6 +14,9 @@ use Rattle.px_printer.specs.declared.reply.Why.{Why}
 use Rattle.px_printer.specs.declared.reply.Why.TheVariants.{TooLong, TooDeep}
 use Rattle.px_script.specs.declared.command.Command.{Command}
 use Rattle.px_script.specs.declared.command.Command.TheVariants as command
+use Rattle.px_tree.specs.declared.nodes.Tree.{Tree}
+use Rattle.px_tree.specs.declared.nodes.TreeEnd.TheVariants.{Exhausted}
+use Rattle.px_tree.specs.declared.nodes.TreeNode.{TreeNode}
 use Rattle.px_session.specs.Lawful.{Lawful, RefusesEditing, RefusesLearning, RefusesSaving, first_unknown}
 use Rattle.px_session.specs.Sessions.{SessionState, any_table, opening}
 
@@ -72,14 +75,22 @@ where_p = opening (p ∷ []) []
 abbrev pub plan_p : Command
 plan_p = command.Plan 0 (p ∷ []) 0
 
+-- `tree N n P`, with as many nodes as the problem has
+abbrev pub tree_p : Command
+tree_p = command.Tree 0 idle.nodes (p ∷ []) 0
+
 -- with one learned table
 abbrev pub one_learned : SessionState
 one_learned = record where_p { learned = with_table no_tables 1 p_at_once }
 
--- Where P is a fact, a plan for it is neither exhausted nor has a move; and a learned table is no plan.
+-- Where P is a fact, a plan for it is neither exhausted nor has a move, and a tree for it isn't exhausted; a learned table is no plan, and a
+-- tree has its name.
 pub record RefusedReplies : Type 0 where
   pub exhausted : (new : SessionState) → ¬ Lawful idle where_p plan_p (reply.Exhausted 0) new
   pub moved : (new : SessionState) → ¬ Lawful idle where_p plan_p (reply.Plan 0 1 []) new
   pub other_name : (new : SessionState) → ¬ Lawful idle where_p plan_p (reply.Plan 1 0 []) new
   pub not_stored : ¬ Lawful idle where_p plan_p (reply.Plan 0 0 []) where_p
   pub no_plan : (new : SessionState) → ¬ Lawful idle one_learned (command.Learn 2 1) (reply.Learned 2 0 0) new
+  pub not_exhausted : (tables : List ℕ) (nodes : List TreeNode) (new : SessionState)
+      → ¬ Lawful idle where_p tree_p (reply.Tree 0 tables (record { nodes = nodes; end = Exhausted })) new
+  pub no_names : (tree : Tree) (new : SessionState) → ¬ Lawful idle one_learned tree_p (reply.Tree 0 [] tree) new

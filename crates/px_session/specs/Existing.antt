@@ -9,7 +9,7 @@ use Rattle.px_library.specs.Libraries.{table_named}
 use Rattle.px_printer.specs.declared.reply.Reply.{Reply}
 use Rattle.px_printer.specs.declared.reply.Why.{Why}
 use Rattle.px_script.specs.declared.command.Command.{Command}
-use Rattle.px_script.specs.declared.command.Command.TheVariants.{Edit, Learn, Plan, Pursue}
+use Rattle.px_script.specs.declared.command.Command.TheVariants.{Edit, Learn, Plan, Pursue, Tree}
 use Rattle.px_script.specs.Content.{ScriptValue}
 use Rattle.px_script.specs.Scripts.{IsScript}
 use Rattle.px_script.specs.Stages.{stage_now}
@@ -27,6 +27,7 @@ AsksNoSearch (Plan name goal vars) = ⊥
 AsksNoSearch (Learn name source) = ⊥
 AsksNoSearch (Edit name source prefix wanted) = ⊥
 AsksNoSearch (Pursue name goal vars) = ⊥
+AsksNoSearch (Tree name nodes goal vars) = ⊥
 AsksNoSearch _ = Unit {0}
 
 abbrev pub LearnsNothing : Command → Type 0
@@ -41,8 +42,8 @@ pub record HasNoGeneral (problem : Problem) (old : SessionState) (source : ℕ) 
   pub no_general : (general : Table) → ¬ Generalises problem plan general
 
 -- In a session's state each command has a lawful reply. For a plan this is a double negation, since which one it is takes a search to say;
--- so it is for a pursuit, which ends; and so it is for editing, since which steps are kept takes work to say; and for learning it is said
--- but for plans without a general table.
+-- so it is for a pursuit, which ends, and for the tree of a search; and so it is for editing, since which steps are kept takes work to say;
+-- and for learning it is said but for plans without a general table.
 pub record RepliesExist : Type 0 where
   pub others : (problem : Problem) (old : SessionState) (given : Command) → IsValid problem → IsSession problem old → AsksNoSearch given
       → HasReply problem old given
@@ -50,6 +51,8 @@ pub record RepliesExist : Type 0 where
       → All (IsAtomOf problem vars) goal → ¬ ¬ HasReply problem old (Plan name goal vars)
   pub pursued : (problem : Problem) (old : SessionState) (name : ℕ) (goal : List Atom) (vars : ℕ) → IsValid problem
       → IsSession problem old → All (IsAtomOf problem vars) goal → ¬ ¬ HasReply problem old (Pursue name goal vars)
+  pub grown : (problem : Problem) (old : SessionState) (name nodes : ℕ) (goal : List Atom) (vars : ℕ)
+      → ¬ ¬ HasReply problem old (Tree name nodes goal vars)
   pub learned : (problem : Problem) (old : SessionState) (name source : ℕ)
       → ¬ ¬ (HasReply problem old (Learn name source) ⊎ HasNoGeneral problem old source)
   pub edited : (problem : Problem) (old : SessionState) (name source prefix : ℕ) (wanted : List (ℕ × ℕ)) → IsValid problem

@@ -1,6 +1,6 @@
 -- What a session keeps.
 use Rattle.std.specs.Prelude.{◌≢◌, ◌<◌, ◌≤◌, ℕ, Option, List, length, drop, flat_map, All, AllPairs, Contains}
-use Rattle.px_terms.specs.Limits.{most_formula_variables}
+use Rattle.px_terms.specs.Limits.{most_formula_variables, most_nodes}
 use Rattle.px_base.specs.Bounds.{u32_max}
 use Rattle.px_names.specs.Lists.{AreNameLists}
 use Rattle.px_saved.specs.ReadBack.{IsShortName}
@@ -8,12 +8,12 @@ use Rattle.px_terms.specs.declared.atom.Atom.{Atom}
 use Rattle.px_terms.specs.declared.problem.Problem.{Problem}
 use Rattle.px_terms.specs.Validity.{IsAtomOf, IsValid}
 use Rattle.px_script.specs.declared.command.Command.{Command}
-use Rattle.px_script.specs.declared.command.Command.TheVariants.{Plan, Pursue, Run}
+use Rattle.px_script.specs.declared.command.Command.TheVariants.{Plan, Pursue, Run, Tree}
 use Rattle.px_script.specs.declared.command.Command.TheVariants as command
 use Rattle.px_rooms.specs.States.{RoomState}
 use Rattle.px_script.specs.Ranges.{result_given}
 use Rattle.px_session.specs.CertifiedReplies.{IsCertifiableProblem}
-use Rattle.px_session.specs.Named.{AreNamesOfProblem, IsTellable}
+use Rattle.px_session.specs.Named.{AreNamesOfProblem, HasTableNames, IsTellable}
 use Rattle.px_session.specs.Opened.{SessionValue}
 use Rattle.px_session.specs.OwnStates.{IsOwnEdit, IsOwnState, edits_given}
 use Rattle.px_session.specs.Places.{IsPlaced, Takes}
@@ -46,6 +46,7 @@ pub record AreAddsToWant (wanted : List (ℕ × ℕ)) : Type 0 where
 abbrev pub IsAnswerable : Problem → Command → Type 0
 IsAnswerable problem (Plan name goal vars) = IsGoalToPlan problem goal vars
 IsAnswerable problem (Pursue name goal vars) = IsGoalToPlan problem goal vars
+IsAnswerable problem (Tree name nodes goal vars) = (1 ≤ nodes) × (nodes ≤ most_nodes) × IsGoalToPlan problem goal vars
 IsAnswerable problem (Run name bound) = IsBindingToRun problem bound
 IsAnswerable problem (command.Edit name source prefix wanted) = AreAddsToWant wanted
 IsAnswerable problem _ = Unit {0}
@@ -60,8 +61,8 @@ IsGivenLater session name = Contains (flat_map result_given (drop session.done s
 
 -- The problem is valid, its numbers have names, and what the state has is its own; with a building its atoms are the building's facts.
 -- Each command can be run, and its reply printed. The commands give each result once, and none that is still to be done gives the name of a
--- table that is saved, learned or edited. No more disturbances are recorded than commands are done. Its tables can be written, and so can
--- those that the commands ask for; and its names can be declared.
+-- table that is saved, learned or edited; and these tables are named. No more disturbances are recorded than commands are done. Its tables
+-- can be written, and so can those that the commands ask for; and its names can be declared.
 pub record IsKeptSession (building : Option RoomState) (session : SessionValue) : Type 0 where
   pub problem : IsValid session.problem
   pub names : AreNamesOfProblem session.problem session.names
@@ -72,6 +73,7 @@ pub record IsKeptSession (building : Option RoomState) (session : SessionValue) 
   pub tellable : All (IsTellable session.problem (length session.names.results)) session.commands
   pub once : AllPairs (λ one other. one ≢ other) (flat_map result_given session.commands)
   pub learned : All (λ name. ¬ IsGivenLater session name) session.state.learned.names
+  pub tables_named : HasTableNames (length session.names.results) session.state
   pub few : length session.commands < u32_max
   pub recorded : length session.state.recorded ≤ session.done
   pub written : HasWritableTables session.problem session.state

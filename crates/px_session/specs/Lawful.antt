@@ -18,7 +18,7 @@ use Rattle.px_edit.specs.EditCauses.{IsBadPrefix, IsEditable, IsFirstBadWant, Ke
 use Rattle.px_edit.specs.Editing.{IsEdited}
 use Rattle.px_ends.specs.ByValue.{IsExhausted, IsFound, IsNodeLimit, IsShapeLimit}
 use Rattle.px_ends.specs.Made.{IsTableOfMoves}
-use Rattle.px_ends.specs.Tasks.{Task, steps_of, task_of}
+use Rattle.px_ends.specs.Tasks.{Task, steps_of, task_of, task_with}
 use Rattle.px_printer.specs.declared.duo_line.DuoLine.{DuoLine}
 use Rattle.px_printer.specs.declared.pursue_end.PursueEnd.{PursueEnd}
 use Rattle.px_printer.specs.declared.reply.EditWhy.{EditWhy}
@@ -31,6 +31,7 @@ use Rattle.px_printer.specs.declared.reply.Why.{Why}
 use Rattle.px_printer.specs.declared.reply.Why.TheVariants.{TooLong, TooDeep, TooWide, Full}
 use Rattle.px_printer.specs.declared.turn.Turn.{Turn}
 pub use Rattle.px_turns.specs.Told.{end_told, turn_told}
+use Rattle.px_ends.specs.Trees.{IsTree}
 use Rattle.px_script.specs.declared.command.Command.{Command}
 use Rattle.px_script.specs.declared.command.Command.TheVariants as command
 use Rattle.px_script.specs.declared.limits.TheConstants.{LAST_NUMBER as last_number}
@@ -273,6 +274,15 @@ TellsPursuit problem old name goal vars (reply.Pursuit given searches told end) 
     (given ≡ name) × IsPursuitOf problem goal vars old searches told end new
 TellsPursuit problem old name goal vars answer new = ⊥
 
+-- ---- tree
+
+-- to `tree NAME ..`: the names of the learned tables, and the tree of the search, which has the problem's weight. Nothing changes, and so
+-- nothing is stored.
+abbrev pub TellsTree : Task → ℕ → SessionState → Reply → SessionState → Type 0
+TellsTree task name old (reply.Tree given tables tree) new =
+    (given ≡ name) × (tables ≡ old.learned.names) × IsTree task task.problem.weight tree × (new ≡ old)
+TellsTree task name old answer new = ⊥
+
 -- ---- facts
 
 -- the world's atoms, ascending
@@ -286,7 +296,8 @@ TellsFacts old answer new = ⊥
 abbrev pub recorded_for : ℕ → Bool → List Edit → Recorded Edit
 recorded_for turn between edits = record { turn = turn; between = between; edits = edits }
 
--- In this state the command may have this reply, which leaves that state. A search starts from the world's atoms, with the learned tables.
+-- In this state the command may have this reply, which leaves that state. A search starts from the world's atoms, with the learned tables;
+-- that of a tree has room for as many nodes as the command says.
 abbrev pub Lawful : Problem → SessionState → Command → Reply → SessionState → Type 0
 Lawful problem old (command.Plan name goal vars) answer new =
     TellsSearch (task_of problem old.learned.tables old.atoms goal vars) name old answer new
@@ -302,4 +313,6 @@ Lawful problem old (command.DisturbRooms turn between edits) answer new =
 Lawful problem old (command.Run name bound) answer new = TellsRun problem old name bound answer new
 Lawful problem old (command.Duo first second numbers) answer new = TellsDuo problem old first second numbers answer new
 Lawful problem old (command.Pursue name goal vars) answer new = TellsPursuit problem old name goal vars answer new
+Lawful problem old (command.Tree name nodes goal vars) answer new =
+    TellsTree (task_with problem nodes old.learned.tables old.atoms goal vars) name old answer new
 Lawful problem old command.Facts answer new = TellsFacts old answer new

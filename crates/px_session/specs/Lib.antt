@@ -8,6 +8,7 @@ pub mod Runs
 pub mod ToldRuns
 pub mod ToldDuos
 pub mod ToldPursuits
+pub mod ToldTrees
 pub mod Undisturbed
 pub mod Planning
 pub mod Learning

@@ -5,7 +5,7 @@ use Rattle.px_terms.specs.Validity.{IsAtomOf, IsValid}
 use Rattle.px_rooms.specs.Changes.{edit_schema}
 use Rattle.px_planex.specs.Turns.{Recorded}
 use Rattle.px_script.specs.declared.command.Command.{Command}
-use Rattle.px_script.specs.declared.command.Command.TheVariants.{DisturbAtoms, DisturbRooms, Plan, Pursue}
+use Rattle.px_script.specs.declared.command.Command.TheVariants.{DisturbAtoms, DisturbRooms, Plan, Pursue, Tree}
 use Rattle.px_script.specs.Ranges.{IsEditOf}
 use Rattle.px_session.specs.Sessions.{Edit, SessionState, of_atoms, of_rooms}
 
@@ -32,6 +32,7 @@ HasOwnEdits problem command = All (IsOwnEdit problem) (edits_given command)
 abbrev pub IsOwnGoal : Problem → Command → Type 0
 IsOwnGoal problem (Plan name goal vars) = All (IsAtomOf problem vars) goal
 IsOwnGoal problem (Pursue name goal vars) = All (IsAtomOf problem vars) goal
+IsOwnGoal problem (Tree name nodes goal vars) = All (IsAtomOf problem vars) goal
 IsOwnGoal problem _ = Unit {0}
 
 -- a goal that is pursued is one of the problem, which is valid

@@ -14,7 +14,7 @@ use Rattle.px_search.specs.declared.ends.Found.{Found}
 -- the moves of a plan, the steps that they take, and the rows of their table
 pub record IsFoundPlan (task : Task) (plan : Found) : Type 0 where
   pub found : IsFound task task.problem.weight plan.moves
-  pub few : length plan.moves < task.problem.nodes
+  pub few : length plan.moves < task.nodes
   pub steps : plan.steps ≡ steps_of task.tables [] plan.moves
   pub rows : MovesRows task (initial_node task) [] plan.moves (rows_of plan.support.items)
   pub supports : Supports task.problem task.initial plan.steps task.goal task.vars (rows_of plan.support.items)

@@ -78,6 +78,12 @@ pub(crate) fn run_command(
         Command::Pursue { name, goal, vars } => {
             state.pursue(alloc, problem, *name, goal.as_slice(), *vars, building)
         }
+        Command::Tree {
+            name,
+            nodes,
+            goal,
+            vars,
+        } => state.tree(alloc, problem, *name, *nodes, goal.as_slice(), *vars),
         Command::Edit {
             name,
             from,

@@ -9,6 +9,7 @@ ghost use Rattle.px_session.specs.Runs.{OneKindRuns};
 ghost use Rattle.px_session.specs.ToldDuos.{ToldDuos};
 ghost use Rattle.px_session.specs.ToldPursuits.{ToldPursuits};
 ghost use Rattle.px_session.specs.ToldRuns.{ToldRuns};
+ghost use Rattle.px_session.specs.ToldTrees.{ToldTrees};
 ghost use Rattle.px_session.specs.Undisturbed.{UndisturbedRuns};
 ghost use Rattle.px_session.specs.WorkedDemo.{WorkedDemoLine};
 ghost use Rattle.px_session.specs.WorkedRooms.{WorkedRooms};
@@ -41,8 +42,8 @@ pub fn certificates_are_accepted()
     ensures { CertificatesAreAccepted }
 {}
 
-/// In a session's state each command has a lawful reply: for a plan it can't be that there is none, and for learning it can't be but for a
-/// plan without a general table; nor can it be for editing.
+/// In a session's state each command has a lawful reply: for a plan it can't be that there is none, nor for a pursuit, for a tree and for
+/// editing; and for learning it can't be but for a plan without a general table.
 pub fn replies_exist()
     ensures { RepliesExist }
 {
@@ -60,7 +61,7 @@ pub fn transcripts_exist()
     duos_stay_ready::<Place<'_>>();
 }
 
-/// Each lawful reply to a command that is built has a name for each number that it prints.
+/// Each lawful reply to a command that is built has a name for each number that it prints; and learned tables stay named.
 pub fn replies_are_named()
     ensures { RepliesAreNamed }
 {}
@@ -107,6 +108,13 @@ pub fn told_duos()
 /// finds has more than `n` steps, it has at most `(2 * D + 1) * (n + 1)` turns. It stores and learns nothing.
 pub fn told_pursuits()
     ensures { ToldPursuits }
+{}
+
+/// A tree that a reply prints has no more nodes than the command says, and each is found from one before it. Where the command says as many
+/// nodes as the problem has, the tree ends as the search of a plan for the goal does: solved where that finds a plan, exhausted, with a
+/// further node that as many moves lead to, or at the limit of as many shapes.
+pub fn told_trees()
+    ensures { ToldTrees }
 {}
 
 /// Where one of the turns that a reply prints has sensed kernel `i`, at least 1, of a table of `n` steps, and no edit comes after that

@@ -5,10 +5,10 @@
 //! # Calling it
 //!
 //! - [`Session::new`] takes a [`px_script::Script`] that was read. [`Session::execute`] answers command `k`, each once and in
-//!   order: `plan`, `learn`, `edit`, `show`, `save`, `certify`, `disturb`, `run`, `duo`, `pursue` and `facts`. Its reply is lawful, each
-//!   number that it prints as a name has one, the bytes of a certificate are one, what `save` prints is read back (`px_saved`), and after a
-//!   refusal for memory the session is as it was. Contracts see a session as a `SessionValue` (`specs/Opened`); what it keeps is in
-//!   `specs/KeptSessions`.
+//!   order: `plan`, `learn`, `edit`, `show`, `save`, `certify`, `disturb`, `run`, `duo`, `pursue`, `tree` and `facts`. Its reply is
+//!   lawful, each number that it prints as a name has one, the bytes of a certificate are one, what `save` prints is read back
+//!   (`px_saved`), and after a refusal for memory the session is as it was. Contracts see a session as a `SessionValue` (`specs/Opened`);
+//!   what it keeps is in `specs/KeptSessions`.
 //! - With a building the world's atoms are the facts of a state of it, from the opening on and after each lawful reply, and the building
 //!   takes each recorded edit. A run or a pursuit leaves the state that the edits and steps of its turns leave, one after the other, and
 //!   two executors the one that their steps leave. Any other command leaves the state as it was (`specs/RoomRuns`, [`rooms_are_kept`]).
@@ -16,9 +16,9 @@
 //!   name in the order of learning, and the disturbances that are recorded for the next run. `opening` is the one before the
 //!   first command: its learned tables are those that the script has saved. An `Edit` is one of atoms or one of a building.
 //! - `Lawful` in `specs/Lawful` says which reply a command may have in a state, and which state it leaves: one relation for all
-//!   commands, a line for each. It stands on the ends of a search (`px_ends`), generalising (`px_general`), editing (`px_edit`),
-//!   certificates (`px_cert`), the executor's runs (`px_planex`, `px_turns`), two executors in one world (`px_duo`, `specs/DuoRuns`),
-//!   pursuits (`px_pursue`) and tables by name (`px_library`).
+//!   commands, a line for each. It stands on the ends of a search and its tree (`px_ends`), generalising (`px_general`), editing
+//!   (`px_edit`), certificates (`px_cert`), the executor's runs (`px_planex`, `px_turns`), two executors in one world (`px_duo`,
+//!   `specs/DuoRuns`), pursuits (`px_pursue`) and tables by name (`px_library`).
 //! - `IsSession` is what a session keeps: the world's atoms are a set; the table of each stored plan has no parameters, and its
 //!   own steps delete nothing that its later rows rest on; there are at most 32 learned tables, none of them too long or with a
 //!   proof that is too high. The opening state of a script is like this, and each lawful reply leaves such a state
@@ -34,7 +34,7 @@
 //!   `px_demo` makes. Both are determined ([`answers_are_one`], [`transcripts_are_one`]).
 //! - Which of some causes of a refusal comes first, and that nothing has changed after a name or a parameter is unknown, is in
 //!   `specs/Causes` ([`causes_in_order`]), with some replies that aren't lawful ([`refused_replies`]).
-//! - Each lawful reply has a name for each number that it prints as one (`specs/Named`,
+//! - Each lawful reply has a name for each number that it prints as one, and so have the learned tables (`specs/Named`,
 //!   [`replies_are_named`]).
 //! - A run by edits of atoms alone, or of rooms alone, is a session's run with the same disturbances (`specs/Runs`,
 //!   [`one_kind_runs`]). A run that a reply prints has few turns, and is a trace of its events (`specs/ToldRuns`,
@@ -42,6 +42,8 @@
 //!   each run of a pursuit, whose searches and turns are few; where it ends at the goal, that holds (`specs/ToldPursuits`,
 //!   [`told_pursuits`]). A printed run that has sensed a kernel, and that nothing disturbs after that, reaches the goal
 //!   (`specs/Undisturbed`, [`undisturbed_runs`]).
+//! - A tree has no more nodes than its command says, each found from one before it; and with as many nodes it ends as a plan's search
+//!   does (`specs/ToldTrees`, [`told_trees`]).
 //! - A small script is worked out with its text ([`worked_session`]), and so are the demo's line for five replies ([`worked_demo`]),
 //!   and the states that the turns of a run in a building leave ([`worked_rooms`]).
 //! - The laws are calls that do nothing. No public clause cites `specs/Learning`, `specs/Planning`, `specs/Running` and `specs/Saving`.
@@ -58,6 +60,7 @@ mod commands;
 mod duo_lines;
 mod duo_run;
 mod edit;
+mod growing;
 mod laws;
 mod learning;
 mod place;
@@ -73,7 +76,7 @@ mod stored_runs;
 pub use laws::{
     answers_are_one, causes_in_order, certificates_are_accepted, lawful_is_one, one_kind_runs,
     refused_replies, replies_are_named, replies_exist, rooms_are_kept, sessions_are_kept,
-    tables_stay_writable, told_duos, told_pursuits, told_runs, transcripts_are_one,
+    tables_stay_writable, told_duos, told_pursuits, told_runs, told_trees, transcripts_are_one,
     transcripts_exist, undisturbed_runs, worked_demo, worked_rooms, worked_session,
 };
 pub use session::Session;

@@ -117,7 +117,8 @@ heights-within : (parts : List items.Part) → AllByRecursion (λ h. h ≤ lengt
 heights-within [] = _
 heights-within (an_axiom k place count ts ∷ more) =
     let each = heights-within more in
-    let top = fold-within (length more) (take count (heights_of more)) 0 (omega arith) (take-within (length more) count (heights_of more) each) in
+    let top = fold-within (length more) (take count (heights_of more)) 0 (omega arith)
+    (take-within (length more) count (heights_of more) each) in
     (omega (arith, top), drop-within (length more) count (heights_of more) each)
 heights-within (a_fact column index x ∷ more) = (omega arith, drop-within (length more) 0 (heights_of more) (heights-within more))
 heights-within (an_ancestor k ∷ more) = (omega arith, drop-within (length more) 0 (heights_of more) (heights-within more))

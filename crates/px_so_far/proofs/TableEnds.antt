@@ -88,7 +88,8 @@ pub few-rows : (problem : Problem) (params : ℕ) (sorts : List ℕ) (steps : Li
     (rows : List (List Proof)) → rows_are_table problem params sorts steps goal goal_vars (rows_of rows) ≡ true → length rows ≤ u32_max
 few-rows problem params sorts steps goal goal_vars rows is =
     let one = and_parts (are_in_range problem params steps goal goal_vars) _ is in
-    let two = and_parts _ _ one.1 in let three = and_parts (rows_prove problem.objects params problem.axioms problem steps goal (rows_of rows)) _ two.1 in
+    let two = and_parts _ _ one.1 in
+    let three = and_parts (rows_prove problem.objects params problem.axioms problem steps goal (rows_of rows)) _ two.1 in
     let count = rows-count problem.objects params problem steps goal (rows_of rows) three.0 in
     let few : length steps < u32_max = ltb-true _ _ (and_parts (nat_lt (length steps) u32_max) _ one.0).0 in
     omega (arith, count, few, length-map rows (map derivation_of))
@@ -99,8 +100,12 @@ module _ (problem : Problem) (valid : IsValid problem) (t : OpenTable) where
   pub without-goal : t.has_goal ≡ false → true ≡ is_bad_block problem (table_kind t.has_goal (table_view t))
   without-goal none = rw none refl
 
-  pub too-wide : t.has_goal ≡ true → list_any is_wide t.steps.items ≡ true → true ≡ is_bad_block problem (table_kind t.has_goal (table_view t))
-  too-wide goal wide = rw (goal, no-table problem valid t.parameters _ t.steps.items t.goal.items t.goal_vars (rows_of t.rows.items) wide) refl
+  pub too-wide : t.has_goal ≡ true → list_any is_wide t.steps.items ≡ true
+      → true ≡ is_bad_block problem (table_kind t.has_goal (table_view t))
+  too-wide goal wide = rw (
+    goal,
+    no-table problem valid t.parameters _ t.steps.items t.goal.items t.goal_vars (rows_of t.rows.items) wide,
+  ) refl
 
   pub as-tested : (steps : List OpInst) (sorts : List ℕ) (is_one : Bool) → t.has_goal ≡ true → steps ≡ map step_view t.steps.items
       → sorts ≡ sorts_by_places problem steps t.parameters
@@ -113,7 +118,8 @@ module _ (problem : Problem) (valid : IsValid problem) (t : OpenTable) where
 
   -- a good block has its goal, and its parts make a table
   pub good-table : is_bad_block problem (table_kind t.has_goal (table_view t)) ≡ false
-      → rows_are_table problem t.parameters (sorts_by_places problem (map step_view t.steps.items) t.parameters) (map step_view t.steps.items)
+      → rows_are_table problem t.parameters (sorts_by_places problem (map step_view t.steps.items) t.parameters)
+      (map step_view t.steps.items)
       t.goal.items t.goal_vars (rows_of t.rows.items) ≡ true
   good-table good = by_test t.has_goal (λ goal. not-false _ (rw goal at good)) (λ none. absurd (cc (rw none at good)))
 

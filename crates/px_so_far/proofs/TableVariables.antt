@@ -13,7 +13,7 @@ use Rattle.px_lines.proofs.Numbers.{own}
 use Rattle.px_script.proofs.Lists.{within, number-kept, number-unknown, number-after, number-below}
 use Rattle.px_script.specs.Causes.{is_numbered_by}
 use Rattle.px_script.specs.Declarations.{letter_numbers}
-use Rattle.px_so_far.specs.LineVariables.{IsPlaceOf, goal_names, table_names}
+use Rattle.px_so_far.specs.LineVariables.{IsPlaceAmong, goal_names, table_names}
 
 -- ---- numbers after a letter
 
@@ -74,7 +74,7 @@ decimal-begins = decimal_by_steps BeginsAbove (λ n small. (omega arith, λ some
 
 module _ (v : List ℕ) (parameters : ℕ) where
   abbrev IsPlace : Option ℕ → Type 0
-  IsPlace = IsPlaceOf (letter_numbers 112 parameters) v
+  IsPlace = IsPlaceAmong (letter_numbers 112 parameters) v
 
   no-parameter : ((k : ℕ) → 0 < k → k ≤ parameters → v ≢ 112 ∷ decimal k) → IsPlace None
   no-parameter none = none-from 112 v 1 parameters (λ k above below. none k (omega (arith, above)) (omega (arith, below)))
@@ -100,13 +100,15 @@ module _ (v : List ℕ) (parameters : ℕ) where
       → r ≡ Ok n → n ≤ parameters → get_or ds 0 0 ≢ 48 → get_or ds 0 0 ≢ 43 → (0 < n) × IsPlace (Some (n - 1))
   a-number ds r n few is parses ok small no_zero no_sign =
       let P : Result ℕ _ → Type 0 = λ t. OkIff t ((all_ascii_digits ds ≡ true) × (0 < length ds) × (digits_value 10 ds < 2 ^ 32))
-      (digits_value 10 ds) in let read = subst P ok (parse_plain own 32 ds r parses no_sign) in let value : n ≡ digits_value 10 ds = read.1 in
+      (digits_value 10 ds) in let read = subst P ok (parse_plain own 32 ds r parses no_sign) in
+      let value : n ≡ digits_value 10 ds = read.1 in
       let text : decimal (digits_value 10 ds) ≡ ds
       = decimal-digits_value own ds read.0.0 read.0.1 (λ e. absurd (no_zero e)) (omega (arith, read.0.2)) in
       let above : 0 < n = elim (cases_lt 0 n) [
         | inl some ↦ some
         | inr none ↦ (let zero : digits_value 10 ds ≡ 0
-            = omega (arith, none, value) in absurd (no_zero (ap (λ t. get_or t 0 0) (sym text ∙ ap decimal zero ∙ decimal_digit 0 (omega arith)))))
+            = omega (arith, none, value) in
+            absurd (no_zero (ap (λ t. get_or t 0 0) (sym text ∙ ap decimal zero ∙ decimal_digit 0 (omega arith)))))
       ] in
       let named : v ≡ 112 ∷ decimal n = is ∙ ap (λ t. 112 ∷ t) (sym text) ∙ ap (λ m. 112 ∷ decimal m) (sym value) in
       let found = one-from 112 v 1 parameters n named (omega (arith, small, few)) (omega (arith, above)) (omega (arith, small)) in
@@ -120,7 +122,7 @@ module _ (v : List ℕ) (parameters : ℕ) where
 pub numbered-is : (letter most : ℕ) (v : List ℕ) → has_name v (letter_numbers letter most) ≡ is_numbered_by letter most v
 numbered-is letter most v = list_any-map (bytes_eq v) (λ k. letter ∷ decimal k) (range_with_len 1 most)
 
-pub place-numbered : (letter most : ℕ) (v : List ℕ) (r : Option ℕ) → IsPlaceOf (letter_numbers letter most) v r
+pub place-numbered : (letter most : ℕ) (v : List ℕ) (r : Option ℕ) → IsPlaceAmong (letter_numbers letter most) v r
     → is_some r ≡ is_numbered_by letter most v
 place-numbered letter most v None none = sym none ∙ numbered-is letter most v
 place-numbered letter most v (Some place) is = sym is.0 ∙ numbered-is letter most v
@@ -132,7 +134,7 @@ pub goal-names-are : (codes "g1" ∷ codes "g2" ∷ codes "g3" ∷ codes "g4" �
 unfolding digits
 goal-names-are = refl
 
-pub goal-place : (v : List ℕ) (r : Option ℕ) → r ≡ position (bytes_eq v) goal_names → IsPlaceOf goal_names v r
+pub goal-place : (v : List ℕ) (r : Option ℕ) → r ≡ position (bytes_eq v) goal_names → IsPlaceAmong goal_names v r
 goal-place v None is = by_test (has_name v goal_names) (λ e. absurd (cc (rw (within (bytes_eq v) goal_names, e) at is))) (λ e. e)
 goal-place v (Some place) is = by_test (has_name v goal_names)
     (λ e. (e, let one = rw (within (bytes_eq v) goal_names, e) at is in rw (within (bytes_eq v) goal_names, e) cc))
@@ -141,15 +143,17 @@ goal-place v (Some place) is = by_test (has_name v goal_names)
 -- ---- numbers of both
 
 module _ (v : List ℕ) (parameters : ℕ) where
-  pub a-parameter : (place : ℕ) → IsPlaceOf (letter_numbers 112 parameters) v (Some place) → place ≡ number_in v (table_names parameters)
+  pub a-parameter : (place : ℕ) → IsPlaceAmong (letter_numbers 112 parameters) v (Some place) → place ≡ number_in v (table_names parameters)
   a-parameter place is = is.1 ∙ sym (number-kept v (letter_numbers 112 parameters) goal_names is.0)
 
-  pub of-goal : (place : ℕ) → IsPlaceOf (letter_numbers 112 parameters) v None → IsPlaceOf goal_names v (Some place)
+  pub of-goal : (place : ℕ) → IsPlaceAmong (letter_numbers 112 parameters) v None → IsPlaceAmong goal_names v (Some place)
       → parameters + place ≡ number_in v (table_names parameters)
-  of-goal place none is = ap (λ n. n + place) (sym (numbers-count 112 parameters)) ∙ ap (λ n. length (letter_numbers 112 parameters) + n) is.1
+  of-goal place none is = ap (λ n. n + place) (sym (numbers-count 112 parameters))
+      ∙ ap (λ n. length (letter_numbers 112 parameters) + n) is.1
       ∙ sym (number-after v (letter_numbers 112 parameters) goal_names none is.0)
 
-  pub of-none : IsPlaceOf (letter_numbers 112 parameters) v None → IsPlaceOf goal_names v None → 0 ≡ number_in v (table_names parameters)
+  pub of-none : IsPlaceAmong (letter_numbers 112 parameters) v None → IsPlaceAmong goal_names v None
+      → 0 ≡ number_in v (table_names parameters)
   of-none none other = sym (number-unknown v (table_names parameters) (list_any-both none other))
     where
       list_any-both : has_name v (letter_numbers 112 parameters) ≡ false → has_name v goal_names ≡ false
@@ -160,6 +164,6 @@ module _ (v : List ℕ) (parameters : ℕ) where
           any-both [] none = other
           any-both (x ∷ xs) none = let both = or_parts (bytes_eq v x) (has_name v xs) none in rw (both.0, any-both xs both.1) refl
 
-  pub place-below : (place : ℕ) → IsPlaceOf (letter_numbers 112 parameters) v (Some place) → place < parameters
+  pub place-below : (place : ℕ) → IsPlaceAmong (letter_numbers 112 parameters) v (Some place) → place < parameters
   place-below place is = let below = number-below v (letter_numbers 112 parameters) is.0 in
       omega (arith, is.1, below, numbers-count 112 parameters)

@@ -2,10 +2,11 @@
 use Rattle.std.specs.Prelude.{◌≤◌, ℕ, ◌+◌, List, ◌∷◌, All, length, map, take, drop}
 use Rattle.px_proof.specs.Derivation as derivation
 use Rattle.px_proof.specs.Derivation.{Derivation, derivations}
-use Rattle.px_terms.specs.Limits.{most_arguments, most_parameters}
+use Rattle.px_terms.specs.Limits.{most_parameters}
 use Rattle.px_script.specs.Declarations.{Declared, atom_of, parameters_here, table_term, table_variables}
 use Rattle.px_script.specs.Faults.{highest}
 use Rattle.px_script.specs.Items.{Part, a_fact, an_ancestor, an_axiom}
+use Rattle.px_so_far.specs.Readable.{HasFewArguments}
 use Rattle.px_lines.specs.declared.parts.Part as written
 use Rattle.px_lines.specs.declared.parts.Part.TheVariants as part
 
@@ -24,7 +25,7 @@ with_proof d (an_axiom k place count ts) after =
 
 -- no atom of the part has more arguments than an atom may have
 abbrev pub IsNarrow : written.Part → Type 0
-IsNarrow (part.Fact column index x) = length x.arguments.items ≤ most_arguments
+IsNarrow (part.Fact column index x) = HasFewArguments x
 IsNarrow _ = Unit {0}
 
 -- the part can be given by numbers

@@ -23,9 +23,9 @@ variables_view (variables.Named names) = map text_of names.now
 variables_view (variables.OfTable parameters) = table_names parameters
 
 -- the place of a name among some, counted from 0, if it is one of them
-abbrev pub IsPlaceOf : List (List ℕ) → List ℕ → Option ℕ → Type 0
-IsPlaceOf names v None = has_name v names ≡ false
-IsPlaceOf names v (Some place) = (has_name v names ≡ true) × (place ≡ number_in v names)
+abbrev pub IsPlaceAmong : List (List ℕ) → List ℕ → Option ℕ → Type 0
+IsPlaceAmong names v None = has_name v names ≡ false
+IsPlaceAmong names v (Some place) = (has_name v names ≡ true) × (place ≡ number_in v names)
 
 -- no number of a variable is great
 abbrev pub AreFew : Variables → Type 0

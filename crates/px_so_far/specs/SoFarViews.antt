@@ -48,10 +48,14 @@ abbrev pub table_kind : Bool → WrittenTable → BlockKind
 table_kind true t = of_table_rows t
 table_kind false t = of_table_steps t
 
+-- the block of an open table
+abbrev pub open_table_view : table.OpenTable → BlockKind
+open_table_view t = table_kind t.has_goal (table_view t)
+
 abbrev pub kind_view : ℕ → block.BlockKind → BlockKind
 kind_view number (block.TheVariants.Operator o) = of_operator (operator_view number o)
 kind_view number block.TheVariants.Building = of_building
-kind_view number (block.TheVariants.Table t) = table_kind t.has_goal (table_view t)
+kind_view number (block.TheVariants.Table t) = open_table_view t
 
 abbrev pub open_block_view : ℕ → code.OpenBlock → OpenBlock
 open_block_view number block = record { line = block.line; kind = kind_view number block.kind }
@@ -90,7 +94,7 @@ declared_of so_far = record {
 abbrev pub kind_here : Declared → Option BlockKind
 kind_here d = option_map (λ block. block.kind) d.block
 
--- what a line without a fault leaves, but for that a line stood
+-- what a line without a fault leaves, but for `own_domain` and `begun`
 abbrev pub leaves : ℕ → Declared → Statement → Declared
 leaves n d s = with_all_names (declared_by (line_of s)) (declares n d s)
 

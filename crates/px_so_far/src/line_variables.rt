@@ -4,14 +4,14 @@ ghost use Rattle.px_terms.specs.Limits.{most_formula_variables};
 ghost use Rattle.px_script.specs.Declarations.{Declared, goal_variables, letter_numbers};
 ghost use Rattle.px_script.specs.declared.limits.TheConstants.{LAST_NUMBER as last_number};
 ghost use Rattle.px_so_far.specs.Common.{argument_view, bytes_eq, has_name, number_in, signed_view, text_of};
-ghost use Rattle.px_so_far.specs.LineVariables.{AreFew, IsPlaceOf, goal_names, goal_number_of, table_names, variables_view};
+ghost use Rattle.px_so_far.specs.LineVariables.{AreFew, IsPlaceAmong, goal_names, goal_number_of, table_names, variables_view};
 
 use px_lines::{Argument, SignedAtom};
 
 /// The variables that the arguments of a line may be.
 #[derive(Clone, Copy)]
 pub enum Variables<'names, 'text> {
-    /// These, in the order of their numbers.
+    /// These, in the order of their numbers, which begin with 0.
     Named(&'names [&'text str]),
     /// The parameters of a table with so many, and then the variables of its goal.
     OfTable(u32),
@@ -52,9 +52,10 @@ fn number_among(names: &[&str], name: &str) -> u32
     }
 }
 
-/// Returns the place of a parameter of a table with so many: its name is the letter p and a number from 1, without a leading zero.
+/// Returns the place of a parameter of a table with so many, counted from 0, or `None` where the name is none: its name is the letter p
+/// and a number from 1, without a leading zero.
 pub fn parameter_place(parameters: u32, name: &str) -> Option<u32>
-    ensures { IsPlaceOf (letter_numbers 112 parameters) name.now result }
+    ensures { IsPlaceAmong (letter_numbers 112 parameters) name.now result }
 {
     let digits = name.strip_prefix('p')?;
     if digits.starts_with('0') || digits.starts_with('+') {
@@ -71,9 +72,9 @@ const GOAL_VARIABLES: [&str; 12] = [
     "g1", "g2", "g3", "g4", "g5", "g6", "g7", "g8", "g9", "g10", "g11", "g12",
 ];
 
-/// Returns the place of a variable of a table's goal.
+/// Returns the place of a variable of a table's goal, counted from 0, or `None` where the name is none of g1 to g12.
 pub fn goal_place(name: &str) -> Option<usize>
-    ensures place { IsPlaceOf goal_names name.now result }
+    ensures place { IsPlaceAmong goal_names name.now result }
     ensures within { IfSome result (λ place. place < most_formula_variables) }
 {
     place_among(&GOAL_VARIABLES, name)
@@ -134,9 +135,9 @@ pub fn goal_variables(atoms: &[SignedAtom<'_>]) -> u32
 }
 
 impl Variables<'_, '_> {
-    /// Returns the number of one of them.
+    /// Returns the number of one of them, or 0 where the name is none.
     pub fn number(&self, name: &str) -> u32
-        requires { AreFew self.now }
+        requires few { AreFew self.now }
         ensures { result ≡ number_in name.now (variables_view self.now) }
     {
         match self {

@@ -1,21 +1,25 @@
 //! The problem that the lines so far give.
-ghost use Rattle.std.specs.Prelude.{◌≡◌, ◌≤◌, length, IfOk, OnOk};
+ghost use Rattle.std.specs.Prelude.{◌≡◌, IfOk, OnErr, OnOk};
 ghost use Rattle.px_script.specs.Content.{own_problem};
 ghost use Rattle.px_script.specs.Declarations.{problem_here, filled_up};
 ghost use Rattle.px_so_far.specs.Common.{declared_of};
-ghost use Rattle.px_so_far.specs.Problems.{HasProblem};
+ghost use Rattle.px_so_far.specs.Problems.{HasFewSorts, HasProblem};
 
 use crate::so_far::SoFar;
 use px_base::{NoMemory, Sequence, push};
 use px_names::Kind;
 use px_rooms::{Building, rooms_problem};
 use px_script::{DEFAULT_HEIGHT, DEFAULT_SHAPES, default_nodes, default_weight};
-use px_terms::{ClauseArena, Problem, Schema};
+use px_terms::{ArenaErr, ClauseArena, Problem, Schema};
 use std::alloc::Global;
 
-/// Adds no sort for each object that is past the end of the list.
+/// Appends the sort 0, which is no sort, for each of so many objects that the list doesn't reach.
+///
+/// # Errors
+/// `NoMemory` where there is no memory for them. The list is then as it was.
 pub fn fill_up(alloc: Global, sorts: &mut Vec<u32>, objects: u32) -> Result<(), NoMemory>
-    ensures { OnOk result (sorts.new.items ≡ filled_up objects sorts.old.items) }
+    ensures filled { OnOk result (sorts.new.items ≡ filled_up objects sorts.old.items) }
+    ensures kept { OnErr result (sorts.new.items ≡ sorts.old.items) }
 {
     let missing = (objects as usize).saturating_sub(sorts.len());
     let new = vec![in alloc; 0; missing]?;
@@ -31,7 +35,9 @@ fn copied_axioms(alloc: Global, axioms: &ClauseArena) -> Result<ClauseArena, NoM
     for number in 0..axioms.count() {
         match copy.push(axioms.vars(number), axioms.lits(number)) {
             Ok(_) => {}
-            Err(_) => return Err(NoMemory),
+            Err(ArenaErr::NoMemory) => return Err(NoMemory),
+            Err(ArenaErr::BadLength) => unreachable!(),
+            Err(ArenaErr::Full) => unreachable!(),
         }
     }
     Ok(copy)
@@ -75,7 +81,7 @@ fn weighted(problem: Problem, weight: u32) -> Problem
 impl SoFar {
     /// Returns the problem of the script's own lines, with the limits that they give, or those that hold where they give none.
     fn own_problem(&self) -> Result<Problem, NoMemory>
-        requires { length self.now.sorts.items ≤ 32 }
+        requires few_sorts { HasFewSorts (declared_of self.now) }
         ensures { IfOk result (λ problem. problem ≡ own_problem (declared_of self.now)) }
     {
         let alloc = self.alloc;
@@ -99,9 +105,12 @@ impl SoFar {
         })
     }
 
-    /// Returns the problem that the lines so far give: that of their own, or that of the building with the limits of their own.
+    /// Returns a copy of the problem that the lines so far give: that of their own, or that of the building with the limits of their own.
+    ///
+    /// # Errors
+    /// `NoMemory` where there is no memory for it.
     pub fn problem_here(&self) -> Result<Problem, NoMemory>
-        requires { HasProblem (declared_of self.now) }
+        requires problem { HasProblem (declared_of self.now) }
         ensures { IfOk result (λ problem. problem ≡ problem_here (declared_of self.now)) }
     {
         let own = self.own_problem()?;

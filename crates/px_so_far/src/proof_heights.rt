@@ -10,7 +10,7 @@ use px_lines::Part;
 use px_script::LAST_NUMBER;
 use std::alloc::Global;
 
-/// Returns whether some number of the parts is greater than it may be.
+/// Returns whether some number of the parts is greater than a line of a table's block may have, [`LAST_NUMBER`].
 pub fn any_part_great(parts: &[Part<'_>]) -> bool
     ensures { result ≡ list_any (nat_lt LAST_NUMBER) (flat_map numbers_of_part (map part_view parts.now)) }
 {
@@ -87,7 +87,10 @@ fn heights(alloc: Global, parts: &[Part<'_>]) -> Result<Vec<usize>, NoMemory>
     Ok(made)
 }
 
-/// Returns the height of the highest of the proofs that the parts are, or 0.
+/// Returns the height of the highest of the proofs that the parts are, or 0 where there is none.
+///
+/// # Errors
+/// `NoMemory` where there is no memory for their heights.
 pub fn greatest_height(alloc: Global, parts: &[Part<'_>]) -> Result<usize, NoMemory>
     ensures { IfOk result (λ height. height ≡ highest (heights_of (map part_view parts.now))) }
 {

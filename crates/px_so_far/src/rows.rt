@@ -1,12 +1,13 @@
 //! The proofs of a table's row, made of the parts that are written, from the last part to the first.
 ghost use Rattle.std.specs.Prelude.{◌≡◌, ◌≤◌, drop, length, map, reverse, take, IfOk, OnOk};
-ghost use Rattle.px_terms.specs.Limits.{most_arguments, most_parameters};
+ghost use Rattle.px_terms.specs.Limits.{most_parameters};
 ghost use Rattle.px_proof.specs.ProofTerm.{derivation_of};
 ghost use Rattle.px_script.specs.Items.{an_axiom};
 ghost use Rattle.px_script.specs.Declarations.{atom_of, proofs_read, table_parameters_here, table_variables};
 ghost use Rattle.px_script.specs.declared.limits.TheConstants.{LAST_NUMBER as last_number};
 ghost use Rattle.px_lines.specs.ItemViews.{part_view};
 ghost use Rattle.px_so_far.specs.Common.{argument_view, declared_of, parameters_here, signed_view};
+ghost use Rattle.px_so_far.specs.Readable.{HasFewArguments};
 ghost use Rattle.px_so_far.specs.Heights.{AreReadableParts, IsReadablePart, with_proof};
 
 use crate::line_variables::Variables;
@@ -31,7 +32,7 @@ impl SoFar {
     fn leaf(&self, column: u32, index: u32, atom: &SignedAtom<'_>) -> Leaf
         requires few { length (parameters_here (declared_of self.now)) ≤ most_parameters }
         requires few_parameters { table_parameters_here (declared_of self.now).block ≤ last_number }
-        requires size { length atom.now.arguments.items ≤ most_arguments }
+        requires size { HasFewArguments atom.now }
         ensures { result ≡ record {
           column = column;
           index = index;
@@ -94,7 +95,8 @@ impl SoFar {
     fn proofs_from_last(&self, parts: &[Part<'_>]) -> Result<Vec<Proof>, NoMemory>
         requires readable { AreReadableParts (declared_of self.now) parts.now }
         requires few_parameters { table_parameters_here (declared_of self.now).block ≤ last_number }
-        ensures { IfOk result (λ made. map derivation_of (reverse made.items) ≡ proofs_read (declared_of self.now) (map part_view parts.now)) }
+        ensures { IfOk result (λ made. map derivation_of (reverse made.items)
+            ≡ proofs_read (declared_of self.now) (map part_view parts.now)) }
     {
         let mut made = Vec::new(self.alloc);
         for done in 0..parts.len() {
@@ -103,7 +105,10 @@ impl SoFar {
         Ok(made)
     }
 
-    /// Returns the proofs that the parts are.
+    /// Returns the proofs that the parts are, in the order of the line.
+    ///
+    /// # Errors
+    /// `NoMemory` where there is no memory for them.
     pub fn proofs(&self, parts: &[Part<'_>]) -> Result<Vec<Proof>, NoMemory>
         requires readable { AreReadableParts (declared_of self.now) parts.now }
         requires few_parameters { table_parameters_here (declared_of self.now).block ≤ last_number }

@@ -1,8 +1,10 @@
 //! What the lines so far have declared, and what stands in it under a name.
-ghost use Rattle.std.specs.Prelude.{◌≡◌, ◌<◌, length, None, Some, position, is_some, map, IfSome, MatchOption, ◌≤◌, IfOk};
+ghost use Rattle.std.specs.Prelude.{◌≡◌, ◌<◌, length, None, Some, position, is_some, IfSome, MatchOption, ◌≤◌, IfOk};
 ghost use Rattle.px_names.specs.Lists.{names_of};
 ghost use Rattle.px_script.specs.Declarations.{table_here, table_parameters_here};
-ghost use Rattle.px_so_far.specs.SoFarViews.{kind_here, table_kind, table_view};
+ghost use Rattle.px_script.specs.declared.limits.TheConstants.{SORTS as most_sorts};
+ghost use Rattle.px_so_far.specs.Problems.{HasFewSorts};
+ghost use Rattle.px_so_far.specs.SoFarViews.{kind_here, open_table_view};
 ghost use Rattle.px_so_far.specs.Common.{bytes_eq, string_bytes, has_name, operator_here, parameters_here, number_in, declared_of, operator_view, has_building, nothing_declared};
 
 use crate::blocks::{BlockKind, OpenBlock, OpenOperator};
@@ -16,7 +18,7 @@ use px_terms::{ClauseArena, Schema};
 use px_world::Thing;
 use std::alloc::Global;
 
-/// Returns where the name stands in a list.
+/// Returns the place of the name in a list, counted from 0, or `None` where it isn't in it.
 pub fn place_of(name: &str, names: &[String]) -> Option<usize>
     ensures number { result ≡ position (λ other. bytes_eq name.now (string_bytes other)) names.now }
     ensures within { IfSome result (λ number. number < length names.now) }
@@ -27,17 +29,21 @@ pub fn place_of(name: &str, names: &[String]) -> Option<usize>
 /// What the lines so far have declared.
 #[derive(Drop)]
 pub struct SoFar {
+    /// The allocator of all that it has.
     pub alloc: Global,
     /// The version of the language.
     pub version: u32,
     /// The names of objects, predicates, operators and results.
     pub names: Names,
-    /// The objects that are rooms, doors and boxes of a building.
+    /// The objects that are rooms of a building.
     pub rooms: Vec<String>,
+    /// The objects that are doors of a building.
     pub doors: Vec<String>,
+    /// The objects that are boxes of a building.
     pub boxes: Vec<String>,
-    /// The results that are plans, and those that are tables.
+    /// The results that are plans, each of which is a table, too.
     pub plans: Vec<String>,
+    /// The results that are tables.
     pub tables: Vec<String>,
     /// The names of the sorts.
     pub sorts: Vec<String>,
@@ -45,32 +51,41 @@ pub struct SoFar {
     pub object_sorts: Vec<u32>,
     /// How many arguments each predicate has.
     pub arities: Vec<u8>,
+    /// The axioms.
     pub axioms: ClauseArena,
     /// The operators whose blocks are closed.
     pub schemas: Vec<Schema>,
+    /// The facts of the script's own lines.
     pub facts: Model,
     /// The things of the building, if there is one.
     pub things: Option<Vec<Thing>>,
-    /// The limits of the search and its weight, where a line gave them.
+    /// The greatest height of a proof, where a line gave it.
     pub height: Option<u32>,
+    /// How many nodes a search may have, where a line gave it.
     pub nodes: Option<u32>,
+    /// How many shapes of questions a proof may have, where a line gave it.
     pub shapes: Option<u32>,
+    /// The weight of the search, where a line gave it.
     pub weight: Option<u32>,
     /// The tables whose blocks are closed, each with the number of its name.
     pub saved: Vec<(u32, Table)>,
+    /// The commands, in their order.
     pub commands: Vec<Command>,
     /// How many lines `disturb` stood since the last `run`.
     pub disturbs: u32,
     /// The block that is open, if one is.
     pub block: Option<OpenBlock>,
-    /// A line stood that a building excludes.
+    /// Whether a line stood that a building excludes.
     pub own_domain: bool,
-    /// A line with tokens stood.
+    /// Whether a line with tokens stood.
     pub begun: bool,
 }
 
 impl SoFar {
-    /// Returns what is declared before the first line: nothing.
+    /// Returns what is declared before the first line: nothing, in version 1.
+    ///
+    /// # Errors
+    /// `NoMemory` where there is no memory for it.
     pub fn new(alloc: Global) -> Result<SoFar, NoMemory>
         ensures { IfOk result (λ so_far. declared_of so_far ≡ nothing_declared) }
     {
@@ -110,24 +125,24 @@ impl SoFar {
         self.names.find(kind, name).is_some()
     }
 
-    /// Returns the number of a name in its kind.
+    /// Returns the number of a name in its kind, or 0 where it isn't declared.
     pub fn number(&self, kind: Kind, name: &str) -> u32
         ensures { result ≡ number_in name.now (names_of kind self.now.names) }
     {
         self.names.find(kind, name).unwrap_or(0)
     }
 
-    /// Returns the number of an object.
+    /// Returns the number of an object, or 0 where it isn't declared.
     pub fn object(&self, name: &str) -> u32
         ensures { result ≡ number_in name.now self.now.names.objects }
     {
         self.number(Kind::Object, name)
     }
 
-    /// Returns the operator whose block is open.
+    /// Returns the operator whose block is open, if one is.
     pub fn open_operator(&self) -> Option<&OpenOperator>
         ensures { MatchOption result (operator_here (declared_of self.now).block ≡ None)
-            (λ o. operator_here (declared_of self.now).block ≡ Some (operator_view (length self.now.schemas.items) o.now)) }
+            (λ o. operator_here (declared_of self.now).block ≡ Some (operator_view (length (declared_of self.now).schemas) o.now)) }
     {
         match &self.block.as_ref()?.kind {
             BlockKind::Operator(operator) => Some(operator),
@@ -135,10 +150,10 @@ impl SoFar {
         }
     }
 
-    /// Returns the table whose block is open.
+    /// Returns the table whose block is open, if one is.
     pub fn open_table(&self) -> Option<&OpenTable>
         ensures { MatchOption result (table_here (declared_of self.now).block ≡ None)
-            (λ t. kind_here (declared_of self.now) ≡ Some (table_kind t.now.has_goal (table_view t.now))) }
+            (λ t. kind_here (declared_of self.now) ≡ Some (open_table_view t.now)) }
     {
         match &self.block.as_ref()?.kind {
             BlockKind::Table(table) => Some(table),
@@ -146,7 +161,7 @@ impl SoFar {
         }
     }
 
-    /// Returns which parameter of the open operator the name is.
+    /// Returns which parameter of the open operator the name is, counted from 0, or `None` where it is none or no operator is open.
     #[tactic(auto, using(crate::proofs::AtomTests::positions))]
     pub fn parameter(&self, name: &str) -> Option<usize>
         ensures number { result ≡ position (bytes_eq name.now) (parameters_here (declared_of self.now)) }
@@ -170,9 +185,9 @@ impl SoFar {
     /// Returns how many sorts there are.
     #[tactic(auto, using(crate::proofs::AtomTests::lengths))]
     pub fn sort_count(&self) -> u32
-        requires { length self.now.sorts.items ≤ 32 }
-        ensures number { result ≡ length (map string_bytes self.now.sorts.items) }
-        ensures few { result ≤ 32 }
+        requires few_sorts { HasFewSorts (declared_of self.now) }
+        ensures number { result ≡ length (declared_of self.now).sorts }
+        ensures few { result ≤ most_sorts }
     {
         self.sorts.len() as u32
     }

@@ -1,8 +1,9 @@
 //! Terms, atoms and edits by numbers.
 ghost use Rattle.std.specs.Prelude.{◌≡◌, ◌≤◌, length, map, nat_lt, fold, IfOk, OnOk};
-ghost use Rattle.px_terms.specs.Limits.{most_arguments, most_formula_variables, most_parameters};
+ghost use Rattle.px_terms.specs.Limits.{most_formula_variables, most_parameters};
 ghost use Rattle.px_script.specs.Declarations.{table_parameters_here, table_term, table_variables};
 ghost use Rattle.px_script.specs.declared.limits.TheConstants.{LAST_NUMBER as last_number};
+ghost use Rattle.px_so_far.specs.Readable.{HasFewArguments};
 ghost use Rattle.px_so_far.specs.LineVariables.{AreFew, variables_view};
 ghost use Rattle.px_so_far.specs.Common.{parameters_here, term_of, atom_of, literal_of, atom_edit_of, room_edit_of, binding_of, variable_names_of, AreReadable, with_variable, declared_of, argument_view, signed_view, room_edit_view, binding_view, text_of};
 
@@ -16,9 +17,10 @@ use px_terms::{Atom, Lit, MOST_ARGUMENTS, MOST_FORMULA_VARIABLES, Term};
 use px_world::{AtomEdit, RoomEdit};
 use std::alloc::Global;
 
-/// Adds a variable that isn't there yet.
+/// Appends the argument's variable, if it is one that isn't in the list yet.
 fn add_variable<'a>(variables: &mut Vec<&'a str>, argument: &Argument<'a>) -> Result<(), NoMemory>
-    ensures { OnOk result (map text_of variables.new.items ≡ with_variable (map text_of variables.old.items) (argument_view argument.now)) }
+    ensures { OnOk result (map text_of variables.new.items
+        ≡ with_variable (map text_of variables.old.items) (argument_view argument.now)) }
 {
     let Argument::Variable(name) = argument else {
         return Ok(());
@@ -44,9 +46,12 @@ fn add_variables<'a>(
 }
 
 /// Returns the different variables of the atoms, by first occurrence.
+///
+/// # Errors
+/// `NoMemory` where there is no memory for them.
 pub fn variables<'a>(alloc: Global, atoms: &[SignedAtom<'a>]) -> Result<Vec<&'a str>, NoMemory>
     ensures names { IfOk result (λ found. map text_of found.items ≡ variable_names_of (map signed_view atoms.now)) }
-    ensures few { IfOk result (λ found. length found.items ≡ length (variable_names_of (map signed_view atoms.now))) }
+    ensures count { IfOk result (λ found. length found.items ≡ length (variable_names_of (map signed_view atoms.now))) }
 {
     let mut variables = Vec::new(alloc);
     for atom in atoms {
@@ -55,7 +60,11 @@ pub fn variables<'a>(alloc: Global, atoms: &[SignedAtom<'a>]) -> Result<Vec<&'a 
     Ok(variables)
 }
 
-/// Returns whether the atoms, each with as many arguments as its predicate, have more than [`MOST_FORMULA_VARIABLES`] different variables.
+/// Returns whether the atoms have more than [`MOST_FORMULA_VARIABLES`] different variables. Stops at the atom with which there are more, so
+/// that it takes little memory where each atom has few arguments.
+///
+/// # Errors
+/// `NoMemory` where there is no memory for the variables.
 #[tactic(auto, using(crate::proofs::VariableNames::seen))]
 pub fn has_many_variables(alloc: Global, atoms: &[SignedAtom<'_>]) -> Result<bool, NoMemory>
     ensures { IfOk result (λ many. many ≡ nat_lt most_formula_variables (length (variable_names_of (map signed_view atoms.now)))) }
@@ -87,11 +96,11 @@ impl SoFar {
         }
     }
 
-    /// Returns an atom by numbers, with these variables.
+    /// Returns an atom by numbers, with these variables: of a name that isn't declared, and a variable that is none of these, the number 0.
     pub fn atom(&self, variables: &Variables<'_, '_>, atom: &SignedAtom<'_>) -> Atom
         requires few { length (parameters_here (declared_of self.now)) ≤ most_parameters }
         requires few_variables { AreFew variables.now }
-        requires size { length atom.now.arguments.items ≤ most_arguments }
+        requires size { HasFewArguments atom.now }
         ensures { result ≡ atom_of (declared_of self.now) (variables_view variables.now) (signed_view atom.now) }
     {
         let predicate = self.number(Kind::Predicate, atom.predicate);
@@ -103,6 +112,9 @@ impl SoFar {
     }
 
     /// Returns the arguments by numbers, with these variables.
+    ///
+    /// # Errors
+    /// `NoMemory` where there is no memory for them.
     pub fn terms(
         &self,
         variables: &Variables<'_, '_>,
@@ -121,6 +133,9 @@ impl SoFar {
     }
 
     /// Returns the arguments by numbers, where they stand in a table's block.
+    ///
+    /// # Errors
+    /// `NoMemory` where there is no memory for them.
     pub fn table_terms(&self, arguments: &[Argument<'_>]) -> Result<Vec<Term>, NoMemory>
         requires few { length (parameters_here (declared_of self.now)) ≤ most_parameters }
         requires few_parameters { table_parameters_here (declared_of self.now).block ≤ last_number }
@@ -130,6 +145,9 @@ impl SoFar {
     }
 
     /// Returns the atoms by numbers, where they stand in a table's block.
+    ///
+    /// # Errors
+    /// `NoMemory` where there is no memory for them.
     pub fn table_atoms(&self, atoms: &[SignedAtom<'_>]) -> Result<Vec<Atom>, NoMemory>
         requires readable { AreReadable (declared_of self.now) atoms.now }
         requires few_parameters { table_parameters_here (declared_of self.now).block ≤ last_number }
@@ -140,6 +158,9 @@ impl SoFar {
     }
 
     /// Returns the atoms by numbers, with these variables.
+    ///
+    /// # Errors
+    /// `NoMemory` where there is no memory for them.
     // Alike: `literals`, which gives each atom its sign.
     pub fn atoms(
         &self,
@@ -159,6 +180,9 @@ impl SoFar {
     }
 
     /// Returns the atoms by numbers, with these variables, each with its sign.
+    ///
+    /// # Errors
+    /// `NoMemory` where there is no memory for them.
     pub fn literals(
         &self,
         variables: &Variables<'_, '_>,
@@ -181,7 +205,7 @@ impl SoFar {
 
     fn atom_edit(&self, atom: &SignedAtom<'_>) -> AtomEdit
         requires few { length (parameters_here (declared_of self.now)) ≤ most_parameters }
-        requires size { length atom.now.arguments.items ≤ most_arguments }
+        requires size { HasFewArguments atom.now }
         ensures { result ≡ atom_edit_of (declared_of self.now) (signed_view atom.now) }
     {
         let edited = self.atom(&Variables::Named(&[]), atom);
@@ -191,9 +215,12 @@ impl SoFar {
         }
     }
 
-    /// Returns the edits of atoms by numbers.
+    /// Returns the edits of atoms by numbers: one with the sign of an added atom adds it, and each other one removes it.
+    ///
+    /// # Errors
+    /// `NoMemory` where there is no memory for them.
     pub fn atom_edits(&self, atoms: &[SignedAtom<'_>]) -> Result<Vec<AtomEdit>, NoMemory>
-        requires { AreReadable (declared_of self.now) atoms.now }
+        requires readable { AreReadable (declared_of self.now) atoms.now }
         ensures { IfOk result (λ numbered. numbered.items ≡ map (λ x. atom_edit_of (declared_of self.now) (signed_view x)) atoms.now) }
     {
         let mut edits = Vec::new(self.alloc);
@@ -217,6 +244,9 @@ impl SoFar {
     }
 
     /// Returns the edits of a building by numbers.
+    ///
+    /// # Errors
+    /// `NoMemory` where there is no memory for them.
     pub fn room_edits(&self, edits: &[WrittenRoomEdit<'_>]) -> Result<Vec<RoomEdit>, NoMemory>
         ensures { IfOk result (λ numbered. numbered.items
             ≡ map (λ edit. room_edit_of (declared_of self.now) (room_edit_view edit)) edits.now) }
@@ -232,6 +262,9 @@ impl SoFar {
     }
 
     /// Returns the bindings by numbers.
+    ///
+    /// # Errors
+    /// `NoMemory` where there is no memory for them.
     pub fn bindings(&self, bindings: &[WrittenBinding<'_>]) -> Result<Vec<Binding>, NoMemory>
         ensures { IfOk result (λ numbered. numbered.items
             ≡ map (λ b. binding_of (declared_of self.now) (binding_view b)) bindings.now) }

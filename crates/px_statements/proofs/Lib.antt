@@ -1,3 +1,4 @@
 -- The files of lemmas.
 pub mod Common
 pub mod Times
+pub mod Shown

@@ -1,9 +1,17 @@
 -- What the definitions see of statements.
-use Rattle.std.specs.Prelude.{map}
+use Rattle.std.specs.Prelude.{ℕ, List, map}
 use Rattle.px_script.specs.Statements as spec
 use Rattle.px_lines.specs.ItemViews.{binding_view, room_edit_view, signed_view, text_of, argument_view, part_view}
+use Rattle.px_statements.specs.declared.statement_kinds.About.{About}
+use Rattle.px_statements.specs.declared.statement_kinds.About.TheVariants as about
 use Rattle.px_statements.specs.declared.statement_kinds.Statement.{Statement}
 use Rattle.px_statements.specs.declared.statement_kinds.Statement.TheVariants as statement
+
+-- a command that only names a table
+abbrev pub asked : About → List ℕ → spec.Statement
+asked about.Show n = spec.show n
+asked about.Save n = spec.save n
+asked about.Certify n = spec.certify n
 
 abbrev pub statement_view : Statement → spec.Statement
 statement_view (statement.Script n) = spec.script n
@@ -27,7 +35,7 @@ statement_view (statement.Shapes n) = spec.shapes n
 statement_view (statement.Weight n) = spec.weight n
 statement_view (statement.Plan n atoms) = spec.plan n.now (map signed_view atoms.now)
 statement_view (statement.Learn n source) = spec.learn n.now source.now
-statement_view (statement.Show n) = spec.show n.now
+statement_view (statement.Ask what n) = asked what n.now
 statement_view (statement.DisturbAtoms turn between edits) = spec.disturb_atoms turn between (map signed_view edits.now)
 statement_view (statement.DisturbRooms turn between edits) = spec.disturb_rooms turn between (map room_edit_view edits.now)
 statement_view (statement.Run n bindings) = spec.run n.now (map binding_view bindings.now)
@@ -38,8 +46,7 @@ statement_view (statement.Table n parameters) = spec.table n.now parameters
 statement_view (statement.Step o ts) = spec.step o.now (map argument_view ts.now)
 statement_view (statement.Goal atoms) = spec.goal (map signed_view atoms.now)
 statement_view (statement.Proof parts) = spec.proof (map part_view parts.now)
-statement_view (statement.Save n) = spec.save n.now
-statement_view (statement.Certify n) = spec.certify n.now
 statement_view (statement.Edit n source prefix ps) = spec.edit n.now source.now prefix ps.now
 statement_view (statement.Pursue n atoms) = spec.pursue n.now (map signed_view atoms.now)
+statement_view (statement.Tree n most atoms) = spec.tree n.now most (map signed_view atoms.now)
 statement_view (statement.Param n ps) = spec.param n.now (map text_of ps.now)

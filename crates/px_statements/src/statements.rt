@@ -3,12 +3,12 @@ ghost use Rattle.std.specs.Prelude.{◌≡◌, ◌++◌, ℕ, List, ◌∷◌, S
 ghost use Rattle.px_script.specs.Items as items;
 ghost use Rattle.px_script.specs.Statements as spec;
 ghost use Rattle.px_script.specs.Statements.{time_word};
-ghost use Rattle.px_script.proofs.Rows.{entries_of_three, entries_of_two, entry_among, entry_of, make_atoms, make_box, make_disturb, make_door, make_duo, make_edit, make_learn, make_nothing, make_number, make_object, make_of_table, make_operator, make_param, make_plan, make_predicate, make_proof, make_pursue, make_robot, make_room, make_run, make_show, make_sort, make_step, make_table, row_among, row_of, statement_of};
+ghost use Rattle.px_script.proofs.Rows.{entries_of_three, entries_of_two, entry_among, entry_of, make_atoms, make_box, make_disturb, make_door, make_duo, make_edit, make_learn, make_nothing, make_number, make_object, make_of_table, make_operator, make_param, make_plan, make_predicate, make_proof, make_pursue, make_robot, make_room, make_run, make_show, make_sort, make_step, make_table, make_tree, row_among, row_of, statement_of};
 ghost use Rattle.px_lines.specs.ItemViews.{rest_view, said_items};
 ghost use Rattle.px_lines.specs.LineViews.{line_view, IsShaped};
-ghost use Rattle.px_statements.specs.Common.{bytes_eq, option_and_then, option_map, time_of, signed_view, statement_view};
+ghost use Rattle.px_statements.specs.Common.{asked, bytes_eq, option_and_then, option_map, time_of, signed_view, statement_view};
 
-use crate::statement_kinds::Statement;
+use crate::statement_kinds::{About, Statement};
 use px_lines::{Line, Rest, Said, SignedAtom, open_of};
 use px_script::Named;
 
@@ -351,6 +351,7 @@ fn learned<'line, 'text>(
     }
 }
 
+#[tactic(auto, using(crate::proofs::Shown::shown))]
 fn show<'line, 'text>(
     ones: &[Said<'text>],
     last: &'line Rest<'text>,
@@ -358,13 +359,7 @@ fn show<'line, 'text>(
     requires { length ones.now ≡ 1 }
     ensures { option_map statement_view result ≡ make_show (said_items ones.now last.now) }
 {
-    match ones {
-        [Said::Known(Named::Table, name)] => match last {
-            Rest::Nothing => Some(Statement::Show(name)),
-            _ => None,
-        },
-        _ => None,
-    }
+    asked(About::Show, ones, last)
 }
 
 /// Returns whether the word says that edits come between sensing and acting, or before both.
@@ -588,24 +583,16 @@ fn table<'text>(ones: &[Said<'text>], last: &Rest<'_>) -> Option<&'text str>
     }
 }
 
-fn save<'line, 'text>(
+/// Returns the command about the table that a line names alone.
+fn asked<'line, 'text>(
+    about: About,
     ones: &[Said<'text>],
     last: &'line Rest<'text>,
 ) -> Option<Statement<'line, 'text>>
     requires { length ones.now ≡ 1 }
-    ensures { option_map statement_view result ≡ make_of_table spec.save (said_items ones.now last.now) }
+    ensures { option_map statement_view result ≡ make_of_table (asked about) (said_items ones.now last.now) }
 {
-    Some(Statement::Save(table(ones, last)?))
-}
-
-fn certify<'line, 'text>(
-    ones: &[Said<'text>],
-    last: &'line Rest<'text>,
-) -> Option<Statement<'line, 'text>>
-    requires { length ones.now ≡ 1 }
-    ensures { option_map statement_view result ≡ make_of_table spec.certify (said_items ones.now last.now) }
-{
-    Some(Statement::Certify(table(ones, last)?))
+    Some(Statement::Ask(about, table(ones, last)?))
 }
 
 fn edited<'line, 'text>(
@@ -656,6 +643,22 @@ fn pursue<'line, 'text>(
     match ones {
         [Said::New(Named::Result, name)] => match last {
             Rest::Atoms(goal) => Some(Statement::Pursue(name, goal.as_slice())),
+            _ => None,
+        },
+        _ => None,
+    }
+}
+
+fn tree<'line, 'text>(
+    ones: &[Said<'text>],
+    last: &'line Rest<'text>,
+) -> Option<Statement<'line, 'text>>
+    requires { length ones.now ≡ 2 }
+    ensures { option_map statement_view result ≡ make_tree (said_items ones.now last.now) }
+{
+    match ones {
+        [Said::New(Named::Result, name), Said::Number(nodes)] => match last {
+            Rest::Atoms(goal) => Some(Statement::Tree(name, *nodes, goal.as_slice())),
             _ => None,
         },
         _ => None,
@@ -721,8 +724,8 @@ fn made_of_two<'line, 'text>(
         "step" => step(ones, last),
         "goal" => goal(ones, last),
         "proof" => proof(ones, last),
-        "save" => save(ones, last),
-        "certify" => certify(ones, last),
+        "save" => asked(About::Save, ones, last),
+        "certify" => asked(About::Certify, ones, last),
         "edit" => edit(ones, last),
         "pursue" => pursue(ones, last),
         _ => made_of_three(word, ones, last),
@@ -741,16 +744,18 @@ fn made_of_three<'line, 'text>(
 {
     match word {
         "weight" => weight(ones, last),
+        "tree" => tree(ones, last),
         _ => None,
     }
 }
 
-/// Returns the statement that a line is, in a script with or without a building so far.
+/// Returns the statement that a line in its form is, in a script with or without a building so far, or `None` where it is none: a word of
+/// few, such as `open`, is another one.
 pub fn statement<'line, 'text>(
     with_building: bool,
     line: &'line Line<'text>,
 ) -> Option<Statement<'line, 'text>>
-    requires { IsShaped with_building line.now }
+    requires shaped { IsShaped with_building line.now }
     ensures { option_map statement_view result ≡ statement_of with_building (line_view line.now) }
 {
     made(with_building, line.row.word, &line.ones, &line.last)

@@ -19,7 +19,7 @@ module _ (task : Task) (weight : ℕ) (moves : List Move) (found : IsFound task 
   can = made (space_of task) (order_by task weight) found.stop.begins.1.0 (found.earlier ++ moves ∷ []) found.stop.begins.0
       found.stop.begins.1.1 moves (Contains-push found.earlier moves)
 
-  few : length moves < task.problem.nodes
+  few : length moves < task.nodes
   few =
       let short = few-moves (space_of task) (order_by task weight) found.stop.begins.1.0 (found.earlier ++ moves ∷ []) found.stop.begins.0
       found.stop.begins.1.1 (length found.earlier) moves (at_end found.earlier moves) in

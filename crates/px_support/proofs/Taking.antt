@@ -10,8 +10,9 @@ use Rattle.px_table.specs.declared.entry.Move.TheVariants.{Apply, Push}
 use Rattle.px_table.specs.declared.node.Node.{Node}
 use Rattle.px_gaps.specs.Needs.{Obligation, IsApplicable}
 use Rattle.px_gaps.specs.Questions.{MeetsLimit, Proving, Question, AsksOf}
-use Rattle.px_ends.proofs.Frontier.{reached-append}
-use Rattle.px_ends.proofs.MoveLaws.{order, same_move}
+use Rattle.px_order.specs.Frontier.{reached-append}
+use Rattle.px_ends.proofs.MoveLaws.{order}
+use Rattle.px_ends.specs.ByValue.{space_of}
 use Rattle.px_ends.specs.Ends.{AreMoves, node_of}
 use Rattle.px_ends.specs.Moves.{CanMake, reached}
 use Rattle.px_ends.specs.Order.{IsBefore}
@@ -26,7 +27,7 @@ module _ (task : Task) where
   allowed-there node (k ∷ ms) m rest can = allowed-there (after task node k) ms m rest can.1
 
   one-more : (p : List Move) (m : Move) → node_of task (p ++ m ∷ []) ≡ after task (node_of task p) m
-  one-more p m = reached-append (IsAllowed task) (after task) IsBefore (initial_node task) order same_move (initial_node task) p (m ∷ [])
+  one-more p m = reached-append (space_of task) IsBefore order (initial_node task) p (m ∷ [])
 
   -- no question about what the node needs that these moves reach meets the limit
   abbrev pub IsBelowAt : List Move → Type 0

@@ -20,7 +20,7 @@ use Rattle.px_proof.specs.PlaceLaws.{All-got, slice_get-map}
 use Rattle.px_proof.specs.Proves.{Proves, ProvesEach, instance_of, parts_of, from_atoms, IsObjectOrParameter}
 use Rattle.px_proof.specs.Substitution.{derivation_under, derivations_under}
 use Rattle.px_proof.specs.SubstitutionLaws.{each_choice, instance_twice, name_under, parts_under}
-use Rattle.px_ends.proofs.Frontier.{order_of}
+use Rattle.px_order.specs.Places.{order_of}
 use Rattle.px_table.specs.declared.table.Table.{Table}
 use Rattle.px_table.specs.Prefixes.{IsMacro, IsUsed}
 use Rattle.px_support.proofs.Lists.{each-number}

@@ -1,6 +1,6 @@
 -- What a search is asked, as the code has it, and what has to be found by the prover on the way.
 use Rattle.std.specs.Prelude.{◌≢◌, ◌<◌, ◌≤◌, List, [], ◌∷◌, All}
-use Rattle.px_terms.specs.Limits.{most_formula_variables}
+use Rattle.px_terms.specs.Limits.{most_formula_variables, most_nodes}
 use Rattle.px_terms.specs.declared.problem.Problem.{Problem}
 use Rattle.px_terms.specs.Validity.{IsValid, IsAtomOf}
 use Rattle.px_proof.specs.declared.shape.Tick.{Tick}
@@ -12,15 +12,16 @@ use Rattle.px_table.specs.declared.node.Node.{Node}
 use Rattle.px_entries.specs.Entries.{IsEntry}
 use Rattle.px_gaps.specs.Needs.{Obligation, HasAnswer}
 use Rattle.px_entries.specs.Learned.{AreLearned}
-use Rattle.px_ends.specs.Tasks.{Task, after, goal_from, needs_at, task_of}
+use Rattle.px_ends.specs.Tasks.{Task, after, goal_from, needs_at, task_with}
 use Rattle.px_support.specs.declared.asked.Asked.{Asked}
 
 abbrev pub task_for : Asked → Task
-task_for asked = task_of asked.problem.now asked.tables.now asked.initial.now.atoms asked.goal.now asked.vars
+task_for asked = task_with asked.problem.now asked.nodes asked.tables.now asked.initial.now.atoms asked.goal.now asked.vars
 
 -- what may be asked
 pub record IsAskable (asked : Asked) : Type 0 where
   pub valid : IsValid asked.problem.now
+  pub nodes : (1 ≤ asked.nodes) × (asked.nodes ≤ most_nodes)
   pub tables : AreLearned asked.problem.now asked.tables.now
   pub goal : All (IsAtomOf asked.problem.now asked.vars) asked.goal.now
   pub few_variables : asked.vars ≤ most_formula_variables

@@ -9,7 +9,7 @@ use Rattle.px_support.specs.Asking.{AreTakeable}
 -- the moves can be made, are fewer than the nodes that may be kept, and the prover finds what is needed to take them
 pub record AreFoundMoves (task : Task) (moves : List Move) : Type 0 where
   pub can : AreMoves task moves
-  pub few : length moves < task.problem.nodes
+  pub few : length moves < task.nodes
   pub takeable : AreTakeable task (initial_node task) moves
 
 -- the moves that a search with a weight found are such

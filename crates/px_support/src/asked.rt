@@ -10,6 +10,8 @@ use std::alloc::Global;
 pub struct Asked<'a> {
     pub alloc: Global,
     pub problem: &'a Problem,
+    /// How many nodes may be kept.
+    pub nodes: u32,
     pub tables: &'a [Table],
     pub initial: &'a Model,
     pub goal: &'a [Atom],

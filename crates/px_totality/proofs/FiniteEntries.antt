@@ -19,7 +19,7 @@ use Rattle.px_table.specs.Prefixes.{IsMacro, IsUsed}
 use Rattle.px_table.specs.Tables.{empty_table}
 use Rattle.px_entries.specs.Entries.{IsEntry, table_at}
 use Rattle.px_ends.specs.Tasks.{IsAllowed, Task}
-use Rattle.px_ends.proofs.Frontier.{order_of, place-within}
+use Rattle.px_order.specs.Places.{order_of, place-within-list}
 use Rattle.px_totality.specs.Finite.{IsFinite}
 use Rattle.px_totality.proofs.FiniteLaws.{finite_below, finite_each, finite_either, finite_image, finite_lists, finite_one, finite_weaker}
 
@@ -100,7 +100,7 @@ module _ (problem : Problem) where
         let same : table ≡ table_at tables number = sym (ap (λ o. unwrap_or o empty_table) at) in
         let here = subst (λ (t : Table). IsMacro problem t prefix sigma) same is in (
           number,
-          place-within tables number table at,
+          place-within-list tables number table at,
           (
             prefix,
             omega (arith, here.within),

@@ -4,6 +4,9 @@ pub mod Least
 pub mod NextStep
 pub mod FiniteEntries
 pub mod SomeEnd
+pub mod TreesExist
+pub mod FromBreadth
+pub mod WeightNone
 pub mod AnswerRows
 pub mod Sources
 pub mod MacroRows

@@ -35,7 +35,7 @@ module _ (task : Task) (weight : ℕ) where
     unsolved = over.unsolved;
     room = over.room;
   }))
-  ends-unlimited unlimited (inl stops) = elim (order_of (length stops.earlier) task.problem.nodes) [
+  ends-unlimited unlimited (inl stops) = elim (order_of (length stops.earlier) task.nodes) [
     | inl room ↦ inl (stops.last, record { unlimited = unlimited; earlier = stops.earlier; stop = stops.stop; room = room })
     | inr full ↦ inr (inr (inl (
       map (node_of task) stops.earlier,

@@ -1,7 +1,8 @@
 //! Laws about the definitions. The calls do nothing.
 ghost use Rattle.px_totality.specs.FoundTables.{FoundHaveTables};
 ghost use Rattle.px_totality.specs.RunsEnd.{RunsEnd};
-ghost use Rattle.px_totality.specs.SearchEnds.{SearchesEnd};
+ghost use Rattle.px_totality.specs.SearchEnds.{SearchesEnd, TreesExist};
+ghost use Rattle.px_totality.specs.WeightNone.{WeightNoneIsExactlyBreadth};
 
 use px_planex::traces_exist;
 use px_world::World;
@@ -10,6 +11,16 @@ use px_world::World;
 /// limit of nodes or that of shapes.
 pub fn searches_end()
     ensures { SearchesEnd }
+{}
+
+/// There is no task whose search, with whatever weight, has no tree.
+pub fn trees_exist()
+    ensures { TreesExist }
+{}
+
+/// With weight 0 each end of a search is an end of the search in breadth, and the other way round.
+pub fn weight_none_is_exactly_breadth()
+    ensures { WeightNoneIsExactlyBreadth }
 {}
 
 /// Each list of moves that a search found has a table.

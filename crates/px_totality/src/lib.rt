@@ -6,7 +6,9 @@
 //! # Calling it
 //!
 //! - `specs/SearchEnds`: a search, with whatever weight, finds moves, is exhausted, or meets the limit of nodes or that of shapes
-//!   ([`searches_end`]).
+//!   ([`searches_end`]); so it has a tree ([`trees_exist`]).
+//! - `specs/WeightNone`: with weight 0 its ends are exactly those of the search in breadth ([`weight_none_is_exactly_breadth`]): that each
+//!   is one of these is a law of `px_ends`, too.
 //! - `specs/FoundTables`: the moves that a search found, with whatever weight, have a table ([`found_have_tables`]).
 //! - `specs/RunsEnd`: each run of a table ends ([`runs_end`]).
 //! - `specs/Finite`: kinds of which a list has all; there are finitely many entries, and so finitely many moves from a node.
@@ -17,4 +19,6 @@ mod laws;
 #[cfg(test)]
 mod tests;
 
-pub use laws::{found_have_tables, runs_end, searches_end};
+pub use laws::{
+    found_have_tables, runs_end, searches_end, trees_exist, weight_none_is_exactly_breadth,
+};

@@ -180,6 +180,23 @@ returns-clause-weights c = record {
   limits = search (after-so, fit-so, refuse-so) depth 14;
 }
 
+pub returns-clause-trees : goal.returns-clause-trees
+unfolding lines_read scan_by unicode_ident encode all_within items_after with_item set_of digits
+returns-clause-trees c = record {
+  growing = search spell;
+  grows = search (after-so, fit-so, refuse-so) depth 14;
+  gives_no_table = search (after-so, fit-so, refuse-so) depth 14;
+  new_command = search (after-so, fit-so, refuse-so) depth 14;
+  without_form = search (after-so, fit-so, refuse-so) depth 14;
+  wrong_place = search (after-so, fit-so, refuse-so) depth 14;
+  unknown = search (after-so, fit-so, refuse-so) depth 14;
+  known_result = search (after-so, fit-so, refuse-so) depth 14;
+  arity = search (after-so, fit-so, refuse-so) depth 14;
+  unbound = search (after-so, fit-so, refuse-so) depth 14;
+  passed = search (after-so, fit-so, refuse-so) depth 14;
+  many_commands = search (after-so, fit-so, refuse-so) depth 14;
+}
+
 pub returns-clause-later : goal.returns-clause-later
 unfolding lines_read scan_by unicode_ident encode all_within items_after with_item set_of digits
 returns-clause-later c = search after-so depth 14

@@ -16,10 +16,10 @@ unfolding chars unicode_ident
 declare_names-requires-3-clause-named c = (refl, (refl, (refl, (refl, (refl, (refl, (refl, tt)))))))
 
 pub declare_names-requires-2-clause-fresh : goal.declare_names-requires-2-clause-fresh
-declare_names-requires-2-clause-fresh c = rw c.in_ok-declare_names.ensures c.requires.predicates
+declare_names-requires-2-clause-fresh c = rw c.in_ok-declare_names.ensures c.requires.fresh.predicates
 
 pub declare_names-requires-3-clause-fresh : goal.declare_names-requires-3-clause-fresh
-declare_names-requires-3-clause-fresh c = rw (c.in_ok-declare_names-2.ensures, c.in_ok-declare_names.ensures) c.requires.operators
+declare_names-requires-3-clause-fresh c = rw (c.in_ok-declare_names-2.ensures, c.in_ok-declare_names.ensures) c.requires.fresh.operators
 
 pub returns : goal.returns
 returns c =

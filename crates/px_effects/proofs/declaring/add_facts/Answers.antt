@@ -12,7 +12,7 @@ add_fact-requires c =
     let f : SignedAtom → Atom = λ a. atom_of (declared_of c.args.so_far.now) [] (signed_view a) in
     let number : SoFar → Atom = λ r. atom_of (declared_of r) [] (signed_view c.atom-item.result) in
     let objects = c.requires.all_ground c.loop-atom.atom-index c.atom-item.result c.loop-atom-test.true in
-    subst IsGround (sym (c.atom.ensures ∙ ap number c.loop-atom.invariant.0 ∙ ap f c.atom-item.is)) objects
+    record { is_ground = subst IsGround (sym (c.atom.ensures ∙ ap number c.loop-atom.invariant.0 ∙ ap f c.atom-item.is)) objects }
 
 pub loop-atom-preserved : goal.loop-atom-preserved
 loop-atom-preserved c =

@@ -10,8 +10,10 @@ loop-name-init c = let changed : NameLists → SoFar = λ t. record c.args.so_fa
 pub add_name-requires : goal.add_name-requires
 add_name-requires c =
     let below : c.loop-name.name-index < length c.args.names.now = grind (arith, common_steps) in
-    next-fresh c.args.kind c.args.so_far.now.names c.loop-name.so_far.names c.args.names.now c.loop-name.name-index _
-    (ap (λ s. s.names) c.loop-name.invariant) c.requires.named c.requires.fresh below
+    record {
+      fresh = next-fresh c.args.kind c.args.so_far.now.names c.loop-name.so_far.names c.args.names.now c.loop-name.name-index _
+          (ap (λ s. s.names) c.loop-name.invariant) c.requires.named c.requires.fresh below;
+    }
 
 pub loop-name-preserved : goal.loop-name-preserved
 loop-name-preserved c =

@@ -14,14 +14,16 @@ pub overflow_add-searches : goal.overflow_add-searches
 overflow_add-searches g c =
     let few = vain_runs_are_few g.W.World.leaves c.args.problem.now c.args.tables.now c.args.goal.now c.args.vars c.args.recorded.now
     c.searching.searches (g.W.World.atoms c.args.world.now) (g.W.World.atoms c.searching.world) (map turn_told c.searching.turns.items)
-    (record { valid = c.requires.problem; goal = c.requires.goal; learned = c.requires.tables }) c.searching.invariant.0 in
+    (record { valid = c.requires.problem; nodes = c.requires.problem.nodes.1; goal = c.requires.goal; learned = c.requires.tables })
+    c.searching.invariant.0 in
     omega (arith, few, c.requires.short)
 
 pub returns-in-Some-clause-few : goal.returns-in-Some-clause-few
 returns-in-Some-clause-few g c =
     let few = vain_runs_are_few g.W.World.leaves c.args.problem.now c.args.tables.now c.args.goal.now c.args.vars c.args.recorded.now
     c.searching.searches (g.W.World.atoms c.args.world.now) (g.W.World.atoms c.searching.world) (map turn_told c.searching.turns.items)
-    (record { valid = c.requires.problem; goal = c.requires.goal; learned = c.requires.tables }) c.searching.invariant.0 in
+    (record { valid = c.requires.problem; nodes = c.requires.problem.nodes.1; goal = c.requires.goal; learned = c.requires.tables })
+    c.searching.invariant.0 in
     omega (arith, few)
 
 pub returns-in-Some-clause-reached : goal.returns-in-Some-clause-reached
@@ -42,7 +44,7 @@ returns-in-Some-clause-reached g c is =
     let whole = pursued leaves problem tables goal vars recorded start c.searching.searches before turns atoms after c.in-Some.end
     c.searching.invariant.0 last in
     goals_are_reached leaves problem tables goal vars recorded start after (suc c.searching.searches) (map turn_told turns)
-    (record { valid = c.requires.problem; goal = c.requires.goal; learned = c.requires.tables })
+    (record { valid = c.requires.problem; nodes = c.requires.problem.nodes.1; goal = c.requires.goal; learned = c.requires.tables })
     (subst (λ (e : PursueEnd). IsPursuit leaves problem tables goal vars recorded start (suc c.searching.searches) (map turn_told turns) e
     after) is whole)
 
@@ -54,7 +56,8 @@ searching-smaller g c =
     let after = g.W.World.atoms c.search_and_run.new.world in
     vain-uses g.W.World.leaves c.args.problem.now c.args.tables.now c.args.goal.now c.args.vars c.args.recorded.now
     (g.W.World.atoms c.args.world.now)
-    (record { valid = c.requires.problem; goal = c.requires.goal; learned = c.requires.tables }) before turns atoms after
+    (record { valid = c.requires.problem; nodes = c.requires.problem.nodes.1; goal = c.requires.goal; learned = c.requires.tables })
+    before turns atoms after
     (subst (λ (o : Option PursueEnd). SearchesOnce g.W.World.leaves c.args.problem.now c.args.tables.now c.args.goal.now c.args.vars
     c.args.recorded.now before atoms turns o after) c.in-None.is c.in_ok-end.ensures.goes)
 

@@ -8,5 +8,6 @@ use Rattle.px_search.proofs.best_first.limit_at.Goals as goal
 pub returns-in-Ok : goal.returns-in-Ok
 returns-in-Ok c =
     λ node stands limit.
-    subst (λ (n : Node). IsShapeLimit (task_for c.args.asked.now) c.args.asked.now.problem.now.weight n c.args.formula c.args.shapes)
+    subst
+    (λ (n : Node). IsShapeLimit (task_for c.args.asked.now) c.args.asked.now.problem.now.weight n c.args.limit.formula c.args.limit.shapes)
     (sym (c.in-Ok.ensures node stands)) limit

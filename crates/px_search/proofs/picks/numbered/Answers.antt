@@ -3,7 +3,7 @@ use Rattle.std.proofs.Common.{◌≡◌, ◌<◌, ◌++◌, ◌∷◌, [], List,
 use Rattle.std.proofs.lemmas.List.{take_all}
 use Rattle.px_table.specs.declared.entry.Entry.{Entry}
 use Rattle.px_table.specs.declared.entry.Move.TheVariants.{Push}
-use Rattle.px_ends.proofs.Frontier.{at_index}
+use Rattle.px_order.specs.Places.{at_index}
 use Rattle.px_search.specs.declared.step.Step.{Step}
 use Rattle.px_search.specs.Steps.{AreStepsOf}
 use Rattle.px_search.proofs.NodeLemmas.{take_one}

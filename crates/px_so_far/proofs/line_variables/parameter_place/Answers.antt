@@ -64,5 +64,6 @@ pub returns-in_default-2 : goal.returns-in_default-2
 returns-in_default-2 c =
     let letter = rw c.in_ok-digits.was at
     (strip_prefix_char 112 c.args.name.now c.strip_prefix.result c.strip_prefix.ensures.cases (lit< tt)) in
-    no-number c.args.name.now c.args.parameters c.in_ok-digits.digits.now c.parse.result c.ranges.parameters.fits letter c.parse.ensures.value.0
+    no-number c.args.name.now c.args.parameters c.in_ok-digits.digits.now c.parse.result c.ranges.parameters.fits letter
+    c.parse.ensures.value.0
     (λ n ok small. let is = c.in_default.is in cc)

@@ -9,11 +9,11 @@ take_all-requires-clause-takeable c = c.requires.found.takeable
 
 pub take_all-requires-clause-short : goal.take_all-requires-clause-short
 take_all-requires-clause-short c =
-    omega (arith, c.requires.found.few, c.requires.asked.valid.nodes.1)
+    omega (arith, c.requires.found.few, c.requires.asked.nodes.1)
 
 pub with_goal-requires-clause-short : goal.with_goal-requires-clause-short
 with_goal-requires-clause-short c =
-    omega (arith, c.requires.found.few, c.requires.asked.valid.nodes.1)
+    omega (arith, c.requires.found.few, c.requires.asked.nodes.1)
 
 pub returns-clause-supports : goal.returns-clause-supports
 returns-clause-supports c =

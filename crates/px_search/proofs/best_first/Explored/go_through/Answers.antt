@@ -2,25 +2,27 @@
 use Rattle.std.proofs.Common.{◌≡◌, ℕ, Bool, List, [], length, sym, ◌∙◌, subst, arith}
 use Rattle.px_gaps.specs.Outcomes.{AtLimit}
 use Rattle.px_gaps.specs.declared.ask_err.AskErr.{AskErr}
-use Rattle.px_numbers.specs.NumberLaws.{stands-grows}
 use Rattle.px_support.specs.Asking.{task_for}
 use Rattle.px_search.specs.Going.{LimitsAt}
 use Rattle.px_search.specs.Looping.{ComesTo, TriesAt}
 use Rattle.px_search.specs.Notes.{HaveGrown}
+use Rattle.px_search.specs.Scenes.{IsScene}
 use Rattle.px_search.specs.declared.best_first.Explored.{Explored}
 use Rattle.px_search.proofs.BegunLaws.{progress-goes}
-use Rattle.px_search.proofs.GoingLaws.{here_of, trying-start}
-use Rattle.px_search.proofs.LoopLaws.{limit-of_node, node-done}
+use Rattle.px_search.proofs.GoingLaws.{here_of, limit-here, pick-going, trying-start}
+use Rattle.px_search.proofs.LoopLaws.{node-done}
 use Rattle.px_search.proofs.best_first.Explored.go_through.Goals as goal
 
 pub begun_from-requires-clause-node : goal.begun_from-requires-clause-node
 begun_from-requires-clause-node c =
+    let task = task_for c.args.asked.now in
     let e = c.args.self.now in
-    here_of (task_for c.args.asked.now) e.notes.numbers e.nodes e.origins.items e.picker c.requires.picked.0 c.args.next []
-    c.node-key.result c.requires.picked.1 c.node-key.ensures
+    let going = pick-going task e.notes.numbers e.nodes e.origins.items e.picker c.requires.picked.0 c.args.next c.requires.picked.1 in
+    here_of task e.notes.numbers e.nodes e.origins.items e.picker c.requires.picked.0 c.args.next [] c.node-key.result going
+    c.node-key.ensures
 
-pub limit_at-requires : goal.limit_at-requires
-limit_at-requires c =
+pub returns-in-Err-ShapeLimit-clause-gone : goal.returns-in-Err-ShapeLimit-clause-gone
+returns-in-Err-ShapeLimit-clause-gone c =
     let task = task_for c.args.asked.now in
     let e = c.args.self.now in
     let old = e.notes in
@@ -28,28 +30,25 @@ limit_at-requires c =
     let grown : HaveGrown task old new =
     subst (λ (e : AskErr). AtLimit e (λ formula shapes. HaveGrown task old new)) c.in-Err-ShapeLimit.field-0-is
     c.in-Err-ShapeLimit.ensures.notes in
-    let h =
-    here_of task e.notes.numbers e.nodes e.origins.items e.picker c.requires.picked.0 c.args.next [] c.node-key.result c.requires.picked.1
-    c.node-key.ensures in
-    (h.node, stands-grows old.numbers new.numbers c.node-key.result h.node grown.keeps h.stands)
-
-pub returns-in-Err-ShapeLimit-clause-ends : goal.returns-in-Err-ShapeLimit-clause-ends
-returns-in-Err-ShapeLimit-clause-ends c =
-    let task = task_for c.args.asked.now in
-    let e = c.args.self.now in
-    let old = e.notes in
-    let new = c.begun_from.new.self in
-    let grown : HaveGrown task old new =
-    subst (λ (e : AskErr). AtLimit e (λ formula shapes. HaveGrown task old new)) c.in-Err-ShapeLimit.field-0-is
-    c.in-Err-ShapeLimit.ensures.notes in
-    let h =
-    here_of task e.notes.numbers e.nodes e.origins.items e.picker c.requires.picked.0 c.args.next [] c.node-key.result c.requires.picked.1
-    c.node-key.ensures in
-    c.limit_at.ensures h.node (stands-grows old.numbers new.numbers c.node-key.result h.node grown.keeps h.stands)
-    (limit-of_node task old.numbers e.nodes e.origins.items e.picker c.requires.picked.0 c.args.next c.node-key.result
-    c.in-Err-ShapeLimit.formula c.in-Err-ShapeLimit.shapes c.requires.picked.1 c.node-key.ensures
+    limit-here task old.numbers new.numbers e.nodes e.origins.items e.picker c.requires.picked.0 c.args.next c.node-key.result
+    c.in-Err-ShapeLimit.formula c.in-Err-ShapeLimit.shapes grown.keeps c.requires.picked.1 c.node-key.ensures
     (subst (λ (e : AskErr). AtLimit e (LimitsAt task old.numbers c.node-key.result)) c.in-Err-ShapeLimit.field-0-is
-    c.in-Err-ShapeLimit.ensures.limited))
+    c.in-Err-ShapeLimit.ensures.limited)
+
+pub returns-in-Err-ShapeLimit-clause-explored : goal.returns-in-Err-ShapeLimit-clause-explored
+returns-in-Err-ShapeLimit-clause-explored c =
+    let task = task_for c.args.asked.now in
+    let old = c.args.self.now.notes in
+    let new = c.begun_from.new.self in
+    let scene = c.begun_from.new.scene in
+    let grown : HaveGrown task old new =
+    subst (λ (e : AskErr). AtLimit e (λ formula shapes. HaveGrown task old new)) c.in-Err-ShapeLimit.field-0-is
+    c.in-Err-ShapeLimit.ensures.notes in
+    record {
+      notes = grown.right;
+      scene = subst (λ (e : AskErr). AtLimit e (λ formula shapes. IsScene task new.numbers scene)) c.in-Err-ShapeLimit.field-0-is
+          c.in-Err-ShapeLimit.ensures.scene;
+    }
 
 pub make_all-requires-clause-explored : goal.make_all-requires-clause-explored
 make_all-requires-clause-explored c = record { notes = c.in-Ok.ensures.notes.right; scene = c.in-Ok.ensures.scene }
@@ -61,7 +60,8 @@ make_all-requires-clause-trying c =
       c.in-Ok.begun.is_all,
       trying-start (task_for c.args.asked.now) e.notes.numbers c.begun_from.new.self.numbers e.nodes e.origins.items e.picker
           c.requires.picked.0 c.args.next c.node-key.result c.in-Ok.begun.steps.items c.in-Ok.begun.is_all c.in-Ok.ensures.notes.keeps
-          c.requires.picked.1 c.node-key.ensures c.in-Ok.ensures.steps,
+          (pick-going (task_for c.args.asked.now) e.notes.numbers e.nodes e.origins.items e.picker c.requires.picked.0 c.args.next
+          c.requires.picked.1) c.node-key.ensures c.in-Ok.ensures.steps,
     )
 
 pub returns-in-Solved-clause-gone : goal.returns-in-Solved-clause-gone
@@ -82,6 +82,15 @@ returns-in-Full-clause-gone c =
     subst (ComesTo task after ((picked : List ℕ) (is_all : Bool) → TriesAt task before picked c.args.next steps is_all 0
     → TriesAt task after picked c.args.next steps is_all (length steps))) c.in-Full.is c.in_ok-progress.ensures.made
 
+pub returns-in-Limited-clause-gone : goal.returns-in-Limited-clause-gone
+returns-in-Limited-clause-gone c =
+    let task = task_for c.args.asked.now in
+    let before : Explored = record c.args.self.now { notes = c.begun_from.new.self; scene = c.begun_from.new.scene } in
+    let after = c.make_all.new.self in
+    let steps = c.in-Ok.begun.steps.items in
+    subst (ComesTo task after ((picked : List ℕ) (is_all : Bool) → TriesAt task before picked c.args.next steps is_all 0
+    → TriesAt task after picked c.args.next steps is_all (length steps))) c.in-Limited.is c.in_ok-progress.ensures.made
+
 pub returns-then-begun-clause-gone : goal.returns-then-begun-clause-gone
 returns-then-begun-clause-gone c = λ picked going.
     let task = task_for c.args.asked.now in
@@ -91,7 +100,8 @@ returns-then-begun-clause-gone c = λ picked going.
     let steps = c.in-Ok.begun.steps.items in
     let trying =
     trying-start task e.notes.numbers c.begun_from.new.self.numbers e.nodes e.origins.items e.picker picked c.args.next c.node-key.result
-    steps c.in-Ok.begun.is_all c.in-Ok.ensures.notes.keeps going c.node-key.ensures c.in-Ok.ensures.steps in
+    steps c.in-Ok.begun.is_all c.in-Ok.ensures.notes.keeps
+    (pick-going task e.notes.numbers e.nodes e.origins.items e.picker picked c.args.next going) c.node-key.ensures c.in-Ok.ensures.steps in
     let made =
     subst (ComesTo task after ((picked : List ℕ) (is_all : Bool) → TriesAt task before picked c.args.next steps is_all 0
     → TriesAt task after picked c.args.next steps is_all (length steps))) c.in-Unsolved.is c.in_ok-progress.ensures.made in
@@ -108,7 +118,9 @@ make_others-requires-clause-trying c =
     let picked = c.requires.picked.0 in
     let trying =
     trying-start task e.notes.numbers c.begun_from.new.self.numbers e.nodes e.origins.items e.picker picked c.args.next c.node-key.result
-    steps c.in-Ok.begun.is_all c.in-Ok.ensures.notes.keeps c.requires.picked.1 c.node-key.ensures c.in-Ok.ensures.steps in
+    steps c.in-Ok.begun.is_all c.in-Ok.ensures.notes.keeps
+    (pick-going task e.notes.numbers e.nodes e.origins.items e.picker picked c.args.next c.requires.picked.1) c.node-key.ensures
+    c.in-Ok.ensures.steps in
     let made =
     subst (ComesTo task after ((picked : List ℕ) (is_all : Bool) → TriesAt task before picked c.args.next steps is_all 0
     → TriesAt task after picked c.args.next steps is_all (length steps))) c.in-Unsolved.is c.in_ok-progress.ensures.made in
@@ -137,6 +149,7 @@ returns-clause-gone c =
     (λ gone picked going. gone picked steps c.in-Ok.begun.is_all from_is
     (subst (λ (n : ℕ). TriesAt task after picked c.args.next steps c.in-Ok.begun.is_all n) (sym from_is)
     (made picked c.in-Ok.begun.is_all (trying-start task e.notes.numbers c.begun_from.new.self.numbers e.nodes e.origins.items e.picker
-    picked c.args.next c.node-key.result steps c.in-Ok.begun.is_all c.in-Ok.ensures.notes.keeps going c.node-key.ensures
+    picked c.args.next c.node-key.result steps c.in-Ok.begun.is_all c.in-Ok.ensures.notes.keeps
+    (pick-going task e.notes.numbers e.nodes e.origins.items e.picker picked c.args.next going) c.node-key.ensures
     c.in-Ok.ensures.steps))))
     c.in_ok-others.ensures.gone

@@ -57,3 +57,13 @@ returns-in-Full-clause-made c =
     ((picked : List ℕ) (steps : List Step) (is_all : Bool) (i : ℕ) → TriesAt task before picked c.args.next steps is_all i
     → slice_get steps i ≡ Some c.step_at-step.result → TriesAt task after picked c.args.next steps is_all (i + 1)))
     c.in-Full.is c.in_ok-progress.ensures.made
+
+pub returns-in-Limited-clause-made : goal.returns-in-Limited-clause-made
+returns-in-Limited-clause-made c =
+    let task = task_for c.args.asked.now in
+    let before = c.loop-turn.self in
+    let after = c.make_move.new.self in
+    subst (ComesTo task after
+    ((picked : List ℕ) (steps : List Step) (is_all : Bool) (i : ℕ) → TriesAt task before picked c.args.next steps is_all i
+    → slice_get steps i ≡ Some c.step_at-step.result → TriesAt task after picked c.args.next steps is_all (i + 1)))
+    c.in-Limited.is c.in_ok-progress.ensures.made

@@ -62,11 +62,11 @@ count_to-requires-clause-few c =
     let st =
     step_on task e.notes.numbers c.after.new.self.numbers e.nodes e.origins.items e.picker r.0 c.args.next r.1 r.2 r.3 c.args.step
     c.node-key.result c.in_ok-there.there r.4 c.node-key.ensures c.in_ok-there.ensures.notes.keeps c.in_ok-there.ensures.there r.5 in
-    let few : length c.push.new.self.items ≤ task.problem.nodes =
+    let few : length c.push.new.self.items ≤ task.nodes =
     step-origins task c.after.new.self.numbers c.sound.ensures.once e.nodes c.intern.new.self e.origins.items e.picker r.0 c.args.next
     r.1 r.2 r.3 c.args.step c.in_ok-there.there c.in_ok-place.place st c.in_ok-place.ensures.kept
     (λ h. omega (arith, h, c.if-place-count.false, c.count-count.ensures)) c.push.new.self.items c.in_ok-push.ensures.items in
-    omega (arith, few, c.requires.asked.valid.nodes.1)
+    omega (arith, few, c.requires.asked.nodes.1)
 
 pub returns-then-count-asked-clause-made : goal.returns-then-count-asked-clause-made
 returns-then-count-asked-clause-made c =
@@ -140,34 +140,19 @@ returns-in_ok-go_on-in-Unanswered-clause-made c = λ picked steps is_all i t at.
     (step-within task c.after.new.self.numbers c.sound.ensures.once e.nodes c.intern.new.self e.origins.items e.picker picked c.args.next
     steps is_all i c.args.step c.in_ok-there.there c.in_ok-place.place st c.in_ok-place.ensures.kept))
 
-pub limit_at-requires : goal.limit_at-requires
-limit_at-requires c =
+pub returns-in-Limited-clause-made : goal.returns-in-Limited-clause-made
+returns-in-Limited-clause-made c =
     let task = task_for c.args.asked.now in
     let e = c.args.self.now in
     let r = c.requires.trying in
     let st =
     step_on task e.notes.numbers c.after.new.self.numbers e.nodes e.origins.items e.picker r.0 c.args.next r.1 r.2 r.3 c.args.step
     c.node-key.result c.in_ok-there.there r.4 c.node-key.ensures c.in_ok-there.ensures.notes.keeps c.in_ok-there.ensures.there r.5 in
-    there_stands task c.after.new.self.numbers c.sound.ensures.once e.nodes c.intern.new.self e.origins.items e.picker r.0 c.args.next
+    step-limit task c.after.new.self.numbers c.sound.ensures.once e.nodes c.intern.new.self e.origins.items e.picker r.0 c.args.next
     r.1 r.2 r.3 c.args.step c.in_ok-there.there c.in_ok-place.place st c.in_ok-place.ensures.kept
-
-pub returns-in-Limited-clause-ends : goal.returns-in-Limited-clause-ends
-returns-in-Limited-clause-ends c =
-    let task = task_for c.args.asked.now in
-    let e = c.args.self.now in
-    let r = c.requires.trying in
-    let st =
-    step_on task e.notes.numbers c.after.new.self.numbers e.nodes e.origins.items e.picker r.0 c.args.next r.1 r.2 r.3 c.args.step
-    c.node-key.result c.in_ok-there.there r.4 c.node-key.ensures c.in_ok-there.ensures.notes.keeps c.in_ok-there.ensures.there r.5 in
-    let there =
-    there_stands task c.after.new.self.numbers c.sound.ensures.once e.nodes c.intern.new.self e.origins.items e.picker r.0 c.args.next
-    r.1 r.2 r.3 c.args.step c.in_ok-there.there c.in_ok-place.place st c.in_ok-place.ensures.kept in
-    c.limit_at.ensures there.0 there.1
-    (step-limit task c.after.new.self.numbers c.sound.ensures.once e.nodes c.intern.new.self e.origins.items e.picker r.0 c.args.next
-    r.1 r.2 r.3 c.args.step c.in_ok-there.there c.in_ok-place.place st c.in_ok-place.ensures.kept
-    (λ h. omega (arith, h, c.if-place-count.false, c.count-count.ensures)) c.in_ok-tried.tried
-    c.in-Limited.formula c.in-Limited.shapes (omega (arith, c.if-count-asked.false, c.count-count.ensures))
-    c.in_ok-tried.ensures c.in-Limited.is)
+    (λ h. omega (arith, h, c.if-place-count.false, c.count-count.ensures)) c.push.new.self.items c.in_ok-tried.tried
+    c.in-Limited.formula c.in-Limited.shapes c.in_ok-push.ensures.items (omega (arith, c.if-count-asked.false, c.count-count.ensures))
+    c.in_ok-tried.ensures c.in-Limited.is
 
 pub returns-then-place-count-clause-explored : goal.returns-then-place-count-clause-explored
 returns-then-place-count-clause-explored c =
@@ -201,6 +186,16 @@ returns-in-Answered-clause-explored c =
 
 pub returns-in_ok-go_on-in-Unanswered-clause-explored : goal.returns-in_ok-go_on-in-Unanswered-clause-explored
 returns-in_ok-go_on-in-Unanswered-clause-explored c =
+    let notes = c.in_ok-there.ensures.notes in
+    record {
+      notes = notes.right;
+      scene = scene-grows
+          (task_for c.args.asked.now) c.args.self.now.notes.numbers c.after.new.self.numbers c.args.self.now.scene notes.keeps
+          c.requires.explored.scene;
+    }
+
+pub returns-in-Limited-clause-explored : goal.returns-in-Limited-clause-explored
+returns-in-Limited-clause-explored c =
     let notes = c.in_ok-there.ensures.notes in
     record {
       notes = notes.right;

@@ -45,7 +45,7 @@ overflow_add-picks c =
     let next = c.in-Some.ensures.next task e.notes.numbers b.found i.0 b.picking count b.between.searching.known in
     let few = picks_left (space_of task) (order_of task) b.found i.0 c.in-Some.place b.between.searching.known next
     (place-within-list b.found c.in-Some.place next.moves next.stands) in
-    omega (arith, few, i.1, b.between.searching.room, c.requires.asked.valid.nodes.1)
+    omega (arith, few, i.1, b.between.searching.room, c.requires.asked.nodes.1)
 
 pub loop-place-smaller : goal.loop-place-smaller
 loop-place-smaller c =
@@ -81,12 +81,14 @@ loop-place-preserved c =
       explored = c.in_ok-progress.ensures.explored;
     }
 
-pub returns-clause-walked : goal.returns-clause-walked
-returns-clause-walked c =
+pub returns : goal.returns
+returns c =
     let task = task_for c.args.asked.now in
     let e = c.loop-place.self in
     let i = c.loop-place.invariant.going in
     let b = i.2 in
     let count = counted task e.notes.numbers e.nodes e.origins.items b.found b.numbered ∙ sym c.count.ensures in
-    going-exhausted task e.notes.numbers e.nodes e.origins.items e.picker i.0 b
-    (c.in_default.ensures.over task e.notes.numbers b.found i.0 b.picking count)
+    record {
+      walked = going-exhausted task e.notes.numbers e.nodes e.origins.items e.picker i.0 b
+          (c.in_default.ensures.over task e.notes.numbers b.found i.0 b.picking count);
+    }

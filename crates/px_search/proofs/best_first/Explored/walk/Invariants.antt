@@ -11,4 +11,4 @@ invariant-loop-place l = record {
 }
 
 abbrev pub decreases-loop-place : goal.decreases-loop-place
-decreases-loop-place l = l.asked.problem.now.nodes - l.picks
+decreases-loop-place l = l.asked.nodes - l.picks

@@ -6,7 +6,7 @@ use Rattle.px_search.specs.Going.{BeginsAt, LimitsAt}
 use Rattle.px_search.specs.Notes.{HaveGrown}
 use Rattle.px_search.specs.Scenes.{IsScene}
 use Rattle.px_search.proofs.FromLaws.{if_limit}
-use Rattle.px_search.proofs.NoteLaws.{answer-grown, ok_answer}
+use Rattle.px_search.proofs.NoteLaws.{answer-grown, on_answer}
 use Rattle.px_search.proofs.OfferLaws.{if_some}
 use Rattle.px_search.proofs.SceneLaws.{scene_at-grows, scene-of}
 use Rattle.px_search.proofs.StepLaws.{asked-grows}
@@ -39,7 +39,7 @@ returns-clause-scene c =
     let mid = c.show.new.self in
     let new = c.steps_anew.new.self in
     let scene = c.show.new.scene in
-    ok_answer (HaveGrown task mid new) (IsScene task new.numbers scene) c.steps_anew.result c.steps_anew.ensures.notes
+    on_answer (HaveGrown task mid new) (IsScene task new.numbers scene) c.steps_anew.result c.steps_anew.ensures.notes
     (λ grown. scene-of task new.numbers c.args.key.model scene c.in_ok-show.ensures.number
     (scene_at-grows task mid.numbers new.numbers c.args.key.model scene grown.keeps c.in_ok-show.ensures.scene))
 

@@ -1,7 +1,7 @@
 -- Proofs of the goals that `Notes::offered_each` of src/notes.rt leaves open.
 use Rattle.std.proofs.Common.{◌≡◌, ◌<◌, length, ◌∙◌, ◌∷◌, [], Bool, true, List, take, Some, slice_get, sym, ap, subst, arith}
 use Rattle.px_terms.specs.declared.atom.Atom.{Atom}
-use Rattle.px_ends.proofs.Frontier.{at_index}
+use Rattle.px_order.specs.Places.{at_index}
 use Rattle.px_support.specs.Asking.{task_for}
 use Rattle.px_search.specs.Notes.{HaveGrown}
 use Rattle.px_search.specs.Offers.{ArePushes, IsOffered, IsOfferedWhole}

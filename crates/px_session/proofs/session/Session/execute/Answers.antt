@@ -32,6 +32,9 @@ invariant_of-self-2 c =
     c.index-as_slice-k.result
     c.self.invariant.asked c.as_slice.ensures below c.index-as_slice-k.is in
     let next : c.args.k ≡ c.self.inside.done = subst (λ (s : SessionValue). c.args.k ≡ s.done) (sym c.self.view_is) c.requires.next in
+    let tellable = at-place (IsTellable c.self.inside.problem
+    (length c.self.inside.names.results)) c.self.inside.commands c.as_slice.result.now c.args.k
+    c.index-as_slice-k.result c.self.invariant.tellable c.as_slice.ensures below c.index-as_slice-k.is in
     let is = command-at c.self.inside.commands c.as_slice.result.now c.args.k c.index-as_slice-k.result c.as_slice.ensures
     c.index-as_slice-k.is in
     kept-after c.self.inside.building c.run_command.new.building (held.the_view c.self.inside)
@@ -39,7 +42,7 @@ invariant_of-self-2 c =
     c.self.invariant refl (omega (arith, below, next))
     (subst (λ n. c.index-as_slice-k.result ≡ get_or c.self.inside.commands n
     c.index-as_slice-k.result) next is)
-    runs asks c.in_ok-reply.ensures.lawful c.in_ok-reply.ensures.placed c.run_command.ensures.takes
+    runs asks tellable c.in_ok-reply.ensures.lawful c.in_ok-reply.ensures.placed c.run_command.ensures.takes
 
 pub returns-clause-named : goal.returns-clause-named
 returns-clause-named c =
