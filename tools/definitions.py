@@ -15,8 +15,8 @@ STARTS = [('px_session/src/laws.rt', 'replies_exist'), ('px_session/src/laws.rt'
           ('px_ends/src/laws.rt', 'ends_are_one'), ('px_run/src/top.rt', 'planex_main')]
 # what a certificate is, and when it is right
 CERTIFICATES = [('px_cert/src/reading.rt', 'read_cert'), ('px_cert/src/cert.rt', 'verify')]
-# what `planex check` writes, by the definitions that say so
-CHECKED = [('px_run/specs/Outcomes.antt', 'CheckRight'), ('px_run/specs/Laws.antt', 'CertifiesWhereDone')]
+# what `planex check` writes, by the definitions that say so, and that its one word is taken
+CHECKED = [('px_run/specs/Outcomes.antt', 'CheckRight'), ('px_run/specs/Laws.antt', 'CertifiesWhereDone'), ('px_words/specs/Orders.antt', 'lone_order')]
 # what a plan is worth, by the definition that says so
 WORTH = CRATES / 'px_terms' / 'specs' / 'Plans.antt', 'Carries'
 IMPORTS = re.compile(r'^(?:ghost |pub )?use Rattle\.(px_\w+\.specs(?:\.\w+)+)(?:\.\{([^}]*)\})?(?: as (\w+))?', re.M)
@@ -24,13 +24,13 @@ DEFINES = re.compile(r'(?:abbrev |record |data |instance |class )?(?:pub )?(?:ab
 WORD = re.compile(r"[^\W\d][\w'-]*")
 
 
-@functools.cache
+@functools.lru_cache(maxsize=None)
 def read(file):
     """The text of a file."""
     return file.read_text()
 
 
-@functools.cache
+@functools.lru_cache(maxsize=None)
 def imports(text):
     """The names that a file imports from spec files of the repository, each with its file and the name there."""
     found = {}
@@ -47,7 +47,7 @@ def imports(text):
     return found
 
 
-@functools.cache
+@functools.lru_cache(maxsize=None)
 def origin(file, name):
     """The spec file of the repository in which a name is defined that a file may only hand on, and the name there."""
     handed_on = '\n'.join(line for line in read(file).split('\n') if line.startswith('pub use '))
@@ -56,7 +56,7 @@ def origin(file, name):
     return file, name
 
 
-@functools.cache
+@functools.lru_cache(maxsize=None)
 def blocks(text):
     """The text of each definition of a spec file: its declaration and its equations, and the heads of the modules it stands in."""
     found, name, heads = {}, None, []

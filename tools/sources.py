@@ -13,7 +13,7 @@ LINK = re.compile(r'\[`([\w:]+)(?:\(\))?`\](?:\((?:crate::)?[\w:]+\))?(?!\()')
 IMPL = re.compile(r'impl(?:<[^{]*?>)? (?:(?P<trait>[\w:]+)(?:<.*?>)? for )?(?P<type>\w+)')
 
 
-@functools.cache
+@functools.lru_cache(maxsize=None)
 def listed():
     """The parts of crates.txt, each with its crates and what these stand on."""
     found = []
@@ -31,7 +31,7 @@ def parts():
     return [(heading, list(crates)) for heading, crates in listed()]
 
 
-@functools.cache
+@functools.lru_cache(maxsize=None)
 def below(crate):
     """All crates on which a crate stands, directly or not."""
     direct = next(crates[crate] for _, crates in listed() if crate in crates)
@@ -84,7 +84,7 @@ class Item:
         return f'{self.owner}::{self.name}' if self.owner else self.name
 
 
-@functools.cache
+@functools.lru_cache(maxsize=None)
 def items(crate):
     """The items of a crate in the order of its files, but for its tests."""
     found = []
@@ -136,7 +136,7 @@ def head_of(lines):
     return '\n'.join(lines)
 
 
-@functools.cache
+@functools.lru_cache(maxsize=None)
 def public_names(crate):
     """The names that a crate hands out, in the order of its root file."""
     found = []
@@ -153,7 +153,7 @@ def public_items(crate):
     return sorted(own, key=lambda item: place[item.owner or item.name])
 
 
-@functools.cache
+@functools.lru_cache(maxsize=None)
 def places(crate):
     """The file of each public name of a crate."""
     return {item.title: item.file for item in reversed(public_items(crate))}

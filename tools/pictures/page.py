@@ -178,7 +178,7 @@ def pursuit_items(item, script, layout):
     for place, (plan, (_, run)) in enumerate(zip(plans, item.reply.runs())):
         items = [''.join(turn_item(turn, next(turns), plan, script, layout, place if plan else 0)) for turn in run]
         yield from items[:-1]
-        yield items[-1].removesuffix('</li>') + search_after(item.reply, place + 2) if run[-1].end == 'nokernel' else items[-1]
+        yield items[-1][:-len('</li>')] + search_after(item.reply, place + 2) if run[-1].end == 'nokernel' else items[-1]
 
 
 def pursuit_part(item, script, layout):
