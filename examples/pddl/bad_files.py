@@ -22,6 +22,7 @@ PROBLEM = """(define (problem one)
 # What follows a message that something isn't taken, and those that limits are passed.
 PAGE = ' (docs/PDDL.md, "What isn\'t taken")'
 LIMITS = '\nfrom-pddl: docs/PDDL.md, "What isn\'t taken", says what can be done about limits'
+EMPTY = 'p:5:10: the goal is empty: a goal of a script has at least one atom. No script is needed: the empty plan reaches it' + PAGE
 
 # Name, the text that is replaced in the domain or the problem, its replacement, and the message.
 EDITS = [
@@ -114,10 +115,8 @@ EDITS = [
     ('an unknown type in a union', 'a - box t', 'a - (either box crate) t', 'p:3:29: unknown type crate'),
     ('no union of types', 'a - box t', 'a - (or box thing) t', 'p:3:17: a type is a name, or (either NAME ..)'),
     ('a fact that is also none', '(:init (p a))', '(:init (p a) (not (p a)))', 'p:4:21: this is both a fact and none'),
-    ('a goal of equal terms alone', '(and (q a c))', '(= a a)',
-     'p:5:10: the goal is empty: each state meets it, and a goal of a script has at least one atom'),
-    ('an empty goal', '(and (q a c))', '(and)',
-     'p:5:10: the goal is empty: each state meets it, and a goal of a script has at least one atom'),
+    ('a goal of equal terms alone', '(and (q a c))', '(= a a)', EMPTY),
+    ('an empty goal', '(and (q a c))', '(and)', EMPTY),
 ]
 
 # Name, the text that is replaced, and its replacement, after which the script is the same.

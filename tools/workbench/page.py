@@ -22,15 +22,15 @@ def kinds():
 
 
 def number_first(path):
-    """An order by the number at the head of a name."""
+    """An order by the number at the head of a name; a script to begin with comes before its solution."""
     found = re.match(r'\d+', path.stem)
-    return int(found[0]) if found else 0, path.stem
+    return int(found[0]) if found else 0, not path.stem.endswith('-begin'), path.stem
 
 
 def examples():
     """The examples as pairs of a title and scripts, which are pairs of a name and a text: first by the titles of their index."""
     index = (EXAMPLES / 'README.md').read_text()
-    groups = [(title, [EXAMPLES / name for name in re.findall(r'^\| \[[\w-]+\]\(([\w-]+\.planex)\)', text, re.M)])
+    groups = [(title, [EXAMPLES / name for name in re.findall(r'^\| \[[\w-]+\]\(([\w/-]+\.planex)\)', text, re.M)])
               for title, text in re.findall(r'^## (.*)\n((?:(?!## ).*\n)*)', index, re.M)]
     groups += [(folder.capitalize(), sorted((EXAMPLES / folder).glob('*.planex'), key=number_first)) for folder in FOLDERS]
     return [(title, [(path.stem, path.read_text()) for path in paths if path.exists()]) for title, paths in groups if paths]
