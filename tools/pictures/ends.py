@@ -12,8 +12,8 @@ def said_of(reply):
     if isinstance(reply, NodeLimit):
         return (f'Nodes that were looked at: {reply.nodes:,}, as many as allowed. None of them is solved. Moves that reach the next one: '
                 f'{reply.moves:,}.',
-                f'{MAY_BE} Allow more nodes (50,000 at most), ask for one thing after the other, or cut the search by predicates that no '
-                'operator adds (docs/SOLVES.md).')
+                f'{MAY_BE} In versions 1 and 2, write script 3 at the head. In version 3, try a greater weight, up to 1000; more nodes, '
+                'up to 1,000,000; predicates that tell kinds of things apart; or a part of the goal at a time (docs/SOLVES.md).')
     if isinstance(reply, ShapeLimit):
         return (f'Shapes of unfinished proofs that a question to the prover met: {reply.shapes:,}, as many as allowed.',
                 f'{MAY_BE} It isn\'t known which moves there are. Allow more shapes (70,000 at most), or less height (docs/SOLVES.md).')

@@ -1,5 +1,6 @@
 """Where transcripts come from: standard input, or the program, which is run on a script and asked for the tables of its runs."""
 import itertools
+import re
 import sys
 from dataclasses import replace
 
@@ -23,7 +24,7 @@ def answer(path, data):
     try:
         transcript, said = transcript_of(data)
     except (Refused, Stopped) as error:
-        sys.stderr.write(error.said)
+        sys.stderr.write(re.sub('^stdin:', lambda _: f'{path}:', error.said))
         sys.exit(f'view: {path}: {error}')
     except NoProgram as error:
         sys.exit(f'view: {path}: {error}')
