@@ -852,7 +852,7 @@ def transcript_of(data, program=PROGRAM):
         raise NoProgram(f'{program}: {error.strerror}') from error
     said = ran.stderr.decode(errors='replace')
     if ran.returncode == 1:
-        raise NoProgram(f'{program}: {said.strip()}')
+        raise NoProgram(f'{program}: {said.strip() or "it ends with status 1"}')
     if ran.returncode == 3:
         raise Refused(*replies_of(text_of(ran.stdout))[0].numbers, said)
     if ran.returncode:

@@ -81,6 +81,9 @@ def tokens(file, text):
         found = TOKEN.match(text, position)
         place = Place(file, line, position - start + 1)
         if found.lastgroup != 'blank':
+            stray = re.search('[\udc80-\udcff]', found.group())
+            if stray:
+                raise Refused(place, f'the byte {ord(stray[0]) - 0xdc00:02X} belongs to no character: save the file as UTF-8 text')
             if not found.group().isascii() or not found.group().isprintable():
                 raise Refused(place, f'{found.group()!a} has a character that no PDDL name has')
             yield found.lastgroup, found.group().lower(), place
