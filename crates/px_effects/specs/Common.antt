@@ -6,7 +6,7 @@ pub use Rattle.px_statements.specs.FactLines.{is_fact}
 pub use Rattle.px_so_far.specs.SoFarViews.{declared_of, leaves, operator_view, with_more}
 pub use Rattle.px_lines.specs.ItemViews.{argument_view, binding_view, room_edit_view, signed_view, text_of}
 pub use Rattle.px_effects.specs.Roles.{in_role}
-pub use Rattle.px_statements.specs.StatementViews.{asked, statement_view}
+pub use Rattle.px_statements.specs.StatementViews.{statement_view}
 pub use Rattle.px_script.proofs.States.{AreInRange}
 pub use Rattle.px_script.specs.Declarations.{atom_of, clause_of, number_in, parameters_here, variable_names_of, with_command, with_names, with_thing}
 pub use Rattle.px_script.specs.Forms.{is_formed}

@@ -4,15 +4,14 @@ ghost use Rattle.px_terms.specs.Limits.{most_formula_variables};
 ghost use Rattle.px_script.specs.declared.limits.Limit.TheVariants as limit;
 ghost use Rattle.px_script.specs.Limits.{greatest};
 ghost use Rattle.px_script.specs.Statements as spec;
-ghost use Rattle.px_effects.specs.Common.{IsFresh, asked, atom_of, variable_names_of, with_command, with_names, a_plan, a_result, a_table, AreReadable, declared_of, leaves, signed_view, room_edit_view, binding_view};
+ghost use Rattle.px_effects.specs.Common.{IsFresh, atom_of, variable_names_of, with_command, with_names, a_plan, a_result, a_table, AreReadable, declared_of, leaves, signed_view, room_edit_view, binding_view};
 
 use crate::declaring::add_name;
 use px_base::{NoMemory, Sequence};
 use px_lines::{SignedAtom, WrittenBinding, WrittenRoomEdit};
 use px_names::Kind;
-use px_script::Command;
+use px_script::{About, Command};
 use px_so_far::{SoFar, Variables, variables};
-use px_statements::About;
 use px_terms::Atom;
 
 /// A goal by numbers.
@@ -155,14 +154,10 @@ pub fn add_learned(so_far: &mut SoFar, name: &str, source: &str) -> Result<(), N
 
 /// Adds a command that only names a table.
 pub fn add_asked(so_far: &mut SoFar, about: About, name: &str) -> Result<(), NoMemory>
-    ensures { OnOk result (declared_of so_far.new ≡ leaves 0 (declared_of so_far.old) (asked about name.now)) }
+    ensures { OnOk result (declared_of so_far.new ≡ leaves 0 (declared_of so_far.old) (spec.ask about name.now)) }
 {
     let name = so_far.number(Kind::Result, name);
-    match about {
-        About::Show => add_command(so_far, Command::Show { name }),
-        About::Save => add_command(so_far, Command::Save { name }),
-        About::Certify => add_command(so_far, Command::Certify { name }),
-    }
+    add_command(so_far, Command::Ask { about, name })
 }
 
 /// Adds a disturbance of a script without a building, and counts it.

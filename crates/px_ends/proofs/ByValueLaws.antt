@@ -5,7 +5,7 @@ use Rattle.px_proof.specs.declared.shape.Tick.{Tick}
 use Rattle.px_table.specs.declared.entry.Move.{Move}
 use Rattle.px_table.specs.declared.node.Node.{Node}
 use Rattle.px_gaps.specs.Questions.{Question}
-use Rattle.px_order.proofs.LawProofs.{runs_are_one, one_stop, exhausted_in_all, blind_ends}
+use Rattle.px_order.proofs.LawProofs.{runs_are_one, nodes_stand_once, all_is_found, one_stop, exhausted_in_all, blind_ends}
 use Rattle.px_order.specs.BreadthEnds as least_ends
 use Rattle.px_order.specs.Spaces.{IsLinear}
 use Rattle.px_ends.proofs.Exclusion.{limit-count}
@@ -15,7 +15,7 @@ use Rattle.px_ends.specs.Ends as breadth
 use Rattle.px_ends.specs.Ends.{node_of}
 use Rattle.px_ends.specs.Order.{IsBefore}
 use Rattle.px_ends.specs.Tasks.{Task}
-use Rattle.px_ends.specs.ValueLaws.{ExhaustedWithAll, ValueEndsAreOne, WeightNoneIsBreadth}
+use Rattle.px_ends.specs.ValueLaws.{ExhaustedWithAll, NodesStandOnceWithAll, ValueEndsAreOne, WeightNoneIsBreadth}
 
 module _ (task : Task) (weight : ℕ) where
   linear : IsLinear (order_by task weight)
@@ -39,6 +39,12 @@ value_ends_are_one = record {
   shape_limit_or_node_limit = λ task weight node formula shapes nodes count s l.
       l.limit.unlimited s.moves s.question s.asked (formula, shapes, s.met);
   shapes = λ task weight node formula shapes s. limit-count task.problem s.question formula shapes s.met;
+}
+
+pub nodes_stand_once_with_all : NodesStandOnceWithAll
+nodes_stand_once_with_all = record {
+  once = λ task. nodes_stand_once (space_of task);
+  all = λ task. all_is_found (space_of task);
 }
 
 pub exhausted_with_all : ExhaustedWithAll

@@ -5,6 +5,7 @@ use Rattle.px_terms.specs.declared.atom.Atom.{Atom}
 use Rattle.px_proof.specs.declared.shape.Tick.{Tick}
 use Rattle.px_table.specs.declared.entry.Move.{Move}
 use Rattle.px_table.specs.declared.node.Node.{Node}
+use Rattle.px_order.specs.OrderLaws.{AllIsFound, NodesStandOnce}
 use Rattle.px_order.specs.Runs.{RunsFor}
 use Rattle.px_ends.specs.ByValue.{space_of, order_by, IsExhausted, IsFound, IsNodeLimit, IsShapeLimit}
 use Rattle.px_ends.specs.Ends as breadth
@@ -15,8 +16,8 @@ use Rattle.px_ends.specs.Tasks.{Task}
 abbrev pub FitsIsMatch : Type 0
 FitsIsMatch = (pattern atom : Atom) → Decides (fits pattern atom) (IsMatch pattern atom)
 
--- With each weight a task has one end: each of the four excludes the others, and what the first three say is determined. Of a shape limit
--- the number of shapes is determined. So many steps lead to one state.
+-- With each weight a task has one end: each excludes the others (`ExhaustedWithAll` says it of `IsExhausted`), and what the first three say
+-- is determined. Of a shape limit the number of shapes is determined. So many steps lead to one state.
 pub record ValueEndsAreOne : Type 0 where
   pub runs : (task : Task) (weight n : ℕ) (found lists : List (List Move)) (picked places : List ℕ)
       → RunsFor (space_of task) (order_by task weight) n found picked → RunsFor (space_of task) (order_by task weight) n lists places
@@ -34,6 +35,11 @@ pub record ValueEndsAreOne : Type 0 where
       → IsShapeLimit task weight node formula shapes → ¬ IsNodeLimit task weight nodes count
   pub shapes : (task : Task) (weight : ℕ) (node : Node) (formula : List Atom) (shapes : List (List Tick))
       → IsShapeLimit task weight node formula shapes → length shapes ≡ task.problem.shapes
+
+-- with each weight each node stands once among those that are found, and where no place is left, each that moves reach is found
+pub record NodesStandOnceWithAll : Type 0 where
+  pub once : (task : Task) → NodesStandOnce (space_of task)
+  pub all : (task : Task) → AllIsFound (space_of task)
 
 -- where a search is exhausted with one weight, none of the other ends comes with any weight
 pub record ExhaustedWithAll : Type 0 where

@@ -1,6 +1,6 @@
 //! Laws about the definitions. The calls do nothing.
 ghost use Rattle.px_ends.specs.Determined.{AskedByStop, EndsAreOne, TablesAreOne};
-ghost use Rattle.px_ends.specs.ValueLaws.{ExhaustedWithAll, FitsIsMatch, ValueEndsAreOne, WeightNoneIsBreadth};
+ghost use Rattle.px_ends.specs.ValueLaws.{ExhaustedWithAll, FitsIsMatch, NodesStandOnceWithAll, ValueEndsAreOne, WeightNoneIsBreadth};
 ghost use Rattle.px_ends.specs.WorkedEnds.{EndFacts};
 ghost use Rattle.px_ends.specs.WorkedValues.{ValueFacts};
 
@@ -29,6 +29,12 @@ pub fn worked_ends()
 /// With each weight a search has one end, and so many steps lead to one state.
 pub fn value_ends_are_one()
     ensures { ValueEndsAreOne }
+{}
+
+/// With each weight a node stands once among those that a search finds, and where no place is left, each node that moves reach is found:
+/// nothing is pruned.
+pub fn nodes_stand_once()
+    ensures { NodesStandOnceWithAll }
 {}
 
 /// Where a search is exhausted with one weight, it isn't found or limited with any.

@@ -20,8 +20,9 @@
 //!   questions are asked is what the stop says ([`asked_by_stop`]; the statements are in `specs/Determined`).
 //! - `specs/ByValue`: the same four ends with a weight, of a search that picks the node of the least value (`px_order`): the number of
 //!   moves, and what the node lacks (`specs/Lacks`) as many times as the weight says. With each weight a search has one end
-//!   ([`value_ends_are_one`]); where it is exhausted with one, it isn't found or limited with any ([`exhausted_with_all`]); weight 0 is
-//!   breadth ([`weight_none_is_breadth`]). [`fits_is_match`] says what the test of an instance means.
+//!   ([`value_ends_are_one`]), and each node stands once ([`nodes_stand_once`]); where it is exhausted with one, it isn't found or limited
+//!   with any ([`exhausted_with_all`]); weight 0 is breadth ([`weight_none_is_breadth`]; `weight_none_is_exactly_breadth` of `px_totality`
+//!   has the other way, too). [`fits_is_match`] says what the test of an instance means.
 //! - `specs/Trees`: the tree of a search (`IsTree`): each node that it finds, by its parent and the last move, and how it ends.
 //! - [`worked_ends`] has the smallest searches, and [`worked_values`] those with a weight.
 //! - The laws are calls that do nothing.
@@ -32,6 +33,6 @@ mod laws;
 mod tests;
 
 pub use laws::{
-    asked_by_stop, ends_are_one, exhausted_with_all, fits_is_match, tables_are_one,
-    value_ends_are_one, weight_none_is_breadth, worked_ends, worked_values,
+    asked_by_stop, ends_are_one, exhausted_with_all, fits_is_match, nodes_stand_once,
+    tables_are_one, value_ends_are_one, weight_none_is_breadth, worked_ends, worked_values,
 };

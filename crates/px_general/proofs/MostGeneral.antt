@@ -1,5 +1,5 @@
 -- Bindings that fit just the solutions of the pairs give a most general one.
-use Rattle.std.specs.Prelude.{◌≡◌, ◌↔◌, ◌<◌, ℕ, Some, None, List, [], ◌∷◌, map, length, slice_get, slice_index_or, All, Contains}
+use Rattle.std.specs.Prelude.{◌≡◌, ◌↔◌, ◌<◌, ℕ, Some, List, [], ◌∷◌, map, length, slice_get, slice_index_or, All, Contains}
 use Rattle.std.proofs.Common.{zero, suc, refl, sym, ap, ◌∙◌, subst, arith}
 use Rattle.std.proofs.lemmas.List.{length-map}
 use Rattle.px_base.specs.ListLaws.{All-at}
@@ -12,7 +12,7 @@ use Rattle.px_unify.specs.Changes.{Fits, HasSolutions, IsRoot, IsUnbound, MakesE
 use Rattle.px_general.specs.Naming.{AreNamed}
 use Rattle.px_general.specs.Replayed.{IsMostGeneral}
 use Rattle.px_general.proofs.Opening.{read-at}
-use Rattle.px_general.proofs.Reading.{read-map}
+use Rattle.px_general.proofs.Reading.{read-map, read-one}
 
 -- lists of one length with the same terms at each place are one
 pub same_list : (xs ys : List Term) → length xs ≡ length ys
@@ -36,20 +36,7 @@ module _ (changes : List Change) (pairs : List (Atom × Atom)) (at resolved labe
 
   at_root : (t : Term) → IsRoot changes t → substitute solution.0 t ≡ substitute labels t
   at_root (Obj n) root = refl
-  at_root (Var v) root = by_place (slice_get labels v) refl
-    where
-      by_place : (o : _) → slice_get labels v ≡ o → slice_index_or solution.0 v WildCard ≡ slice_index_or labels v WildCard
-      by_place (Some t) e = read-at solution.0 v t (solution.3 v root ∙ e) ∙ sym (read-at labels v t e)
-      by_place None e = nowhere solution.0 labels v (solution.3 v root ∙ e) e
-        where
-          nowhere : (xs ys : List Term) (k : ℕ) → slice_get xs k ≡ None → slice_get ys k ≡ None
-              → slice_index_or xs k WildCard ≡ slice_index_or ys k WildCard
-          nowhere xs ys k e f = past xs k e ∙ sym (past ys k f)
-            where
-              past : (xs : List Term) (k : ℕ) → slice_get xs k ≡ None → slice_index_or xs k WildCard ≡ WildCard
-              past [] k e = refl
-              past (x ∷ xs) zero e = absurd (cc)
-              past (x ∷ xs) (suc k) e = past xs k e
+  at_root (Var v) root = read-one solution.0 labels v (solution.3 v root)
   at_root WildCard root = absurd root
 
   named_at : (v : ℕ) → v < variables_of changes → slice_index_or names v WildCard ≡ substitute labels (substitute resolved (Var v))

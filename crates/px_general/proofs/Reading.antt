@@ -1,9 +1,10 @@
 -- Reading lists of terms at a place, and what is in lists.
-use Rattle.std.specs.Prelude.{◌≡◌, ◌⊎◌, ◌+◌, ◌<◌, ◌≤◌, ℕ, true, false, nat_lt, List, [], ◌∷◌, ◌++◌, map, length, flat_map, slice_index, slice_index_or, All, Contains}
+use Rattle.std.specs.Prelude.{◌≡◌, ◌⊎◌, ◌+◌, ◌<◌, ◌≤◌, ℕ, true, false, nat_lt, Option, List, [], ◌∷◌, ◌++◌, map, length, flat_map, slice_get, slice_index, slice_index_or, unwrap_or, All, Contains}
 use Rattle.std.proofs.Common.{zero, suc, refl, sym, ap, ◌∙◌, subst, inl, inr, arith}
 use Rattle.std.proofs.lemmas.Bool.Decides.{nat_tests}
 use Rattle.std.proofs.lemmas.List.{map-append}
 use Rattle.std.proofs.lemmas.List.Elements.{Contains-append_left, Contains-append_right, Contains-append_cases}
+use Rattle.std.proofs.lemmas.Option.{unwrap_or-slice_get}
 use Rattle.px_base.specs.ListLaws.{All-at, All-each, Contains-none, Contains-first, Contains-later, Contains-cases}
 use Rattle.px_terms.specs.declared.term.Term.{Term}
 use Rattle.px_terms.specs.declared.term.Term.TheVariants.{Obj, Var, Any as WildCard}
@@ -45,6 +46,11 @@ pub read-map : (f : Term → Term) (xs : List Term) (k : ℕ) → k < length xs
 read-map f [] k below = absurd (omega (arith, below))
 read-map f (x ∷ xs) zero below = refl
 read-map f (x ∷ xs) (suc k) below = read-map f xs k (omega (arith, below))
+
+-- lists with one item at a place, or both with none, are read as one there
+pub read-one : (xs ys : List Term) (k : ℕ) → slice_get xs k ≡ slice_get ys k → slice_index_or xs k WildCard ≡ slice_index_or ys k WildCard
+read-one xs ys k same =
+    sym (unwrap_or-slice_get xs k WildCard) ∙ ap (λ (o : Option Term). unwrap_or o WildCard) same ∙ unwrap_or-slice_get ys k WildCard
 
 pub read-objects : (objects : List ℕ) (k : ℕ) → k < length objects
     → slice_index_or (map Obj objects) k WildCard ≡ Obj (slice_index objects k)

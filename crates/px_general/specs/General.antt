@@ -77,3 +77,8 @@ pub record KeepsPlan (problem : Problem) (plan general : Table) : Type 0 where
 abbrev pub GeneralIsOne : Type 0
 GeneralIsOne = (problem : Problem) (plan one other : Table) → IsValid problem → IsTable problem plan → IsProper problem plan [] 1
     → Generalises problem plan one → Generalises problem plan other → one ≡ other
+
+-- Each table without parameters has a general table that keeps it, whatever its length, its height and its width.
+abbrev pub GeneralsExist : Type 0
+GeneralsExist = (problem : Problem) (plan : Table) → IsValid problem → IsTable problem plan → plan.params ≡ 0
+    → (general : Table) × Generalises problem plan general × KeepsPlan problem plan general

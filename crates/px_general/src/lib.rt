@@ -22,6 +22,7 @@
 //!   terms; with some of the problem's objects it has just the plan's steps, goal and proofs.
 //! - A plan whose own steps delete nothing that its later rows rest on has at most one general table, proofs included
 //!   ([`general_is_one`]). The table of each plan that a search finds is like this.
+//! - Each plan has a general table ([`generals_exist`]), also one that is too long, too deep or too wide to be generalised here.
 //! - A plan is too long above 64 steps (`IsTooLong`), too deep where a proof is higher than 56 (`IsTooDeep`), and too wide above
 //!   1,000,000 fresh variables (`IsTooWide`), which `fresh_variables` of `px_replay` counts.
 //! - [`worked_general`] says of a small plan which table generalises it, and of others that they don't.
@@ -39,4 +40,4 @@ mod walking;
 
 pub use general_err::GeneralErr;
 pub use generalising::generalise;
-pub use laws::{general_is_one, worked_general};
+pub use laws::{general_is_one, generals_exist, worked_general};

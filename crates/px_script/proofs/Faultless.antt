@@ -1,6 +1,7 @@
 -- A line without a fault: what each cause says where it isn't there.
 use Rattle.px_script.specs.Faults as faults
-use Rattle.px_script.proofs.Common.{◌≡◌, ℕ, Bool, true, false, not, ◌&&◌, List, [], ◌∷◌, map, refl, sym, ◌∙◌, inl, inr, Option, None, Some, AllByRecursion, list_any, option_map, not-false, or_parts, both_answers, has_name, Statement, Line, Block, line_of, script, Declared, OpenBlock, block_here, declared_by, names_here, kind_of_block, Stage, whole_language, is_unbuilt, is_out_of_order, declares_after_command, may_stand, is_late, has_two_domains, varies_too_early, lacks_robot, has_unknown_name, wanted_by, repeats, repeats_name, taken_here, has_wrong_arity, is_unbound, has_long_name, is_long, is_numbered, causes_with, fault_at, first_of, passed, own_limits, has_duplicate, repeats_itself, OnlyTakesAway, ◌++◌, Refusal, is_bad_table}
+use Rattle.px_script.proofs.Common.{◌≡◌, ℕ, Bool, true, false, not, ◌&&◌, List, [], ◌∷◌, map, refl, sym, ◌∙◌, inl, inr, Option, None, Some, AllByRecursion, list_any, option_map, not-false, or_parts, both_answers, has_name, Statement, Line, Block, line_of, Declared, OpenBlock, block_here, declared_by, names_here, kind_of_block, Stage, whole_language, is_unbuilt, is_out_of_order, declares_after_command, may_stand, is_late, has_two_domains, varies_too_early, lacks_robot, has_unknown_name, wanted_by, repeats, repeats_name, taken_here, has_wrong_arity, is_unbound, has_long_name, is_long, is_numbered, causes_with, fault_at, first_of, passed, own_limits, has_duplicate, repeats_itself, OnlyTakesAway, ◌++◌, Refusal, is_bad_table}
+use Rattle.px_script.specs.Statements.{ask, Show}
 use Rattle.px_script.proofs.Lists.{by_test, none-passes, passes-test}
 
 -- No cause to refuse the line is there but for limits and for what isn't built.
@@ -78,7 +79,7 @@ no-fault stage d s e = let l = line_of s in let first = none-first (causes_with 
 
 -- each line is built in the whole language
 whole-built : (s : Statement) → is_unbuilt whole_language s ≡ false
-whole-built (script version) = refl
+whole-built (ask Show n) = refl
 whole-built _ = refl
 
 pub only-takes-away : (stage : Stage) (d : Declared) (s : Statement) → OnlyTakesAway stage d s

@@ -6,16 +6,15 @@ use Rattle.px_base.specs.Bounds.{u32_max}
 use Rattle.px_rooms.proofs.Valid.{buildings_are_valid}
 use Rattle.px_rooms.proofs.Belonging.{facts-are-atoms}
 use Rattle.px_script.proofs.Common.{both_ways, robot_name, room_schemas, building_rules, thing_at, no_schema, ◌≡◌, ◌≢◌, ℕ, ◌+◌, ◌<◌, ◌≤◌, Bool, true, false, not, ◌||◌, List, [], ◌∷◌, ◌++◌, map, length, refl, sym, ap, ◌∙◌, subst, arith, leb-true, append-nil, length-append, nat_lt, nat_le, Option, None, Some, is_some, IfSome, All, slice_index_or, list_any, option_map, not-false, not-true, length-map, All-append, All-map, All-from_recursion, All-nil, cases_lt, inl, inr, range_with_len, slice_index, if◌then◌else◌, both_answers, has_name, bytes_eq, bytes_eq-itself, Standing, a_room, a_door, a_box, IsBoxAt, IsDoorAt, IsRoomAt, first_state, rendering, robot_rooms, standings, standings-more, Atom, Problem, IsAtomOf, IsPatternOf, Thing, codes, All-push, NameLists, IsSchemaOf, Lexeme, lines_of, SignedAtom, is_empty, Statement, Block, plain, inside, operator_block, building_block, line_of, script, «axiom», operator, end, fact, of_weight, building_with, filled_up, with_sort, greatest, of_height, of_nodes, of_shapes, Command, Declared, OpenBlock, BlockKind, OpenOperator, of_operator, of_building, kind_of_block, number_in, atom_of, nothing_declared, after_line, predicate_names, predicate_arities, operator_names, ScriptValue, own_problem, content_of, is_robot, may_stand, is_long, repeats, same_block, has_two_domains, fault_at, is_formed, AreNamesOf, AreNumbered, HasShortLists, IsInRange, IsThingAfter, PassesLexemes, PassAll, IsScript, IsBuiltCommand, IsOfStage, Stage, whole_language, is_built, get_or-append, table, step, goal, proof, WrittenTable, of_table_steps, of_table_rows, table_steps, table_rows, Table, IsSavedTable, problem_of, CommandsInRange}
-use Rattle.px_script.specs.Statements.{object, predicate, pre, delete, add, building, room, door, box, robot, height, nodes, shapes, weight, plan, learn, show, disturb_atoms, disturb_rooms, run, sort, param, facts, duo, save, certify, edit, pursue, tree}
+use Rattle.px_script.specs.Statements.{object, predicate, pre, delete, add, building, room, door, box, robot, height, nodes, shapes, weight, plan, learn, ask, disturb_atoms, disturb_rooms, run, sort, param, facts, duo, edit, pursue, tree}
 use Rattle.px_world.specs.declared.thing.Thing.TheVariants as thing
 use Rattle.px_script.specs.Limits as limit
-use Rattle.px_script.specs.declared.command.Command.TheVariants.{Show, Save, Certify}
 use Rattle.px_script.proofs.Atoms.{atoms-right, atoms-with, patterns-with, AreRight}
 use Rattle.px_script.proofs.Buildings.{rooms-kind, doors-kind, boxes-kind, IsKind, AreOfKind, kind-known, kind-more, roles-kept, standing-more, robots-none, robots-some, is-building}
 use Rattle.px_script.proofs.Commands.{commands-moved}
 use Rattle.px_script.proofs.Faultless.{IsFaultless, no-fault, only-takes-away, stage-takes-away}
 use Rattle.px_script.proofs.Forms.{IsWellFormed, well-formed}
-use Rattle.px_script.proofs.KeptLines.{more-objects, saved-kept, in-version, sorts-filled, still-sorted, script-kept, sort-kept, few-objects, no-own, settings-kept, in-bounds, still-none, carried, Keeps, object-kept, predicate-kept, axiom-kept, fact-kept, operator-kept, of-table-kept, facts-kept, disturb-atoms-kept, disturb-rooms-kept, run-kept, learn-kept, plan-kept, pursue-kept, tree-kept, duo-kept, edit-kept}
+use Rattle.px_script.proofs.KeptLines.{more-objects, saved-kept, in-version, sorts-filled, still-sorted, script-kept, sort-kept, few-objects, no-own, settings-kept, in-bounds, still-none, carried, Keeps, object-kept, predicate-kept, axiom-kept, fact-kept, operator-kept, ask-kept, facts-kept, disturb-atoms-kept, disturb-rooms-kept, run-kept, learn-kept, plan-kept, pursue-kept, tree-kept, duo-kept, edit-kept}
 use Rattle.px_proof.specs.Derivation.{no_atom}
 use Rattle.px_terms.specs.Validity.{IsValid}
 use Rattle.px_table.proofs.DecidingLaws.{tables_are_decided}
@@ -421,8 +420,7 @@ module _ (n : ℕ) (d : Declared) where
       (in-bounds (of_weight d.version) most f.limits.0)) r
   line-kept r (plan name xs) w = outside _ (λ b. refl) d.block d.things (λ r. plan-kept n d r name xs w.filled) r
   line-kept r (learn name source) w = outside _ (λ b. refl) d.block d.things (λ r. learn-kept n d r name source) r
-  line-kept r (show name) w = outside _ (λ b. refl) d.block d.things (λ r f. of-table-kept n d r Show (λ k. refl) (λ k. refl)
-      (λ k is. is) (λ k before. before) name f.known.0 f.limits.0) r
+  line-kept r (ask about name) w = outside _ (λ b. refl) d.block d.things (λ r. ask-kept n d r about name) r
   line-kept r (disturb_atoms turn between xs) w = outside _ (λ b. refl) d.block d.things
       (λ r. disturb-atoms-kept n d r turn between xs w.filled (not-true _ w.of_script)) r
   line-kept r (disturb_rooms turn between es) w = outside _ (λ b. refl) d.block d.things
@@ -437,10 +435,6 @@ module _ (n : ℕ) (d : Declared) where
   line-kept r (step o ts) w = λ f. inside-steps n d (step o ts) (λ line t r. step-kept n d line t r o ts) d.block f.order.stands r f
   line-kept r (goal xs) w = λ f. inside-steps n d (goal xs) (λ line t r. goal-kept n d line t r xs w.filled) d.block f.order.stands r f
   line-kept r (proof parts) w = λ f. inside-rows n d (proof parts) (λ line t r. proof-kept n d line t r parts) d.block f.order.stands r f
-  line-kept r (save name) w = outside _ (λ b. refl) d.block d.things (λ r f. of-table-kept n d r Save (λ k. refl) (λ k. refl)
-      (λ k is. is) (λ k before. before) name f.known.0 f.limits.0) r
-  line-kept r (certify name) w = outside _ (λ b. refl) d.block d.things (λ r f. of-table-kept n d r Certify (λ k. refl) (λ k. refl)
-      (λ k is. is) (λ k before. before) name f.known.0 f.limits.0) r
   line-kept r (pursue name xs) w = outside _ (λ b. refl) d.block d.things (λ r. pursue-kept n d r name xs w.filled) r
 
 -- what a line without a fault keeps, all lines keep

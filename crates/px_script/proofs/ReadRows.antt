@@ -1,14 +1,14 @@
 -- The reader by the table reads exactly the forms of lines: each spelling back, and nothing else.
 use Rattle.px_script.proofs.Common.{◌≡◌, ℕ, Bool, true, false, List, [], ◌∷◌, ◌++◌, map, length, drop, refl, sym, ap, ◌∙◌, subst, append_assoc, append-nil, flat_map-append, Option, None, Some, is_some, AllByRecursion, list_any, flat_map, option_map, option_and_then, IfSome, bytes_eq, if◌then◌else◌, ◌||◌, not-true, and_parts, Lexeme, name, number, spell, spell_atom, spell_binding, spell_room_edit, is_word, Line, line_of, spelling, Declared, has_building, Forms, is_formed, Statement, spell_pair, step, proof, spell_part, not, ◌&&◌, nat_le, words_of_all, words_of_two, words_of_three, list_any-append, nat_tests, arith, ◌<◌, ◌≤◌}
 use Rattle.px_script.specs.Items.{listed}
-use Rattle.px_script.specs.Statements.{spelling_of, door, disturb_atoms, disturb_rooms, run, duo, edit}
+use Rattle.px_script.specs.Statements.{spelling_of, door, ask, disturb_atoms, disturb_rooms, run, duo, edit}
 use Rattle.px_script.specs.declared.kinds.One.{One}
 use Rattle.px_script.specs.declared.kinds.One.TheVariants as one
 use Rattle.px_script.specs.declared.kinds.Last.{Last}
 use Rattle.px_script.specs.declared.kinds.Last.TheVariants as last
 use Rattle.px_script.proofs.Lists.{by_test}
 use Rattle.px_script.proofs.Parsing.{names_of, names_at, at_end, all_of, atom_at, binding_at, room_edit_at, numbers_of, pair_at, items_at, argument_of, part_at}
-use Rattle.px_script.proofs.Rows.{Row, Entry, IsMade, all-made, chosen, one_of, ones_at, last_at, row_items, entries, entries_of_all, entries_of_two, entries_of_three, is_of, entry_among, entry_of, row_of, filled, line_by, line_at, formed_only, formed_line, statement_of, parse}
+use Rattle.px_script.proofs.Rows.{Row, Entry, IsMade, all-made, chosen, one_of, ones_at, last_at, row_items, entries, entries_of_all, entries_of_two, entries_of_three, is_of, entry_among, entry_of, ask-entry, row_of, filled, line_by, line_at, formed_only, formed_line, statement_of, parse}
 use Rattle.px_script.proofs.Forms.{IsWellFormed, well-formed, then-there, map-there, if-there, same_word, there, all-sound, names-again, names-sound, names-at-sound, parameters-again, atoms-again, edits-again, bindings-again, atom-sound, binding-sound, room-edit-sound, numbers-again, numbers-sound, pairs-again, pair-sound, part-sound, parts-again, arguments-all-sound, arguments-all-again}
 
 -- ---- what is read by a row is spelled so: once for all words
@@ -167,6 +167,8 @@ line-again d (disturb_atoms turn true xs) formed = rw (not-true (has_building d)
 line-again d (disturb_atoms turn false xs) formed = rw (not-true (has_building d) formed.of_script, atoms-again xs) refl
 line-again d (disturb_rooms turn true es) formed = rw (formed.of_script, edits-again es) refl
 line-again d (disturb_rooms turn false es) formed = rw (formed.of_script, edits-again es) refl
+line-again d (ask about n) formed = ap (λ (o : Option Entry). option_and_then (line_by (name n ∷ [])) (option_map (λ e. e.row) o))
+    (ask-entry (has_building d) about).1
 line-again d (duo one other ns) formed = rw (numbers-again ns) refl
 line-again d (run n bs) formed = rw (bindings-again bs (and_parts _ true formed.filled).0) refl
 line-again d (step o ts) formed = rw (arguments-all-again ts) refl
@@ -182,6 +184,8 @@ made-again d (disturb_atoms turn true xs) formed = rw (not-true (has_building d)
 made-again d (disturb_atoms turn false xs) formed = rw (not-true (has_building d) formed.of_script) refl
 made-again d (disturb_rooms turn true es) formed = rw formed.of_script refl
 made-again d (disturb_rooms turn false es) formed = rw formed.of_script refl
+made-again d (ask about n) formed = ap (λ (o : Option Entry). option_and_then (λ e. e.make (line_of (ask about n)).items) o)
+    (ask-entry (has_building d) about).1
 made-again d _ formed = refl
 
 pub parse-complete : (d : Declared) (lexemes : List Lexeme) (s : Statement) → Forms d lexemes s → parse d lexemes ≡ Some s

@@ -2,7 +2,7 @@
 -- reader by the table.
 use Rattle.px_script.proofs.Common.{◌≡◌, refl, sym, ap, ◌∙◌, AllByRecursion, IfSome, line_of, open_word, time_word, SignedAtom, ℕ, Bool, true, false, List, [], ◌∷◌, ◌++◌, length, drop, Option, None, Some, codes, if◌then◌else◌, ◌||◌, ◌==◌, nat_le, bytes_eq, option_map, option_and_then, Lexeme, name, number, Manner, Place, Line, Declared, has_building, is_formed, Statement, inside, plain, patterns, literals, goals, atom_changes, operator_block, building_block, script, «axiom», operator, end, fact, table, step, goal, proof, table_terms, table_goals, table_steps, table_rows}
 use Rattle.px_script.specs.Items.{Item, the, amount, amounts, new, declared, listed, known, wanted, atoms, bindings, room_edits, an_object, a_predicate, an_operator, a_parameter, a_sort, a_room as room_name, a_door as door_name, a_box as box_name, a_plan, a_table, pairs, a_result, arguments, proofs}
-use Rattle.px_script.specs.Statements.{room_changes, line, first, domain, setting, opens, closes, command, object, predicate, pre, delete, add, building, room, door, box, robot, height, nodes, shapes, weight, plan, learn, show, disturb_atoms, disturb_rooms, run, facts, sort, param, duo, save, certify, edit, pursue, tree}
+use Rattle.px_script.specs.Statements.{room_changes, line, first, domain, setting, opens, closes, command, object, predicate, pre, delete, add, building, room, door, box, robot, height, nodes, shapes, weight, plan, learn, About, Show, Save, Certify, ask, ask_word, disturb_atoms, disturb_rooms, run, facts, sort, param, duo, edit, pursue, tree}
 use Rattle.px_script.specs.declared.kinds.Choice.{Choice}
 use Rattle.px_script.specs.declared.kinds.Choice.TheVariants as choice
 use Rattle.px_script.specs.declared.kinds.One.{One}
@@ -197,13 +197,13 @@ made-learn (declared a_table (n ∷ []) ∷ the w ∷ wanted a_plan (source ∷ 
     if-there _ _ _ (bytes_eq w (codes "from")) (λ e. rw (same_word w (codes "from") e) refl) (λ e. tt)
 made-learn _ = tt
 
-abbrev pub make_show : List Item → Option Statement
-make_show (wanted a_table (n ∷ []) ∷ []) = Some (show n)
-make_show _ = None
+abbrev pub make_ask : About → List Item → Option Statement
+make_ask about (wanted a_table (n ∷ []) ∷ []) = Some (ask about n)
+make_ask about _ = None
 
-made-show : Makes make_show (line (codes "show") command plain)
-made-show (wanted a_table (n ∷ []) ∷ []) = refl
-made-show _ = tt
+made-ask : (about : About) → Makes (make_ask about) (line (ask_word about) command plain)
+made-ask about (wanted a_table (n ∷ []) ∷ []) = refl
+made-ask about _ = tt
 
 abbrev pub make_disturb : Bool → List Item → Option Statement
 make_disturb false (amounts (turn ∷ []) ∷ the w ∷ atoms xs ∷ []) = option_map (λ between. disturb_atoms turn between xs) (time_of w)
@@ -266,16 +266,6 @@ made-proof : Makes make_proof (line (codes "proof") (inside table_rows) table_te
 made-proof (proofs parts ∷ []) = refl
 made-proof _ = tt
 
--- what names a table alone
-abbrev pub make_of_table : (List ℕ → Statement) → List Item → Option Statement
-make_of_table f (wanted a_table (n ∷ []) ∷ []) = Some (f n)
-make_of_table f _ = None
-
-made-of-table : (f : List ℕ → Statement) (l : List Item → Line) → ((n : List ℕ) → line_of (f n) ≡ l (known a_table n ∷ []))
-    → Makes (make_of_table f) l
-made-of-table f l is (wanted a_table (n ∷ []) ∷ []) = is n
-made-of-table f l is _ = tt
-
 abbrev pub make_edit : List Item → Option Statement
 make_edit (declared a_table (n ∷ []) ∷ the w ∷ wanted a_table (source ∷ []) ∷ amounts (prefix ∷ []) ∷ pairs ps ∷ []) =
     if bytes_eq w (codes "from") then Some (edit n source prefix ps) else None
@@ -309,6 +299,9 @@ disturb_manner false = atom_changes
 abbrev pub disturb_last : Bool → Last
 disturb_last true = last.RoomEdits
 disturb_last false = last.Atoms
+
+abbrev pub asking_row : List ℕ → Row
+asking_row word = row word command plain (one.Known a_table ∷ []) last.Nothing
 
 -- its word stands outside any choice, so that each word below it in the table computes
 abbrev pub disturb_row : Bool → Row
@@ -347,7 +340,7 @@ entries_of_all b =
     ∷ entry (row (codes "shapes") setting plain (one.Number ∷ []) last.Nothing) (make_number shapes)
     ∷ entry (row (codes "plan") command goals (one.New a_plan ∷ []) last.Atoms) make_plan
     ∷ entry (row (codes "learn") command plain (one.New a_table ∷ one.Word choice.Source ∷ one.Known a_plan ∷ []) last.Nothing) make_learn
-    ∷ entry (row (codes "show") command plain (one.Known a_table ∷ []) last.Nothing) make_show
+    ∷ entry (asking_row (codes "show")) (make_ask Show)
     ∷ entry (disturb_row b) (make_disturb b)
     ∷ entry (row (codes "run") command plain (one.Known a_table ∷ []) last.Bindings) make_run
     ∷ entry (row (codes "facts") command plain [] last.Nothing) (make_nothing facts)
@@ -364,8 +357,8 @@ entries_of_tables =
 
 -- the commands of version 2
 abbrev pub entries_of_commands : List Entry
-entries_of_commands = entry (newer 2 (row (codes "save") command plain (one.Known a_table ∷ []) last.Nothing)) (make_of_table save)
-    ∷ entry (newer 2 (row (codes "certify") command plain (one.Known a_table ∷ []) last.Nothing)) (make_of_table certify)
+entries_of_commands = entry (newer 2 (asking_row (codes "save"))) (make_ask Save)
+    ∷ entry (newer 2 (asking_row (codes "certify"))) (make_ask Certify)
     ∷ entry (newer 2 (row (codes "edit") command plain
     (one.New a_table ∷ one.Word choice.Source ∷ one.Known a_table ∷ one.Number ∷ []) last.Pairs)) make_edit
     ∷ entry (newer 2 (row (codes "duo") command plain (one.Known a_table ∷ one.Known a_table ∷ []) last.Numbers)) make_duo
@@ -398,10 +391,9 @@ all-made b = also (made-number script _ (λ n. refl)) (also made-object (also ma
     (also made-operator (also (made-atoms pre _ (λ xs. refl)) (also (made-atoms delete _ (λ xs. refl)) (also (made-atoms add _ (λ xs. refl))
     (also (made-nothing building _ refl) (also made-room (also made-door (also made-box (also made-robot (also (made-nothing end _ refl)
     (also (made-atoms fact _ (λ xs. refl)) (also (made-number height _ (λ n. refl)) (also (made-number nodes _ (λ n. refl)) (also
-    (made-number shapes _ (λ n. refl)) (also made-plan (also made-learn (also made-show (also (made-disturb b) (also made-run (also
+    (made-number shapes _ (λ n. refl)) (also made-plan (also made-learn (also (made-ask Show) (also (made-disturb b) (also made-run (also
     (made-nothing facts _ refl) (also made-sort (also made-param (also made-table (also made-step
-    (also (made-atoms goal _ (λ xs. refl)) (also made-proof (also (made-of-table save _ (λ n. refl)) (also
-    (made-of-table certify _ (λ n. refl)) (also made-edit (also made-duo (also made-pursue (also
+    (also (made-atoms goal _ (λ xs. refl)) (also made-proof (also (made-ask Save) (also (made-ask Certify) (also made-edit (also made-duo (also made-pursue (also
     (made-number weight _ (λ n. refl)) (also made-tree tt))))))))))))))))))))))))))))))))))))
 
 abbrev pub entry_among : List ℕ → List Entry → Option Entry
@@ -413,6 +405,15 @@ row_among w es = option_map (λ e. e.row) (entry_among w es)
 
 abbrev pub entry_of : Bool → List ℕ → Option Entry
 entry_of b w = entry_among w (entries b)
+
+-- each command that only names a table has its entry
+abbrev pub IsAskEntry : About → Option Entry → Type 0
+IsAskEntry about found =
+    (version : ℕ) × (found ≡ Some (record { row = newer version (asking_row (ask_word about)); make = make_ask about }))
+
+pub ask-entry : (b : Bool) (about : About) → IsAskEntry about (entry_of b (ask_word about))
+ask-entry b Show = (1, refl)
+ask-entry b _ = (2, refl)
 
 abbrev pub row_of : Bool → List ℕ → Option Row
 row_of b w = option_map (λ e. e.row) (entry_of b w)

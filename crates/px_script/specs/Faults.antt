@@ -4,7 +4,7 @@ use Rattle.std.specs.List.{list_any, filter, flat_map}
 use Rattle.std.specs.Str.{bytes_eq}
 use Rattle.px_script.specs.Common.{Schema, atom_set, Problem}
 use Rattle.px_script.specs.Items.{SignedAtom, Binding, Part, a_fact, an_ancestor, an_axiom}
-use Rattle.px_script.specs.Statements.{Statement, line_of, script, object, predicate, «axiom», operator, pre, delete, add, building, room, door, box, robot, end, fact, height, nodes, shapes, weight, plan, learn, show, disturb_atoms, disturb_rooms, run, facts, sort, param, duo, save, certify, edit, pursue, tree, table, step, goal, proof}
+use Rattle.px_script.specs.Statements.{Statement, line_of, script, object, predicate, «axiom», operator, pre, delete, add, building, room, door, box, robot, end, fact, height, nodes, shapes, weight, plan, learn, ask, disturb_atoms, disturb_rooms, run, facts, sort, param, duo, edit, pursue, tree, table, step, goal, proof}
 use Rattle.px_script.specs.Limits as limit
 use Rattle.px_script.specs.Limits.{Limit, Bounds, greatest, number_of, number_of_numbers, of_version, of_height, of_nodes, of_shapes, of_weight, of_turn, of_tree, of_executor, last_number}
 use Rattle.px_script.specs.Declarations.{Declared, OpenOperator, operator_here, has_building, number_in, variable_names_of, atom_of, BlockKind, of_table_steps, of_table_rows, table_here, OpenBlock, problem_here}
@@ -118,7 +118,7 @@ own_limits d (weight n) = outside (of_weight d.version) n ∷ []
 own_limits d (plan n xs) =
     over d limit.variables (length (variable_names_of xs)) ∷ over d limit.goal_atoms (length xs) ∷ one_more_command d ∷ []
 own_limits d (learn n source) = one_more_command d ∷ []
-own_limits d (show n) = one_more_command d ∷ []
+own_limits d (ask about n) = one_more_command d ∷ []
 own_limits d (disturb_atoms turn between xs) = disturbance_limits d turn (length xs)
 own_limits d (disturb_rooms turn between es) = disturbance_limits d turn (length es)
 own_limits d (run n bs) = one_more_command d ∷ []
@@ -130,8 +130,6 @@ own_limits d (table n parameters) = has_great_number (parameters ∷ []) ∷ ove
 own_limits d (step o ts) = over d limit.table_steps (steps_here d.block + 1) ∷ []
 own_limits d (goal xs) = over d limit.goal_atoms (length xs) ∷ []
 own_limits d (proof parts) = has_great_number (flat_map numbers_of_part parts) ∷ over d limit.proof_height (highest (heights_of parts)) ∷ []
-own_limits d (save n) = one_more_command d ∷ []
-own_limits d (certify n) = one_more_command d ∷ []
 own_limits d (edit n source prefix ps) = one_more_command d ∷ has_great_number (prefix ∷ flat_map (λ p. p.0 ∷ p.1 ∷ []) ps)
     ∷ over d limit.pairs (length ps) ∷ []
 own_limits d (pursue n xs) =

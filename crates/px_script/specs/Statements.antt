@@ -3,6 +3,9 @@ use Rattle.std.specs.Prelude.{ℕ, Bool, true, false, List, [], ◌∷◌, codes
 use Rattle.std.specs.List.{flat_map}
 use Rattle.px_script.specs.Lexemes.{Lexeme, name}
 use Rattle.px_script.specs.Items.{Item, SignedAtom, WrittenRoomEdit, Binding, the, amount, amounts, new, declared, listed, known, wanted, atoms, bindings, room_edits, an_object, a_predicate, an_operator, a_parameter, a_sort, a_room, a_door, a_box, a_plan, a_table, spell, open_word, a_result, pairs, Argument, Part, arguments, proofs}
+-- what a command that only names a table asks for
+pub use Rattle.px_script.specs.declared.command.About.{About}
+pub use Rattle.px_script.specs.declared.command.About.TheVariants.{Show, Save, Certify}
 -- what a block is of, where a line stands, and what its atoms may be
 pub use Rattle.px_script.specs.declared.kinds.Block.{Block}
 pub use Rattle.px_script.specs.declared.kinds.Block.TheVariants.{Operator as operator_block, Building as building_block, TableSteps as table_steps, TableRows as table_rows}
@@ -29,7 +32,8 @@ pub data Statement : Type 0 where
   end : Statement
   plan : List ℕ → List SignedAtom → Statement
   learn : List ℕ → List ℕ → Statement
-  show : List ℕ → Statement
+  -- a command that only names a table
+  ask : About → List ℕ → Statement
   -- the turn, whether the edits come between sensing and acting, and the edits
   disturb_atoms : ℕ → Bool → List SignedAtom → Statement
   disturb_rooms : ℕ → Bool → List WrittenRoomEdit → Statement
@@ -44,9 +48,8 @@ pub data Statement : Type 0 where
   step : List ℕ → List Argument → Statement
   goal : List SignedAtom → Statement
   proof : List Part → Statement
-  -- a table that is printed so that it can be read again, or as a certificate; the name of an edited table, the table that it is made from,
-  -- how many of its steps, and the wanted adds as pairs of a step and a place; a name, and a goal that is pursued
-  save certify : List ℕ → Statement
+  -- the name of an edited table, the table that it is made from, how many of its steps, and the wanted adds as pairs of a step and a place;
+  -- a name, and a goal that is pursued
   edit : List ℕ → List ℕ → ℕ → List (ℕ × ℕ) → Statement
   pursue : List ℕ → List SignedAtom → Statement
   -- a name, how many nodes, and a goal that is searched for until there are as many
@@ -64,6 +67,11 @@ line word place manner items = record { word = word; place = place; manner = man
 abbrev pub time_word : Bool → List ℕ
 time_word true = codes "between"
 time_word false = codes "before"
+
+abbrev pub ask_word : About → List ℕ
+ask_word Show = codes "show"
+ask_word Save = codes "save"
+ask_word Certify = codes "certify"
 
 abbrev pub line_of : Statement → Line
 line_of (script version) = line (codes "script") first plain (amount version ∷ [])
@@ -88,7 +96,7 @@ line_of (shapes limit) = line (codes "shapes") setting plain (amount limit ∷ [
 line_of (weight limit) = line (codes "weight") setting plain (amount limit ∷ [])
 line_of (plan n xs) = line (codes "plan") command goals (new a_plan n ∷ atoms xs ∷ [])
 line_of (learn n source) = line (codes "learn") command plain (new a_table n ∷ the (codes "from") ∷ known a_plan source ∷ [])
-line_of (show n) = line (codes "show") command plain (known a_table n ∷ [])
+line_of (ask about n) = line (ask_word about) command plain (known a_table n ∷ [])
 line_of (disturb_atoms turn between xs) =
     line (codes "disturb") command atom_changes (amount turn ∷ the (time_word between) ∷ atoms xs ∷ [])
 line_of (disturb_rooms turn between es) =
@@ -101,8 +109,6 @@ line_of (table n parameters) = line (codes "table") (opens table_steps) plain (n
 line_of (step o ts) = line (codes "step") (inside table_steps) table_terms (known an_operator o ∷ arguments ts ∷ [])
 line_of (goal xs) = line (codes "goal") (inside table_steps) table_goals (atoms xs ∷ [])
 line_of (proof parts) = line (codes "proof") (inside table_rows) table_terms (proofs parts ∷ [])
-line_of (save n) = line (codes "save") command plain (known a_table n ∷ [])
-line_of (certify n) = line (codes "certify") command plain (known a_table n ∷ [])
 line_of (edit n source prefix ps) =
     line (codes "edit") command plain (new a_table n ∷ the (codes "from") ∷ known a_table source ∷ amount prefix ∷ pairs ps ∷ [])
 line_of (pursue n xs) = line (codes "pursue") command goals (new a_result n ∷ atoms xs ∷ [])

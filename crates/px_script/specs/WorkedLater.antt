@@ -8,6 +8,7 @@ use Rattle.px_script.specs.Limits as limit
 use Rattle.px_script.specs.Limits.{greatest}
 use Rattle.px_script.specs.Declarations.{nothing_declared}
 use Rattle.px_script.specs.Forms.{is_formed}
+use Rattle.px_script.specs.WorkedTables.{asking}
 use Rattle.px_script.specs.WorkedLines.{Exceed, Leave, LeaveBoth, Refuse, RefuseWhere, Spell, commands, in_operator, learned, learned_in_two, long_name, numbered, of_six, q, thirteen, times, with_sign}
 
 abbrev pursued : List ℕ
@@ -31,7 +32,7 @@ pub record WorkedPursuits : Type 0 where
   pub unknown : Refuse 4 ((learned_in_two, codes "pursue K R\npursue K P(c)\npursue N R") ∷ [])
   pub unknown_table : Refuse 4 ((
     pursued,
-    codes "show K\nrun K\nlearn L from K\nsave K\ncertify K\nduo K N 1\nduo N K 1\nedit E from K 1 1=0",
+    codes "show K\nrun K\nlearn L from K\nduo K N 1\nduo N K 1\nedit E from K 1 1=0\n" ++ asking (codes "K"),
   ) ∷ [])
   -- duplicates, wrong arities, and what may not stand in a goal
   pub known_result : Refuse 5 ((learned_in_two, codes "pursue N Q\npursue M Q(a)") ∷ (pursued, codes "plan K Q") ∷ [])

@@ -1,6 +1,7 @@
--- Blocks of tables, and the commands that print them: how their lines are written, what they leave, and what they are refused for.
+-- Blocks of tables, and commands that only name a table: how their lines are written, what they leave, and what they are refused for.
 use Rattle.std.specs.Prelude.{◌≡◌, ℕ, true, false, List, [], ◌∷◌, ◌++◌, codes, length, map, replicate, None}
 use Rattle.std.specs.Fmt.{decimal}
+use Rattle.std.specs.List.{AllByRecursion}
 use Rattle.px_proof.specs.Derivation as derivation
 use Rattle.px_proof.specs.Derivation.{none, also}
 use Rattle.px_proof.specs.LayerLaws.{proof_of}
@@ -8,8 +9,9 @@ use Rattle.px_table.specs.Tables.{empty_table}
 use Rattle.px_table.specs.declared.table.Table.{Table}
 use Rattle.px_script.specs.Common.{Var}
 use Rattle.px_script.specs.Items.{Argument, SignedAtom, named, open_variable, bare, a_fact, an_ancestor, an_axiom, are_proofs}
-use Rattle.px_script.specs.Statements.{table, step, goal, proof, save, certify}
-use Rattle.px_script.specs.declared.command.Command.TheVariants.{Plan, Learn, Show, Save, Certify, Run, Duo, Edit}
+use Rattle.px_script.specs.Statements.{table, step, goal, proof, About, ask, Show, Save, Certify}
+use Rattle.px_script.specs.Commands.{Command}
+use Rattle.px_script.specs.declared.command.Command.TheVariants.{Plan, Learn, Ask, Run, Duo, Edit}
 use Rattle.px_script.specs.Declarations.{Declared}
 use Rattle.px_script.specs.WorkedLines.{Exceed, Fit, Leave, LeaveBoth, Refuse, RefuseWhere, Spell, closed_building, in_operator, numbered, q, commands, learned, learned_in_two, small, times, with_sign}
 
@@ -120,21 +122,29 @@ pub record WorkedTables : Type 0 where
   pub many_steps : Exceed ((19, opened ++ times 64 (codes "\nstep A(?p1)"), codes "step A(?p1)") ∷ [])
   pub high_proofs : Exceed ((20, aimed, codes "proof" ++ chain 56 ++ codes "\nproof f 0 0 P(?p1)" ++ chain 56) ∷ [])
 
--- ---- lines of commands that print tables
+-- ---- lines of commands that only name a table
 
-pub record WorkedSaves : Type 0 where
+-- those that version 2 is the first to have, with this name
+abbrev pub asking : List ℕ → List ℕ
+asking name = codes "save " ++ (name ++ codes "\ncertify ") ++ name
+
+-- and what they leave, by the number of the name
+abbrev asked : ℕ → List Command
+asked number = Ask Save number ∷ Ask Certify number ∷ []
+
+pub record WorkedAsking : Type 0 where
   -- how they are written, and what they leave
-  pub saving : Spell (codes "save M") (save (codes "M"))
-  pub certifying : Spell (codes "certify M") (certify (codes "M"))
-  pub saves : Leave (learned_in_two ++ codes "\nsave M\ncertify N") (λ d. d.commands)
-      (Plan 0 (numbered 1 [] ∷ []) 0 ∷ Learn 1 0 ∷ Save 1 ∷ Certify 0 ∷ [])
-  pub of_blocks : Leave (all_rows ++ codes "\nend\nsave M\nshow M\nrun M p1=a\nduo M M 1\nedit E from M 1 1=0") (λ d. d.commands)
-      (Save 0 ∷ Show 0 ∷ Run 0 ((1, 0) ∷ []) ∷ Duo 0 0 (1 ∷ []) ∷ Edit 1 0 1 ((1, 0) ∷ []) ∷ [])
-  pub keep_disturbs : Leave (learned_in_two ++ codes "\ndisturb 1 before +Q\nsave N\ncertify N") (λ d. d.disturbs) 1
+  pub are_written : AllByRecursion (λ (t : List ℕ × About). Spell t.0 (ask t.1 (codes "M")))
+      ((codes "show M", Show) ∷ (codes "save M", Save) ∷ (codes "certify M", Certify) ∷ [])
+  pub asks : Leave (learned_in_two ++ codes "\n" ++ asking (codes "M")) (λ d. d.commands)
+      (Plan 0 (numbered 1 [] ∷ []) 0 ∷ Learn 1 0 ∷ asked 1)
+  pub of_blocks : Leave (all_rows ++ codes "\nend\nshow M\nrun M p1=a\nduo M M 1\nedit E from M 1 1=0\n" ++ asking (codes "M"))
+      (λ d. d.commands) (Ask Show 0 ∷ Run 0 ((1, 0) ∷ []) ∷ Duo 0 0 (1 ∷ []) ∷ Edit 1 0 1 ((1, 0) ∷ []) ∷ asked 0)
+  pub keep_disturbs : Leave (learned_in_two ++ codes "\ndisturb 1 before +Q\n" ++ asking (codes "N")) (λ d. d.disturbs) 1
   -- no words of version 1, no such forms, and not in a block
-  pub new_commands : Refuse 3 ((learned, codes "save M\ncertify M") ∷ [])
-  pub without_form : Refuse 2 ((learned_in_two, codes "save\nsave M N\nsave 1\ncertify\ncertify M 1") ∷ [])
-  pub in_blocks : Refuse 9 ((codes "script 2\n" ++ in_operator, codes "save M\ncertify M") ∷ (all_rows, codes "save M") ∷ [])
+  pub new_commands : Refuse 3 ((learned, asking (codes "M")) ∷ [])
+  pub without_form : Refuse 2 ((learned_in_two, asking [] ++ codes "\n" ++ asking (codes "M N") ++ codes "\n" ++ asking (codes "1")) ∷ [])
+  pub in_blocks : Refuse 9 ((codes "script 2\n" ++ in_operator, asking (codes "M")) ∷ (all_rows, asking (codes "M")) ∷ [])
   -- unknown names; a table that was read isn't learned from
-  pub unknown_tables : Refuse 4 ((learned_in_two, codes "save L\ncertify L") ∷ (all_rows ++ codes "\nend", codes "learn L from M") ∷ [])
-  pub many_commands : RefuseWhere learned_in_two (commands 1024) 8 13 (codes "save M\ncertify M")
+  pub unknown_tables : Refuse 4 ((learned_in_two, asking (codes "L")) ∷ (all_rows ++ codes "\nend", codes "learn L from M") ∷ [])
+  pub many_commands : RefuseWhere learned_in_two (commands 1024) 8 13 (asking (codes "M"))

@@ -5,6 +5,7 @@ use Rattle.px_script.specs.Common.{Var}
 use Rattle.px_script.specs.declared.command.Command.TheVariants.{Plan, Learn, Tree}
 use Rattle.px_script.specs.Items.{bare, open_variable}
 use Rattle.px_script.specs.Declarations.{problem_here}
+use Rattle.px_script.specs.WorkedTables.{asking}
 use Rattle.px_script.specs.WorkedLines.{Exceed, Fit, Leave, LeaveBoth, Refuse, RefuseWhere, Spell, closed_building, commands, in_operator, learned, learned_in_two, long_name, numbered, q, small, times, with_sign}
 
 -- ---- the weight of the search
@@ -49,7 +50,7 @@ pub record WorkedTrees : Type 0 where
   pub wrong_place : Refuse 9 ((codes "script 3\n" ++ in_operator, codes "tree K 1 Q")
       ∷ (codes "script 3\npredicate P 1", codes "tree K 1 P(?x)") ∷ [])
   -- unknown names; no command may name a tree
-  pub unknown : Refuse 4 ((in_three, codes "tree K 1 R\ntree N 0 P(c)") ∷ (grown, codes "show K\nrun K\nlearn L from K\nsave K") ∷ [])
+  pub unknown : Refuse 4 ((in_three, codes "tree K 1 R\ntree N 0 P(c)") ∷ (grown, codes "show K\nrun K\nlearn L from K\n" ++ asking (codes "K")) ∷ [])
   pub known_result : Refuse 5 ((in_three, codes "tree N 1 Q\ntree M 0 Q(a)") ∷ [])
   pub arity : Refuse 6 ((in_three, codes "tree K 1 P\ntree K 0 Q($)") ∷ [])
   pub unbound : Refuse 7 ((in_three, codes "tree K 0 P($)") ∷ [])

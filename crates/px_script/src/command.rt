@@ -39,6 +39,17 @@ impl Binding {
     }
 }
 
+/// What a command that only names a table asks for.
+#[derive(Clone, Copy)]
+pub enum About {
+    /// The table.
+    Show,
+    /// The table as a block that a script can have.
+    Save,
+    /// The table with its whole problem, as a certificate.
+    Certify,
+}
+
 /// A command, with its names by their numbers.
 #[derive(Drop)]
 pub enum Command {
@@ -53,16 +64,9 @@ pub enum Command {
         name: u32,
         source: u32,
     },
-    /// Answer a table.
-    Show {
-        name: u32,
-    },
-    /// Answer a table as a block that a script can have.
-    Save {
-        name: u32,
-    },
-    /// Answer a table with its whole problem, as a certificate.
-    Certify {
+    /// Answer what is asked for of a table.
+    Ask {
+        about: About,
         name: u32,
     },
     /// Change facts from outside at a turn of the next run, between sensing and acting, or before both.

@@ -51,7 +51,7 @@ ghost use Rattle.px_script.specs.Statements.{Statement};
 ghost use Rattle.px_script.specs.Scripts.{ReadsOneWay, IsScript};
 ghost use Rattle.px_script.specs.Worked.{WorkedScripts, WorkedRefusals};
 ghost use Rattle.px_script.specs.WorkedLines.{WorkedBuildings, WorkedCommands, WorkedDomains, WorkedDuos, WorkedEdits, WorkedLimits, WorkedSorts, WorkedSpellings};
-ghost use Rattle.px_script.specs.WorkedTables.{WorkedSaves, WorkedTables};
+ghost use Rattle.px_script.specs.WorkedTables.{WorkedAsking, WorkedTables};
 ghost use Rattle.px_script.specs.WorkedThree.{WorkedTrees, WorkedWeights};
 ghost use Rattle.px_script.specs.WorkedLater.{WorkedLater, WorkedPursuits};
 
@@ -60,7 +60,7 @@ mod kinds;
 mod limits;
 mod script;
 
-pub use command::{Binding, Command};
+pub use command::{About, Binding, Command};
 pub use kinds::{Block, Choice, Last, Manner, Named, One, Place, Sign};
 pub use limits::{
     DEFAULT_HEIGHT, DEFAULT_NODES, DEFAULT_OLD_NODES, DEFAULT_SHAPES, DEFAULT_WEIGHT, EXECUTORS,
@@ -83,7 +83,7 @@ pub fn worked_lines()
     ensures edits { WorkedEdits }
     ensures pursuits { WorkedPursuits }
     ensures tables { WorkedTables }
-    ensures saves { WorkedSaves }
+    ensures asking { WorkedAsking }
     ensures weights { WorkedWeights }
     ensures trees { WorkedTrees }
     ensures later { WorkedLater }

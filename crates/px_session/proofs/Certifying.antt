@@ -19,6 +19,7 @@ use Rattle.px_printer.specs.declared.reply.Reply.{Reply}
 use Rattle.px_printer.specs.declared.reply.Reply.TheVariants as reply
 use Rattle.px_printer.specs.declared.reply.SaveWhy.{SaveWhy}
 use Rattle.px_printer.specs.declared.reply.SaveWhy.TheVariants.{TooLong, TooDeep, TooMany}
+use Rattle.px_script.specs.declared.command.About.TheVariants.{Show, Save, Certify}
 use Rattle.px_script.specs.declared.command.Command.{Command}
 use Rattle.px_script.specs.declared.command.Command.TheVariants as command
 use Rattle.px_script.specs.Content.{ScriptValue}
@@ -126,9 +127,9 @@ module _ (problem : Problem) (old : SessionState) (new : SessionState) (valid : 
   of-command (command.Plan n goal vars) name bytes is = absurd is
   of-command (command.Learn n source) name bytes is = absurd is
   of-command (command.Edit n source prefix wanted) name bytes is = absurd is
-  of-command (command.Show n) name bytes is = absurd is
-  of-command (command.Save n) name bytes is = absurd is
-  of-command (command.Certify n) name bytes is = of-certify n name bytes is
+  of-command (command.Ask Show n) name bytes is = absurd is
+  of-command (command.Ask Save n) name bytes is = absurd is
+  of-command (command.Ask Certify n) name bytes is = of-certify n name bytes is
   of-command (command.DisturbAtoms turn between edits) name bytes is = absurd is
   of-command (command.DisturbRooms turn between edits) name bytes is = absurd is
   of-command (command.Run n bound) name bytes is = absurd is

@@ -1,5 +1,5 @@
--- Each command has a lawful reply, but for plans without a general table.
-use Rattle.std.specs.Prelude.{◌≡◌, ◌⊎◌, ◌+◌, ◌++◌, ℕ, Bool, cond, not, Option, Some, None, is_some, List, [], ◌∷◌, length, map, All}
+-- Each command has a lawful reply, and each script a transcript.
+use Rattle.std.specs.Prelude.{◌≡◌, ◌+◌, ◌++◌, ℕ, Bool, cond, not, Option, Some, None, is_some, List, [], ◌∷◌, length, map, All}
 use Rattle.std.proofs.Common.{refl, sym, ap, subst, inl, inr}
 use Rattle.std.proofs.lemmas.List.Elements.{All-head, All-tail}
 use Rattle.px_terms.specs.declared.atom.Atom.{Atom}
@@ -8,7 +8,7 @@ use Rattle.px_terms.specs.Validity.{IsAtomOf, IsValid}
 use Rattle.px_table.specs.declared.table.Table.{Table}
 use Rattle.px_table.specs.Tables.{IsTable}
 use Rattle.px_ends.specs.Tasks.{Task, steps_of, task_of, task_with}
-use Rattle.px_library.specs.Libraries.{table_named, with_table}
+use Rattle.px_library.specs.Libraries.{with_table}
 use Rattle.px_planex.specs.Existing.{TracesExist}
 use Rattle.px_planex.specs.Turns.{AtGoal, AtNoKernel, ByActing, BySlipping, Recorded, RunsTable, TurnValue}
 use Rattle.px_planex.specs.Turns as executed
@@ -16,11 +16,11 @@ use Rattle.px_duo.specs.DuoLaws.{DuoTracesExist, DuosStayReady}
 use Rattle.px_duo.specs.Duos.{both}
 use Rattle.px_printer.specs.declared.reply.Reply.{Reply}
 use Rattle.px_printer.specs.declared.reply.Reply.TheVariants as reply
-use Rattle.px_printer.specs.declared.reply.Why.{Why}
 use Rattle.px_printer.specs.declared.turn.Turn.{Turn}
 use Rattle.px_printer.specs.declared.turn.TurnEnd.{TurnEnd}
 use Rattle.px_printer.specs.declared.turn.TurnEnd.TheVariants.{Acted, Slipped, Goal, NoKernel}
 use Rattle.px_pursue.specs.Pursuits.{IsPursuit}
+use Rattle.px_script.specs.declared.command.About.TheVariants.{Show, Save, Certify}
 use Rattle.px_script.specs.declared.command.Command.{Command}
 use Rattle.px_script.specs.declared.command.Command.TheVariants as command
 use Rattle.px_script.specs.Stages.{stage_now}
@@ -29,14 +29,15 @@ use Rattle.px_totality.specs.SearchEnds.{HasEnd}
 use Rattle.px_totality.proofs.EndingRuns.{runs_end}
 use Rattle.px_totality.proofs.MadeTables.{found_have_tables}
 use Rattle.px_totality.proofs.SomeEnd.{searches_end}
-use Rattle.px_session.specs.Existing.{AsksNoSearch, HasNoGeneral, HasReply, LearnsNothing, RepliesExist, TranscriptsExist}
-use Rattle.px_session.specs.Lawful.{Notes, RefusesLearning, end_told, first_unknown, recorded_for, turn_told}
+use Rattle.px_session.specs.Existing.{AsksNoSearch, HasReply, RepliesExist, TranscriptsExist}
+use Rattle.px_session.specs.Lawful.{Notes, end_told, first_unknown, recorded_for, turn_told}
 use Rattle.px_session.specs.OwnStates.{IsOwnGoal}
 use Rattle.px_session.specs.Sessions.{Edit, IsSession, SessionState, any_table, leaves_edit, of_atoms, of_rooms, opening}
 use Rattle.px_session.specs.Transcripts.{AreAnswers, texts}
 use Rattle.px_session.proofs.DuosEnd.{duo-ends}
 use Rattle.px_session.proofs.Executing.{own-goals}
 use Rattle.px_session.proofs.ExistingEdits.{edit-reply}
+use Rattle.px_session.proofs.ExistingLearning.{learn-reply}
 use Rattle.px_session.proofs.Kept.{sessions_are_kept}
 use Rattle.px_session.proofs.Learned.{are-learned}
 use Rattle.px_session.proofs.OneLearning.{any-right}
@@ -87,10 +88,10 @@ module _ (traces-exist : TracesExist leaves_edit) (duo-traces-exist : DuoTracesE
   noted turn between edits =
       (reply.Noted (length old.recorded + 1), (record old { recorded = old.recorded ++ recorded_for turn between edits ∷ [] }, (refl, refl)))
 
-  shown : (name : ℕ) → HasReply problem old (command.Show name)
+  shown : (name : ℕ) → HasReply problem old (command.Ask Show name)
   shown name = by (any_table old name) refl
     where
-      by : (found : Option Table) → any_table old name ≡ found → HasReply problem old (command.Show name)
+      by : (found : Option Table) → any_table old name ≡ found → HasReply problem old (command.Ask Show name)
       by None named = (reply.Unknown name, (old, (refl, named, refl)))
       by (Some table) named = (reply.Shown name table, (old, (refl, named, refl)))
 
@@ -174,13 +175,13 @@ module _ (traces-exist : TracesExist leaves_edit) (duo-traces-exist : DuoTracesE
 
     other-reply : (given : Command) → AsksNoSearch given → HasReply problem old given
     other-reply (command.Plan name goal vars) asks = absurd asks
-    other-reply (command.Learn name source) asks = absurd asks
+    other-reply (command.Learn name source) asks = learn-reply problem old valid session name source
     other-reply (command.Edit name source prefix wanted) asks = absurd asks
     other-reply (command.Pursue name goal vars) asks = absurd asks
     other-reply (command.Tree name nodes goal vars) asks = absurd asks
-    other-reply (command.Show name) asks = shown name
-    other-reply (command.Save name) asks = save-reply problem old name
-    other-reply (command.Certify name) asks = certify-reply problem old name
+    other-reply (command.Ask Show name) asks = shown name
+    other-reply (command.Ask Save name) asks = save-reply problem old name
+    other-reply (command.Ask Certify name) asks = certify-reply problem old name
     other-reply (command.DisturbAtoms turn between edits) asks = noted turn between (map of_atoms edits)
     other-reply (command.DisturbRooms turn between edits) asks = noted turn between (map of_rooms edits)
     other-reply (command.Run name bound) asks = ran name bound
@@ -232,91 +233,40 @@ module _ (traces-exist : TracesExist leaves_edit) (duo-traces-exist : DuoTracesE
             ),
           ))
 
-    no-learning : (given : Command) → LearnsNothing given → IsOwnGoal problem given → ¬ ¬ HasReply problem old given
-    no-learning (command.Plan name goal vars) learns own = plan-reply name goal vars own
-    no-learning (command.Pursue name goal vars) learns own = pursuit-reply name goal vars own
-    no-learning (command.Tree name nodes goal vars) learns own = tree-reply problem old name nodes goal vars
-    no-learning (command.Learn name source) learns own = absurd learns
-    no-learning (command.Edit name source prefix wanted) learns own = edit-reply problem old name source prefix wanted valid session
-    no-learning (command.Show name) learns own = λ never. never (other-reply (command.Show name) tt)
-    no-learning (command.Save name) learns own = λ never. never (other-reply (command.Save name) tt)
-    no-learning (command.Certify name) learns own = λ never. never (other-reply (command.Certify name) tt)
-    no-learning (command.DisturbAtoms turn between edits) learns own = λ never. never (other-reply (command.DisturbAtoms turn between edits) tt)
-    no-learning (command.DisturbRooms turn between edits) learns own = λ never. never (other-reply (command.DisturbRooms turn between edits) tt)
-    no-learning (command.Run name bound) learns own = λ never. never (other-reply (command.Run name bound) tt)
-    no-learning (command.Duo first second numbers) learns own = λ never. never (other-reply (command.Duo first second numbers) tt)
-    no-learning command.Facts learns own = λ never. never (other-reply command.Facts tt)
-
--- ---- learning
-
-module _ (problem : Problem) (old : SessionState) (name source : ℕ) where
-  abbrev Learns : Type 0
-  Learns = HasReply problem old (command.Learn name source) ⊎ HasNoGeneral problem old source
-
-  of-plan : (plan : Table) → table_named old.plans source ≡ Some plan → ¬ ¬ Learns
-  of-plan plan named never = never (inr (record {
-    plan = plan;
-    named = named;
-    allowed = λ why refused. never (inl (
-      reply.LearnRefused name why,
-      (old, (refl, record { plan = plan; named = named; refused = refused; same = refl })),
-    ));
-    no_general = λ general is. nothing-refused (λ allowed. never (inl (
-      reply.Learned name general.params (length general.steps),
-      (
-        record old { learned = with_table old.learned name general },
-        (
-          refl,
-          record {
-            plan = plan;
-            named = named;
-            allowed = allowed;
-            general = general;
-            generalises = is;
-            params_are = refl;
-            steps_are = refl;
-            learned = refl;
-          },
-        ),
-      ),
-    )));
-  }))
-    where
-      nothing-refused : ¬ ¬ ((why : Why) → ¬ RefusesLearning old plan why)
-      nothing-refused stop = stop (λ why refused. never (inl (
-        reply.LearnRefused name why,
-        (old, (refl, record { plan = plan; named = named; refused = refused; same = refl })),
-      )))
-
-  learn-reply : ¬ ¬ Learns
-  learn-reply = by (table_named old.plans source) refl
-    where
-      by : (found : Option Table) → table_named old.plans source ≡ found → ¬ ¬ Learns
-      by None named never = never (inl (reply.Unknown source, (old, (refl, named, refl))))
-      by (Some plan) named never = of-plan plan named never
+    each-reply : (given : Command) → IsOwnGoal problem given → ¬ ¬ HasReply problem old given
+    each-reply (command.Plan name goal vars) own = plan-reply name goal vars own
+    each-reply (command.Pursue name goal vars) own = pursuit-reply name goal vars own
+    each-reply (command.Tree name nodes goal vars) own = tree-reply problem old name nodes goal vars
+    each-reply (command.Edit name source prefix wanted) own = edit-reply problem old name source prefix wanted valid session
+    each-reply (command.Learn name source) own = λ never. never (other-reply (command.Learn name source) tt)
+    each-reply (command.Ask about name) own = λ never. never (other-reply (command.Ask about name) tt)
+    each-reply (command.DisturbAtoms turn between edits) own = λ never. never (other-reply (command.DisturbAtoms turn between edits) tt)
+    each-reply (command.DisturbRooms turn between edits) own = λ never. never (other-reply (command.DisturbRooms turn between edits) tt)
+    each-reply (command.Run name bound) own = λ never. never (other-reply (command.Run name bound) tt)
+    each-reply (command.Duo first second numbers) own = λ never. never (other-reply (command.Duo first second numbers) tt)
+    each-reply command.Facts own = λ never. never (other-reply command.Facts tt)
 
 -- ---- all commands
 
 module _ (traces-exist : TracesExist leaves_edit) (duo-traces-exist : DuoTracesExist leaves_edit)
     (stay-ready : DuosStayReady leaves_edit) where
   answers-there : (problem : Problem) → IsValid problem → (old : SessionState) → IsSession problem old → (commands : List Command)
-      → All (IsOwnGoal problem) commands → All LearnsNothing commands
+      → All (IsOwnGoal problem) commands
       → ¬ ¬ ((answers : List Reply) × ((last : SessionState) × AreAnswers problem old commands answers last))
-  answers-there problem valid old session [] own learns never = never ([], (old, refl))
-  answers-there problem valid old session (given ∷ commands) own learns never =
+  answers-there problem valid old session [] own never = never ([], (old, refl))
+  answers-there problem valid old session (given ∷ commands) own never =
       let here = All-head (IsOwnGoal problem) given commands own in
-      no-learning traces-exist duo-traces-exist stay-ready problem old valid session given (All-head LearnsNothing given commands learns) here
+      each-reply traces-exist duo-traces-exist stay-ready problem old valid session given here
       (λ first.
       let kept = sessions_are_kept.kept problem old given first.0 first.1.0 valid session here first.1.1 in
       answers-there problem valid first.1.0 kept commands (All-tail (IsOwnGoal problem) given commands own)
-      (All-tail LearnsNothing given commands learns)
       (λ rest. never (first.0 ∷ rest.0, (rest.1.0, (first.1.0, first.1.1, rest.1.1)))))
 
   pub transcripts_exist : TranscriptsExist
-  transcripts_exist bytes script is learns never =
+  transcripts_exist bytes script is never =
       let range = in-range stage_now bytes script is in
       let session = sessions_are_kept.scripts script range in
-      answers-there script.problem range.problem.valid (opening script.facts script.saved) session script.commands (own-goals script range) learns
+      answers-there script.problem range.problem.valid (opening script.facts script.saved) session script.commands (own-goals script range)
       (λ found. never (
         texts script.names found.0,
         record {
@@ -337,6 +287,5 @@ module _ (traces-exist : TracesExist leaves_edit) (duo-traces-exist : DuoTracesE
     pursued = λ problem old name goal vars valid session own.
         pursuit-reply traces-exist duo-traces-exist stay-ready problem old valid session name goal vars own;
     grown = tree-reply;
-    learned = learn-reply;
     edited = λ problem old name source prefix wanted valid session. edit-reply problem old name source prefix wanted valid session;
   }

@@ -53,7 +53,7 @@ general-few problem old session source plan general named short is =
 -- ---- what is reported
 
 -- none of the causes
-allowed : (state : SessionState) (plan : Table) → ¬ IsTooLong plan → ¬ IsTooDeep plan → ¬ IsTooWide plan
+pub allowed : (state : SessionState) (plan : Table) → ¬ IsTooLong plan → ¬ IsTooDeep plan → ¬ IsTooWide plan
     → ¬ (most_tables ≤ length state.learned.tables)
     → (why : Why) → ¬ RefusesLearning state plan why
 allowed state plan short low narrow room TooLong is = short is

@@ -4,6 +4,7 @@ pub mod OneLearning
 pub mod OneEditing
 pub mod OneSaving
 pub mod ExistingEdits
+pub mod ExistingLearning
 pub mod OneRunning
 pub mod ToldRuns
 pub mod Undisturbed

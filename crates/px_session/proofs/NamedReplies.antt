@@ -18,6 +18,7 @@ use Rattle.px_printer.specs.declared.reply.Reply.TheVariants as reply
 use Rattle.px_printer.specs.Replies.{IsReplyNamed}
 use Rattle.px_printer.specs.Rows.{IsNamedTable}
 use Rattle.px_printer.specs.Texts.{IsNamedAtom, IsNamedInstance}
+use Rattle.px_script.specs.declared.command.About.TheVariants.{Show, Save, Certify}
 use Rattle.px_script.specs.declared.command.Command.{Command}
 use Rattle.px_script.specs.declared.command.Command.TheVariants as command
 use Rattle.px_session.specs.Lawful.{FindsPlan, Lawful, Notes, TellsCertifying, TellsDuo, TellsEditing, TellsFacts, TellsLearning, TellsPursuit, TellsRun, TellsSaving, TellsSearch, TellsShow, TellsTree, recorded_for, turn_told}
@@ -200,11 +201,11 @@ named-each problem names old (command.Pursue name goal vars) answer new valid al
     named-pursuit problem names all valid old session goal vars tellable.1 name answer new tellable.0 is
 named-each problem names old (command.Tree name nodes goal vars) answer new valid all atoms session tables tellable is =
     named-tree problem names all old session tables nodes goal vars name answer new tellable.0 is
-named-each problem names old (command.Show name) answer new valid all atoms session tables tellable is =
+named-each problem names old (command.Ask Show name) answer new valid all atoms session tables tellable is =
     named-show problem names all old session.plans session.learned name answer new tellable is
-named-each problem names old (command.Save name) answer new valid all atoms session tables tellable is =
+named-each problem names old (command.Ask Save name) answer new valid all atoms session tables tellable is =
     named-saving problem names all old session.plans session.learned name answer new tellable is
-named-each problem names old (command.Certify name) answer new valid all atoms session tables tellable is =
+named-each problem names old (command.Ask Certify name) answer new valid all atoms session tables tellable is =
     named-certifying problem names old name answer new tellable is
 named-each problem names old (command.Duo first second numbers) answer new valid all atoms session tables tellable is =
     named-duo problem names all old session.plans session.learned first second numbers answer new tellable.0 tellable.1 is

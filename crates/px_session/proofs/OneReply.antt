@@ -13,6 +13,7 @@ use Rattle.px_printer.specs.Replies.{reply_text}
 use Rattle.px_printer.specs.Texts.{text_line, name_text}
 use Rattle.px_printer.specs.declared.reply.Reply.{Reply}
 use Rattle.px_printer.specs.declared.reply.Reply.TheVariants as reply
+use Rattle.px_script.specs.declared.command.About.TheVariants.{Show, Save, Certify}
 use Rattle.px_script.specs.declared.command.Command.{Command}
 use Rattle.px_script.specs.declared.command.Command.TheVariants as command
 use Rattle.px_session.specs.Determined.{LawfulIsOne, SameReply}
@@ -74,9 +75,9 @@ reply-one problem old (command.Learn name source) one other new later valid sess
     learning-one problem valid old session name source one other new later p q
 reply-one problem old (command.Edit name source prefix wanted) one other new later valid session p q =
     editing-one problem old name source prefix wanted one other new later p q
-reply-one problem old (command.Show name) one other new later valid session p q = show-one old name one other new later p q
-reply-one problem old (command.Save name) one other new later valid session p q = saving-one old name one other new later p q
-reply-one problem old (command.Certify name) one other new later valid session p q =
+reply-one problem old (command.Ask Show name) one other new later valid session p q = show-one old name one other new later p q
+reply-one problem old (command.Ask Save name) one other new later valid session p q = saving-one old name one other new later p q
+reply-one problem old (command.Ask Certify name) one other new later valid session p q =
     certifying-one old name problem one other new later p q
 reply-one problem old (command.DisturbAtoms turn between edits) one other new later valid session p q =
     notes-one old (recorded_for turn between (map of_atoms edits)) one other new later p q

@@ -12,6 +12,7 @@ use Rattle.px_printer.specs.declared.reply.Reply.{Reply}
 use Rattle.px_printer.specs.declared.reply.Reply.TheVariants as reply
 use Rattle.px_printer.specs.declared.reply.SaveWhy.{SaveWhy}
 use Rattle.px_printer.specs.declared.reply.SaveWhy.TheVariants.{TooLong, TooDeep, TooMany}
+use Rattle.px_script.specs.declared.command.About.TheVariants.{Save, Certify}
 use Rattle.px_script.specs.declared.command.Command.TheVariants as command
 use Rattle.px_script.specs.declared.limits.TheConstants.{LAST_NUMBER as last_number}
 use Rattle.px_session.specs.Determined.{SameReply}
@@ -197,10 +198,10 @@ cause-or-none table = elim (above-or-not most_steps (length table.steps)) [
 ]
 
 module _ (problem : Problem) (old : SessionState) (name : ℕ) where
-  pub save-reply : HasReply problem old (command.Save name)
+  pub save-reply : HasReply problem old (command.Ask Save name)
   save-reply = by (any_table old name) refl
     where
-      by : (found : Option Table) → any_table old name ≡ found → HasReply problem old (command.Save name)
+      by : (found : Option Table) → any_table old name ≡ found → HasReply problem old (command.Ask Save name)
       by None named = (reply.Unknown name, (old, (refl, named, refl)))
       by (Some table) named = elim (cause-or-none table) [
         | inl found ↦
@@ -208,10 +209,10 @@ module _ (problem : Problem) (old : SessionState) (name : ℕ) where
         | inr allowed ↦ (reply.Saved name table, (old, (refl, record { named = named; allowed = allowed; same = refl })))
       ]
 
-  pub certify-reply : HasReply problem old (command.Certify name)
+  pub certify-reply : HasReply problem old (command.Ask Certify name)
   certify-reply = by (any_table old name) refl
     where
-      by : (found : Option Table) → any_table old name ≡ found → HasReply problem old (command.Certify name)
+      by : (found : Option Table) → any_table old name ≡ found → HasReply problem old (command.Ask Certify name)
       by None named = (reply.Unknown name, (old, (refl, named, refl)))
       by (Some table) named = elim (cause-or-none table) [
         | inl found ↦

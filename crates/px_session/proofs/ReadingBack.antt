@@ -12,6 +12,7 @@ use Rattle.px_printer.specs.declared.reply.Reply.{Reply}
 use Rattle.px_printer.specs.declared.reply.Reply.TheVariants as reply
 use Rattle.px_saved.specs.ReadBack.{IsShortName, ReplyIsReadBack}
 use Rattle.px_saved.proofs.Law.{saved_is_read_back}
+use Rattle.px_script.specs.declared.command.About.TheVariants.{Show, Save, Certify}
 use Rattle.px_script.specs.declared.command.Command.{Command}
 use Rattle.px_script.specs.declared.command.Command.TheVariants as command
 use Rattle.px_session.specs.Lawful.{Lawful, TellsSaving}
@@ -38,9 +39,9 @@ module _ (problem : Problem) (names : NameLists) (named : AreNameLists names) (s
   of-command (command.Plan n goal vars) number table has is = absurd is
   of-command (command.Learn n source) number table has is = absurd is
   of-command (command.Edit n source prefix wanted) number table has is = absurd is
-  of-command (command.Show n) number table has is = absurd is
-  of-command (command.Save n) number table has is = of-save n number table has is
-  of-command (command.Certify n) number table has is = absurd is
+  of-command (command.Ask Show n) number table has is = absurd is
+  of-command (command.Ask Save n) number table has is = of-save n number table has is
+  of-command (command.Ask Certify n) number table has is = absurd is
   of-command (command.DisturbAtoms turn between edits) number table has is = absurd is
   of-command (command.DisturbRooms turn between edits) number table has is = absurd is
   of-command (command.Run n bound) number table has is = absurd is

@@ -11,6 +11,7 @@ use Rattle.px_printer.specs.declared.pursue_end.PursueEnd.{PursueEnd}
 use Rattle.px_printer.specs.declared.reply.Reply.{Reply}
 use Rattle.px_printer.specs.declared.reply.Reply.TheVariants as reply
 use Rattle.px_printer.specs.declared.turn.Turn.{Turn}
+use Rattle.px_script.specs.declared.command.About.TheVariants.{Show, Save, Certify}
 use Rattle.px_script.specs.declared.command.Command.{Command}
 use Rattle.px_script.specs.declared.command.Command.TheVariants as command
 use Rattle.px_session.specs.Lawful.{FindsPlan, IsDuoOf, IsEditedInto, IsLearned, IsPursuitOf, IsRunOf, Lawful, Notes, TellsCertifying, TellsDuo, TellsEditing, TellsFacts, TellsLearning, TellsPursuit, TellsRun, TellsSaving, TellsSearch, TellsShow, TellsTree, recorded_for}
@@ -115,9 +116,9 @@ module _ (problem : Problem) (old : SessionState) (given : Command) (P : Session
       after-search name goal vars by answer new is
   after-reply (command.Learn name source) by answer new is = after-learning name source by answer new is
   after-reply (command.Edit name source prefix wanted) by answer new is = after-editing name source prefix wanted by answer new is
-  after-reply (command.Show name) by answer new is = after-show name answer new is
-  after-reply (command.Save name) by answer new is = after-saving name answer new is
-  after-reply (command.Certify name) by answer new is = after-certifying name answer new is
+  after-reply (command.Ask Show name) by answer new is = after-show name answer new is
+  after-reply (command.Ask Save name) by answer new is = after-saving name answer new is
+  after-reply (command.Ask Certify name) by answer new is = after-certifying name answer new is
   after-reply (command.DisturbAtoms turn between edits) by answer new is =
       after-notes turn between (map of_atoms edits) (ap edits_given by) answer new is
   after-reply (command.DisturbRooms turn between edits) by answer new is =

@@ -12,6 +12,7 @@ use Rattle.px_printer.specs.declared.reply.Reply.TheVariants as reply
 use Rattle.px_printer.specs.declared.reply.SaveWhy.{SaveWhy}
 use Rattle.px_printer.specs.declared.reply.Why.{Why}
 use Rattle.px_printer.specs.declared.reply.Why.TheVariants.{TooLong, TooDeep}
+use Rattle.px_script.specs.declared.command.About.TheVariants.{Save, Certify}
 use Rattle.px_script.specs.declared.command.Command.{Command}
 use Rattle.px_script.specs.declared.command.Command.TheVariants as command
 use Rattle.px_tree.specs.declared.nodes.Tree.{Tree}
@@ -39,16 +40,16 @@ pub record CausesInOrder : Type 0 where
       → any_table old source ≡ Some table → RefusesEditing problem old table prefix wanted why
       → Lawful problem old (command.Edit name source prefix wanted) answer new → (answer ≡ reply.EditRefused name why) × (new ≡ old)
   pub none_to_save : (problem : Problem) (old : SessionState) (name : ℕ) (answer : Reply) (new : SessionState)
-      → any_table old name ≡ None → Lawful problem old (command.Save name) answer new → (answer ≡ reply.Unknown name) × (new ≡ old)
+      → any_table old name ≡ None → Lawful problem old (command.Ask Save name) answer new → (answer ≡ reply.Unknown name) × (new ≡ old)
   -- of the causes not to save a table each is the answer wherever it is the first; and so it is for certifying
   pub not_saved : (problem : Problem) (old : SessionState) (name : ℕ) (answer : Reply) (new : SessionState) (table : Table) (why : SaveWhy)
-      → any_table old name ≡ Some table → RefusesSaving table why → Lawful problem old (command.Save name) answer new
+      → any_table old name ≡ Some table → RefusesSaving table why → Lawful problem old (command.Ask Save name) answer new
       → (answer ≡ reply.SaveRefused name why) × (new ≡ old)
   pub none_to_certify : (problem : Problem) (old : SessionState) (name : ℕ) (answer : Reply) (new : SessionState)
-      → any_table old name ≡ None → Lawful problem old (command.Certify name) answer new → (answer ≡ reply.Unknown name) × (new ≡ old)
+      → any_table old name ≡ None → Lawful problem old (command.Ask Certify name) answer new → (answer ≡ reply.Unknown name) × (new ≡ old)
   pub not_certified : (problem : Problem) (old : SessionState) (name : ℕ) (answer : Reply) (new : SessionState) (table : Table)
       (why : SaveWhy)
-      → any_table old name ≡ Some table → RefusesSaving table why → Lawful problem old (command.Certify name) answer new
+      → any_table old name ≡ Some table → RefusesSaving table why → Lawful problem old (command.Ask Certify name) answer new
       → (answer ≡ reply.CertifyRefused name why) × (new ≡ old)
   pub no_table : (problem : Problem) (old : SessionState) (name : ℕ) (bound : List (ℕ × ℕ)) (answer : Reply) (new : SessionState)
       → any_table old name ≡ None → Lawful problem old (command.Run name bound) answer new → (answer ≡ reply.Unknown name) × (new ≡ old)

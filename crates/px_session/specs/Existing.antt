@@ -1,19 +1,15 @@
 -- That commands have lawful replies, and scripts transcripts.
-use Rattle.std.specs.Prelude.{◌≡◌, ◌⊎◌, ℕ, Some, List, All}
+use Rattle.std.specs.Prelude.{ℕ, List, All}
 use Rattle.px_terms.specs.declared.atom.Atom.{Atom}
 use Rattle.px_terms.specs.declared.problem.Problem.{Problem}
 use Rattle.px_terms.specs.Validity.{IsAtomOf, IsValid}
-use Rattle.px_table.specs.declared.table.Table.{Table}
-use Rattle.px_general.specs.General.{Generalises}
-use Rattle.px_library.specs.Libraries.{table_named}
 use Rattle.px_printer.specs.declared.reply.Reply.{Reply}
-use Rattle.px_printer.specs.declared.reply.Why.{Why}
 use Rattle.px_script.specs.declared.command.Command.{Command}
-use Rattle.px_script.specs.declared.command.Command.TheVariants.{Edit, Learn, Plan, Pursue, Tree}
+use Rattle.px_script.specs.declared.command.Command.TheVariants.{Edit, Plan, Pursue, Tree}
 use Rattle.px_script.specs.Content.{ScriptValue}
 use Rattle.px_script.specs.Scripts.{IsScript}
 use Rattle.px_script.specs.Stages.{stage_now}
-use Rattle.px_session.specs.Lawful.{Lawful, RefusesLearning}
+use Rattle.px_session.specs.Lawful.{Lawful}
 use Rattle.px_session.specs.Sessions.{IsSession, SessionState}
 use Rattle.px_session.specs.Transcripts.{Transcript}
 
@@ -21,29 +17,16 @@ use Rattle.px_session.specs.Transcripts.{Transcript}
 abbrev pub HasReply : Problem → SessionState → Command → Type 0
 HasReply problem old given = (answer : Reply) × ((new : SessionState) × Lawful problem old given answer new)
 
--- the command searches for nothing, learns nothing, and edits nothing
+-- the command searches for nothing and edits nothing
 abbrev pub AsksNoSearch : Command → Type 0
 AsksNoSearch (Plan name goal vars) = ⊥
-AsksNoSearch (Learn name source) = ⊥
 AsksNoSearch (Edit name source prefix wanted) = ⊥
 AsksNoSearch (Pursue name goal vars) = ⊥
 AsksNoSearch (Tree name nodes goal vars) = ⊥
 AsksNoSearch _ = Unit {0}
 
-abbrev pub LearnsNothing : Command → Type 0
-LearnsNothing (Learn name source) = ⊥
-LearnsNothing _ = Unit {0}
-
--- the source's plan may be learned, and has no general table
-pub record HasNoGeneral (problem : Problem) (old : SessionState) (source : ℕ) : Type 0 where
-  pub plan : Table
-  pub named : table_named old.plans source ≡ Some plan
-  pub allowed : (why : Why) → ¬ RefusesLearning old plan why
-  pub no_general : (general : Table) → ¬ Generalises problem plan general
-
 -- In a session's state each command has a lawful reply. For a plan this is a double negation, since which one it is takes a search to say;
--- so it is for a pursuit, which ends, and for the tree of a search; and so it is for editing, since which steps are kept takes work to say;
--- and for learning it is said but for plans without a general table.
+-- so it is for a pursuit, which ends, and for the tree of a search; and so it is for editing, since which steps are kept takes work to say.
 pub record RepliesExist : Type 0 where
   pub others : (problem : Problem) (old : SessionState) (given : Command) → IsValid problem → IsSession problem old → AsksNoSearch given
       → HasReply problem old given
@@ -53,12 +36,10 @@ pub record RepliesExist : Type 0 where
       → IsSession problem old → All (IsAtomOf problem vars) goal → ¬ ¬ HasReply problem old (Pursue name goal vars)
   pub grown : (problem : Problem) (old : SessionState) (name nodes : ℕ) (goal : List Atom) (vars : ℕ)
       → ¬ ¬ HasReply problem old (Tree name nodes goal vars)
-  pub learned : (problem : Problem) (old : SessionState) (name source : ℕ)
-      → ¬ ¬ (HasReply problem old (Learn name source) ⊎ HasNoGeneral problem old source)
   pub edited : (problem : Problem) (old : SessionState) (name source prefix : ℕ) (wanted : List (ℕ × ℕ)) → IsValid problem
       → IsSession problem old → ¬ ¬ HasReply problem old (Edit name source prefix wanted)
 
--- there are no bytes that are a script, without learning, of which no text is the transcript
+-- there are no bytes that are a script of which no text is the transcript
 abbrev pub TranscriptsExist : Type 0
-TranscriptsExist = (bytes : List ℕ) (script : ScriptValue) → IsScript stage_now bytes script → All LearnsNothing script.commands
+TranscriptsExist = (bytes : List ℕ) (script : ScriptValue) → IsScript stage_now bytes script
     → ¬ ¬ ((text : List ℕ) × Transcript bytes text)

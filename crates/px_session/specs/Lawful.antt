@@ -32,6 +32,7 @@ use Rattle.px_printer.specs.declared.reply.Why.TheVariants.{TooLong, TooDeep, To
 use Rattle.px_printer.specs.declared.turn.Turn.{Turn}
 pub use Rattle.px_turns.specs.Told.{end_told, turn_told}
 use Rattle.px_ends.specs.Trees.{IsTree}
+use Rattle.px_script.specs.declared.command.About.TheVariants.{Show, Save, Certify}
 use Rattle.px_script.specs.declared.command.Command.{Command}
 use Rattle.px_script.specs.declared.command.Command.TheVariants as command
 use Rattle.px_script.specs.declared.limits.TheConstants.{LAST_NUMBER as last_number}
@@ -303,9 +304,9 @@ Lawful problem old (command.Plan name goal vars) answer new =
     TellsSearch (task_of problem old.learned.tables old.atoms goal vars) name old answer new
 Lawful problem old (command.Learn name source) answer new = TellsLearning problem old name source answer new
 Lawful problem old (command.Edit name source prefix wanted) answer new = TellsEditing problem old name source prefix wanted answer new
-Lawful problem old (command.Show name) answer new = TellsShow old name answer new
-Lawful problem old (command.Save name) answer new = TellsSaving old name answer new
-Lawful problem old (command.Certify name) answer new = TellsCertifying problem old name answer new
+Lawful problem old (command.Ask Show name) answer new = TellsShow old name answer new
+Lawful problem old (command.Ask Save name) answer new = TellsSaving old name answer new
+Lawful problem old (command.Ask Certify name) answer new = TellsCertifying problem old name answer new
 Lawful problem old (command.DisturbAtoms turn between edits) answer new =
     Notes old (recorded_for turn between (map of_atoms edits)) answer new
 Lawful problem old (command.DisturbRooms turn between edits) answer new =

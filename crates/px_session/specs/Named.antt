@@ -6,7 +6,7 @@ use Rattle.px_terms.specs.Validity.{IsAtomOf, IsValid}
 use Rattle.px_printer.specs.Replies.{IsReplyNamed}
 use Rattle.px_printer.specs.declared.reply.Reply.{Reply}
 use Rattle.px_script.specs.declared.command.Command.{Command}
-use Rattle.px_script.specs.declared.command.Command.TheVariants.{Plan, Learn, Show, Save, Certify, DisturbAtoms, DisturbRooms, Run, Duo, Edit, Pursue, Tree, Facts}
+use Rattle.px_script.specs.declared.command.Command.TheVariants.{Plan, Learn, Ask, DisturbAtoms, DisturbRooms, Run, Duo, Edit, Pursue, Tree, Facts}
 use Rattle.px_script.specs.Content.{ScriptValue}
 use Rattle.px_script.specs.Ranges.{IsInRange}
 use Rattle.px_session.specs.Lawful.{Lawful}
@@ -19,16 +19,14 @@ pub record AreNamesOfProblem (problem : Problem) (names : NameLists) : Type 0 wh
   pub operators : length names.operators ≡ length problem.schemas
 
 -- A plan, a pursuit and a tree each have the name of a result, and a goal of atoms of the problem with these variables; `learn` takes the
--- names of two results, and so does `edit`; `show`, `save`, `certify` and `run` each take the name of a result, and `duo` takes two. Edits
+-- names of two results, and so does `edit`; `run`, and what only asks about a table, take the name of a result, and `duo` takes two. Edits
 -- and the facts have no names of results.
 abbrev pub IsTellable : Problem → ℕ → Command → Type 0
 IsTellable problem results (Plan name goal vars) = (name < results) × All (IsAtomOf problem vars) goal
 IsTellable problem results (Pursue name goal vars) = (name < results) × All (IsAtomOf problem vars) goal
 IsTellable problem results (Tree name nodes goal vars) = (name < results) × All (IsAtomOf problem vars) goal
 IsTellable problem results (Learn name source) = (name < results) × (source < results)
-IsTellable problem results (Show name) = name < results
-IsTellable problem results (Save name) = name < results
-IsTellable problem results (Certify name) = name < results
+IsTellable problem results (Ask about name) = name < results
 IsTellable problem results (DisturbAtoms turn between edits) = Unit {0}
 IsTellable problem results (DisturbRooms turn between edits) = Unit {0}
 IsTellable problem results (Run name bindings) = name < results

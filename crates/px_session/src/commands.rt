@@ -47,9 +47,7 @@ pub(crate) fn run_command(
             state.plan(alloc, problem, *name, goal.as_slice(), *vars)
         }
         Command::Learn { name, source } => state.learn(alloc, problem, *name, *source),
-        Command::Show { name } => state.show(*name),
-        Command::Save { name } => state.save(*name),
-        Command::Certify { name } => state.certify(alloc, problem, *name),
+        Command::Ask { about, name } => state.ask(alloc, problem, *about, *name),
         Command::DisturbAtoms {
             turn,
             between,

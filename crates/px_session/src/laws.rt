@@ -43,7 +43,7 @@ pub fn certificates_are_accepted()
 {}
 
 /// In a session's state each command has a lawful reply: for a plan it can't be that there is none, nor for a pursuit, for a tree and for
-/// editing; and for learning it can't be but for a plan without a general table.
+/// editing.
 pub fn replies_exist()
     ensures { RepliesExist }
 {
@@ -52,7 +52,7 @@ pub fn replies_exist()
     duos_stay_ready::<Place<'_>>();
 }
 
-/// It can't be that bytes which are a script without learning have no transcript.
+/// It can't be that bytes which are a script have no transcript.
 pub fn transcripts_exist()
     ensures { TranscriptsExist }
 {

@@ -1,10 +1,11 @@
-//! Saving and certifying a table of a session.
+//! What is asked for of one table of a session: to show, to save or to certify it.
 ghost use Rattle.std.specs.Prelude.{◌↔◌, ◌<◌, Any, IfOk, IsTrue, map};
 ghost use Rattle.px_terms.specs.Validity.{IsValid};
 ghost use Rattle.px_proof.specs.Derivation.{height};
 ghost use Rattle.px_proof.specs.ProofTerm.{derivation_of};
 ghost use Rattle.px_general.specs.Limits.{IsTooDeep, most_proof_height};
-ghost use Rattle.px_session.specs.Lawful.{TellsCertifying, TellsSaving};
+ghost use Rattle.px_script.specs.declared.command.Command.TheVariants as command;
+ghost use Rattle.px_session.specs.Lawful.{Lawful, TellsCertifying, TellsSaving};
 ghost use Rattle.px_session.specs.Saving.{IsFirstCause};
 
 use crate::state::State;
@@ -12,7 +13,7 @@ use px_base::{NoMemory, Sequence};
 use px_cert::cert_text;
 use px_printer::{Reply, SaveWhy};
 use px_proof::{Proof, higher_than};
-use px_script::LAST_NUMBER;
+use px_script::{About, LAST_NUMBER};
 use px_table::{MOST_STEPS, Row, Table};
 use px_terms::Problem;
 use std::alloc::Global;
@@ -61,11 +62,31 @@ fn has_high_proof(proofs: &[Proof]) -> bool
 }
 
 impl State {
+    /// Answers what is asked for of the table of that name.
+    ///
+    /// # Errors
+    /// `NoMemory` where there is no memory for the reply.
+    pub(crate) fn ask(
+        &self,
+        alloc: Global,
+        problem: &Problem,
+        about: About,
+        name: u32,
+    ) -> Result<Reply, NoMemory>
+        ensures lawful { IfOk result (λ reply. Lawful problem.now self.now (command.Ask about name) reply self.now) }
+    {
+        match about {
+            About::Show => self.show(name),
+            About::Save => self.save(name),
+            About::Certify => self.certify(alloc, problem, name),
+        }
+    }
+
     /// Answers the table of that name, to be printed as a block.
     ///
     /// # Errors
     /// `NoMemory` where there is no memory for a copy of the table.
-    pub(crate) fn save(&self, name: u32) -> Result<Reply, NoMemory>
+    fn save(&self, name: u32) -> Result<Reply, NoMemory>
         ensures told { IfOk result (λ reply. TellsSaving self.now name reply self.now) }
     {
         let Some(table) = self.table(name) else {
@@ -84,12 +105,7 @@ impl State {
     ///
     /// # Errors
     /// `NoMemory` where there is no memory for the certificate.
-    pub(crate) fn certify(
-        &self,
-        alloc: Global,
-        problem: &Problem,
-        name: u32,
-    ) -> Result<Reply, NoMemory>
+    fn certify(&self, alloc: Global, problem: &Problem, name: u32) -> Result<Reply, NoMemory>
         ensures told { IfOk result (λ reply. TellsCertifying problem.now self.now name reply self.now) }
     {
         let Some(table) = self.table(name) else {

@@ -1,4 +1,3 @@
 -- The files of lemmas.
 pub mod Common
 pub mod Times
-pub mod Shown

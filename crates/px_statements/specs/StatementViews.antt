@@ -1,17 +1,9 @@
 -- What the definitions see of statements.
-use Rattle.std.specs.Prelude.{ℕ, List, map}
+use Rattle.std.specs.Prelude.{map}
 use Rattle.px_script.specs.Statements as spec
 use Rattle.px_lines.specs.ItemViews.{binding_view, room_edit_view, signed_view, text_of, argument_view, part_view}
-use Rattle.px_statements.specs.declared.statement_kinds.About.{About}
-use Rattle.px_statements.specs.declared.statement_kinds.About.TheVariants as about
 use Rattle.px_statements.specs.declared.statement_kinds.Statement.{Statement}
 use Rattle.px_statements.specs.declared.statement_kinds.Statement.TheVariants as statement
-
--- a command that only names a table
-abbrev pub asked : About → List ℕ → spec.Statement
-asked about.Show n = spec.show n
-asked about.Save n = spec.save n
-asked about.Certify n = spec.certify n
 
 abbrev pub statement_view : Statement → spec.Statement
 statement_view (statement.Script n) = spec.script n
@@ -35,7 +27,7 @@ statement_view (statement.Shapes n) = spec.shapes n
 statement_view (statement.Weight n) = spec.weight n
 statement_view (statement.Plan n atoms) = spec.plan n.now (map signed_view atoms.now)
 statement_view (statement.Learn n source) = spec.learn n.now source.now
-statement_view (statement.Ask what n) = asked what n.now
+statement_view (statement.Ask about n) = spec.ask about n.now
 statement_view (statement.DisturbAtoms turn between edits) = spec.disturb_atoms turn between (map signed_view edits.now)
 statement_view (statement.DisturbRooms turn between edits) = spec.disturb_rooms turn between (map room_edit_view edits.now)
 statement_view (statement.Run n bindings) = spec.run n.now (map binding_view bindings.now)

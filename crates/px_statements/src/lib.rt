@@ -14,5 +14,5 @@
 mod statement_kinds;
 mod statements;
 
-pub use statement_kinds::{About, Statement};
+pub use statement_kinds::Statement;
 pub use statements::statement;

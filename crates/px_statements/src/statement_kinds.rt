@@ -3,17 +3,7 @@ ghost use Rattle.std.specs.Prelude.{◌≡◌};
 ghost use Rattle.px_statements.specs.Common.{is_fact, statement_view};
 
 use px_lines::{Argument, Part, SignedAtom, WrittenBinding, WrittenRoomEdit};
-
-/// What a command does that only names a table.
-#[derive(Clone, Copy)]
-pub enum About {
-    /// It shows the table.
-    Show,
-    /// It saves it.
-    Save,
-    /// It certifies it.
-    Certify,
-}
+use px_script::About;
 
 /// What a line says. It borrows the line's lists.
 #[derive(Clone, Copy)]

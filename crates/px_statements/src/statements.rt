@@ -3,14 +3,14 @@ ghost use Rattle.std.specs.Prelude.{◌≡◌, ◌++◌, ℕ, List, ◌∷◌, S
 ghost use Rattle.px_script.specs.Items as items;
 ghost use Rattle.px_script.specs.Statements as spec;
 ghost use Rattle.px_script.specs.Statements.{time_word};
-ghost use Rattle.px_script.proofs.Rows.{entries_of_three, entries_of_two, entry_among, entry_of, make_atoms, make_box, make_disturb, make_door, make_duo, make_edit, make_learn, make_nothing, make_number, make_object, make_of_table, make_operator, make_param, make_plan, make_predicate, make_proof, make_pursue, make_robot, make_room, make_run, make_show, make_sort, make_step, make_table, make_tree, row_among, row_of, statement_of};
+ghost use Rattle.px_script.proofs.Rows.{entries_of_three, entries_of_two, entry_among, entry_of, make_ask, make_atoms, make_box, make_disturb, make_door, make_duo, make_edit, make_learn, make_nothing, make_number, make_object, make_operator, make_param, make_plan, make_predicate, make_proof, make_pursue, make_robot, make_room, make_run, make_sort, make_step, make_table, make_tree, row_among, row_of, statement_of};
 ghost use Rattle.px_lines.specs.ItemViews.{rest_view, said_items};
 ghost use Rattle.px_lines.specs.LineViews.{line_view, IsShaped};
-ghost use Rattle.px_statements.specs.Common.{asked, bytes_eq, option_and_then, option_map, time_of, signed_view, statement_view};
+ghost use Rattle.px_statements.specs.Common.{bytes_eq, option_and_then, option_map, time_of, signed_view, statement_view};
 
-use crate::statement_kinds::{About, Statement};
+use crate::statement_kinds::Statement;
 use px_lines::{Line, Rest, Said, SignedAtom, open_of};
-use px_script::Named;
+use px_script::{About, Named};
 
 fn number(ones: &[Said<'_>], last: &Rest<'_>) -> Option<u32>
     requires { length ones.now ≡ 1 }
@@ -351,15 +351,22 @@ fn learned<'line, 'text>(
     }
 }
 
-#[tactic(auto, using(crate::proofs::Shown::shown))]
-fn show<'line, 'text>(
+/// Returns the command that asks about the table that a line names alone.
+fn ask<'line, 'text>(
+    about: About,
     ones: &[Said<'text>],
     last: &'line Rest<'text>,
 ) -> Option<Statement<'line, 'text>>
     requires { length ones.now ≡ 1 }
-    ensures { option_map statement_view result ≡ make_show (said_items ones.now last.now) }
+    ensures { option_map statement_view result ≡ make_ask about (said_items ones.now last.now) }
 {
-    asked(About::Show, ones, last)
+    match ones {
+        [Said::Known(Named::Table, name)] => match last {
+            Rest::Nothing => Some(Statement::Ask(about, name)),
+            _ => None,
+        },
+        _ => None,
+    }
 }
 
 /// Returns whether the word says that edits come between sensing and acting, or before both.
@@ -569,32 +576,6 @@ fn proof<'line, 'text>(
     }
 }
 
-/// Returns the name of the table that a line names alone.
-fn table<'text>(ones: &[Said<'text>], last: &Rest<'_>) -> Option<&'text str>
-    requires { length ones.now ≡ 1 }
-    ensures { (f : List ℕ → spec.Statement) → option_map (λ name. f name.now) result ≡ make_of_table f (said_items ones.now last.now) }
-{
-    match ones {
-        [Said::Known(Named::Table, name)] => match last {
-            Rest::Nothing => Some(*name),
-            _ => None,
-        },
-        _ => None,
-    }
-}
-
-/// Returns the command about the table that a line names alone.
-fn asked<'line, 'text>(
-    about: About,
-    ones: &[Said<'text>],
-    last: &'line Rest<'text>,
-) -> Option<Statement<'line, 'text>>
-    requires { length ones.now ≡ 1 }
-    ensures { option_map statement_view result ≡ make_of_table (asked about) (said_items ones.now last.now) }
-{
-    Some(Statement::Ask(about, table(ones, last)?))
-}
-
 fn edited<'line, 'text>(
     name: &'text str,
     word: &str,
@@ -697,7 +678,7 @@ fn made<'line, 'text>(
         "shapes" => shapes(ones, last),
         "plan" => plan(ones, last),
         "learn" => learn(ones, last),
-        "show" => show(ones, last),
+        "show" => ask(About::Show, ones, last),
         "disturb" => disturb(with_building, ones, last),
         "run" => run(ones, last),
         "facts" => facts(ones, last),
@@ -724,8 +705,8 @@ fn made_of_two<'line, 'text>(
         "step" => step(ones, last),
         "goal" => goal(ones, last),
         "proof" => proof(ones, last),
-        "save" => asked(About::Save, ones, last),
-        "certify" => asked(About::Certify, ones, last),
+        "save" => ask(About::Save, ones, last),
+        "certify" => ask(About::Certify, ones, last),
         "edit" => edit(ones, last),
         "pursue" => pursue(ones, last),
         _ => made_of_three(word, ones, last),

@@ -3,7 +3,7 @@ use px_duo::{
     duo_traces_are_one, duo_traces_exist, duos_stay_ready, each_is_alone, slips_have_causes,
     spared_are_unhindered, spared_reach_goal,
 };
-use px_general::{general_is_one, worked_general};
+use px_general::{general_is_one, generals_exist, worked_general};
 use px_match::{danger_kernels, danger_sensed, sensed_is_one};
 use px_planex::{
     acts_and_goes_on, danger_runs, events_take_places, goal_is_reached, guard_never, runs_are_one,
@@ -32,6 +32,7 @@ fn laws_are_calls(_rt: HostRuntime) {
     danger_kernels();
     danger_sensed();
     general_is_one();
+    generals_exist();
     worked_general();
     traces_are_one::<AtomWorld<'_>>();
     traces_exist::<AtomWorld<'_>>();

@@ -147,12 +147,11 @@ returns-clause-tables c = record {
   high_proofs = search (after-so, fit-so, refuse-so) depth 14;
 }
 
-pub returns-clause-saves : goal.returns-clause-saves
+pub returns-clause-asking : goal.returns-clause-asking
 unfolding lines_read scan_by unicode_ident encode all_within items_after with_item set_of digits
-returns-clause-saves c = record {
-  saving = search spell;
-  certifying = search spell;
-  saves = search (after-so, refuse-so) depth 14;
+returns-clause-asking c = record {
+  are_written = search spell depth 14;
+  asks = search (after-so, refuse-so) depth 14;
   of_blocks = search (after-so, refuse-so) depth 14;
   keep_disturbs = search (after-so, refuse-so) depth 14;
   new_commands = search (after-so, refuse-so) depth 14;
