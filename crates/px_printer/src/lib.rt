@@ -8,8 +8,8 @@
 //!   and `moves` never change with the number before them. The rows of a shown table are in `specs/Rows.antt`, the block of a saved one in
 //!   `specs/Blocks.antt`, the turns of a run or a pursuit ([`Turn`]) in `specs/Turns.antt`, how a pursuit ends ([`PursueEnd`]) in
 //!   `specs/PursuitEnds.antt`, the nodes and the end of a search tree in `specs/Trees.antt`, what two executors do ([`DuoLine`]) in
-//!   `specs/DuoLines.antt`, and the words for why a plan isn't learned ([`Why`]), a table isn't saved or certified ([`SaveWhy`]) and a
-//!   table isn't edited ([`EditWhy`]) in `specs/Whys.antt`.
+//!   `specs/DuoLines.antt`, and the words for why a plan isn't learned ([`Why`]), a table isn't written ([`SaveWhy`]) and a table isn't
+//!   edited ([`EditWhy`]) in `specs/Whys.antt`.
 //! - `reply_text` asks that each number which it prints as a name has that name (`IsReplyNamed`). If a search met a limit, nodes and
 //!   shapes are only counted, so nothing is asked of their numbers. `specs/NamedLaws`, which no clause cites, has that a proof has its
 //!   names where its leaves and terms have them.

@@ -2,8 +2,9 @@
 use Rattle.std.specs.Prelude.{◌≡◌, ◌⊎◌, ℕ, List, []}
 use Rattle.px_io.specs.Writing.{AppendsFront, AppendsProperFront}
 use Rattle.px_reader.specs.declared.refused.Refused.{Refused}
+use Rattle.px_session.specs.Demo.{Summary}
 use Rattle.px_session.specs.Transcripts.{Transcript}
-use Rattle.px_run.specs.Outcomes.{Came, IsCheckText, IsDemoText, SinkEnds, SourceEnds, Wrote}
+use Rattle.px_run.specs.Outcomes.{Came, IsCheckText, SinkEnds, SourceEnds, Wrote}
 use Rattle.px_run.specs.Transcripts.{IsScriptRefused, refusal_text}
 use Rattle.px_run.specs.declared.status.Status.{Status}
 use Rattle.px_run.specs.declared.status.Status.TheVariants as status
@@ -29,9 +30,9 @@ HasFront source sink status.NoMemory = Wrote sink []
     ⊎ ((bytes : List ℕ) × Came source bytes × ((text : List ℕ) → IsDemanded bytes text → WroteFront sink text))
 HasFront source sink _ = Unit {0}
 
--- the same for a demo: where a write failed, a proper front of its text was written, and where memory ran out nothing
+-- the same for a demo: where a write failed, a proper front of its line was written, and where memory ran out nothing
 abbrev pub HasDemoFront : (rooms seed : ℕ) → SinkEnds → Status → Type 0
-HasDemoFront rooms seed sink status.WriteFault = (text : List ℕ) → IsDemoText rooms seed text → WroteProperFront sink text
+HasDemoFront rooms seed sink status.WriteFault = (text : List ℕ) → Summary rooms seed text → WroteProperFront sink text
 HasDemoFront rooms seed sink status.NoMemory = Wrote sink []
 HasDemoFront rooms seed sink _ = Unit {0}
 

@@ -2,7 +2,6 @@
 use Rattle.std.specs.Prelude.{◌≡◌, ◌⊎◌, ◌<◌, ◌≤◌, ◌+◌, ℕ, Bool, true, false, List, [], ◌++◌, length, Option, None, Some}
 use Rattle.std.specs.Io.KnownBytes.{Appends}
 use Rattle.px_cert.specs.Certificates.{Claim, IsCertificate, IsFirstBadLine}
-use Rattle.px_demo.specs.Script.{demo_script}
 use Rattle.px_io.specs.Causes.{Rose}
 use Rattle.px_io.specs.Reading.{ReadToEnd}
 use Rattle.px_io.specs.Writing.{HasNoRoomFor}
@@ -105,16 +104,10 @@ RunRight source sink status.NoMemory = (source.faults_after ≡ source.faults) �
     × (Wrote sink [] ⊎ ((bytes : List ℕ) × (text : List ℕ) × Came source bytes × Begun bytes text × Wrote sink text))
 RunRight source sink status.Usage = ⊥
 
--- what is written in one piece for a demo: where and why its script is refused, or the line that sums it up
-abbrev pub IsDemoText : (rooms seed : ℕ) → List ℕ → Type 0
-IsDemoText rooms seed text = ((refused : Refused) × IsScriptRefused (demo_script rooms seed) refused × (text ≡ refusal_text refused))
-    ⊎ Summary rooms seed text
-
--- The outcomes of `demo`, which reads nothing.
+-- The outcomes of `demo`, which reads nothing. Its line sums up the replies to its script, and no demo is refused.
 abbrev pub DemoRight : (rooms seed : ℕ) → SinkEnds → Status → Type 0
 DemoRight rooms seed sink status.Done = (text : List ℕ) × Summary rooms seed text × Wrote sink text
-DemoRight rooms seed sink (status.Refused refused) = IsScriptRefused (demo_script rooms seed) refused × Wrote sink (refusal_text refused)
-DemoRight rooms seed sink status.WriteFault = (text : List ℕ) × IsDemoText rooms seed text × Broke sink [] text
+DemoRight rooms seed sink status.WriteFault = (text : List ℕ) × Summary rooms seed text × Broke sink [] text
 DemoRight rooms seed sink status.NoMemory = Wrote sink []
 DemoRight rooms seed sink _ = ⊥
 
@@ -200,23 +193,15 @@ CheckRefuses source sink result = (bytes : List ℕ) (refused : Refused) → sou
     → (¬ Rose source.faults source.faults_after) → (result ≡ status.Refused refused) ⊎ (result ≡ status.NoMemory)
     ⊎ (result ≡ status.WriteFault)
 
--- Where a demo's script is one, and no write failed, its line is written, or memory ran out.
-abbrev pub DemoCompletes : (rooms seed : ℕ) → SinkEnds → Status → Type 0
-DemoCompletes rooms seed sink result =
-    (script : ScriptValue) → IsScript stage_now (demo_script rooms seed) script → (¬ Rose sink.faults sink.faults_after)
-    → (result ≡ status.Done) ⊎ (result ≡ status.NoMemory)
+-- Where no write failed, a demo's line is written, or memory ran out.
+abbrev pub DemoCompletes : SinkEnds → Status → Type 0
+DemoCompletes sink result = (¬ Rose sink.faults sink.faults_after) → (result ≡ status.Done) ⊎ (result ≡ status.NoMemory)
 
--- The line of such a demo is also written where the sink is sure to take it, unless memory ran out.
+-- It is also written where the sink is sure to take it, unless memory ran out.
 abbrev pub DemoCompletesSurely : (rooms seed : ℕ) → SinkEnds → Status → Type 0
-DemoCompletesSurely rooms seed sink result =
-    (script : ScriptValue) (held : List ℕ) (room : ℕ) → IsScript stage_now (demo_script rooms seed) script
-    → sink.written ≡ Some held → sink.sure ≡ Some room → ((text : List ℕ) → Summary rooms seed text → length held + length text ≤ room)
+DemoCompletesSurely rooms seed sink result = (held : List ℕ) (room : ℕ) → sink.written ≡ Some held → sink.sure ≡ Some room
+    → ((text : List ℕ) → Summary rooms seed text → length held + length text ≤ room)
     → (result ≡ status.Done) ⊎ (result ≡ status.NoMemory)
-
--- Where a demo's script isn't one, it is refused, if no write failed and memory didn't run out.
-abbrev pub DemoRefuses : (rooms seed : ℕ) → SinkEnds → Status → Type 0
-DemoRefuses rooms seed sink result = (refused : Refused) → IsScriptRefused (demo_script rooms seed) refused
-    → (result ≡ status.Refused refused) ⊎ (result ≡ status.NoMemory) ⊎ (result ≡ status.WriteFault)
 
 -- the outcomes of summing up a demo's script
 abbrev pub SumRight : (rooms seed : ℕ) → SessionValue → SinkEnds → Status → Type 0

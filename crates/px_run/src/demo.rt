@@ -11,7 +11,6 @@ ghost use Rattle.px_run.specs.Sums.{IsSumOf};
 
 use crate::counts::{Counts, counted};
 use crate::status::Status;
-use crate::top::refuse;
 use px_demo::demo_script;
 use px_io::{Sink, put};
 use px_reader::{ScriptErr, read_script};
@@ -33,7 +32,8 @@ pub(crate) fn demo<K: Sink>(alloc: Global, rooms: u32, seed: u32, sink: &mut K) 
     };
     match read_script(alloc, &bytes) {
         Ok(script) => sum_up(alloc, script, rooms, seed, sink),
-        Err(ScriptErr::Refused(refused)) => refuse(alloc, refused, sink),
+        // the bytes are a script: a law of px_demo_script
+        Err(ScriptErr::Refused(_)) => unreachable!(),
         Err(ScriptErr::NoMemory) => Status::NoMemory,
     }
 }

@@ -6,10 +6,10 @@
 //!   in memory, and returns a `Status`. Its contract is one table over the statuses (`specs/Outcomes`): what each
 //!   status says of what came from the source and of what was written.
 //! - The single word `run` answers the commands of the script that comes from the source. The words `demo ROOMS SEED` make the script of
-//!   `px_demo`, answer its commands, and write one line that sums up the replies (the clauses `demo_completes`, `demo_completes_surely`,
-//!   `demo_refuses` and `demo_front` of the top call, and `right`). The single word `check` says whether the certificate that comes from
-//!   the source is right (`certifies`, the clauses that begin with `check_`, and `right`). Every other list of words is answered by how the
-//!   program is called.
+//!   `px_demo`, which always is one (`px_demo_script`), answer its commands, and write one line that sums up the replies (the clauses
+//!   `demo_completes`, `demo_completes_surely` and `demo_front` of the top call, and `right`). The single word `check` says whether the
+//!   certificate that comes from the source is right (`certifies`, the clauses that begin with `check_`, and `right`). Every other list of
+//!   words is answered by how the program is called.
 //! - What is written for a script is a transcript (`px_session/specs/Transcripts`): one lawful reply for each command, in
 //!   order, each in the state that the one before left. `Lawful` of `px_session` defines which replies are lawful.
 //! - The bytes determine it, and what is written for the first commands begins it ([`texts_are_one`]). Each plan in it

@@ -9,7 +9,7 @@ ghost use Rattle.px_words.specs.Orders.{order_of};
 ghost use Rattle.px_words.specs.declared.orders.Order.TheVariants.{Run, Check, Demo};
 ghost use Rattle.px_run.specs.Fronts.{HasCheckFront, HasDemoFront, HasFront};
 ghost use Rattle.px_run.specs.Laws.{CarriesWhereDone, CertifiesWhereDone};
-ghost use Rattle.px_run.specs.Outcomes.{source_ends, sink_ends, Came, CheckCompletes, CheckCompletesSurely, CheckRefuses, IsUnread, DemoCompletes, DemoCompletesSurely, DemoRefuses, UsageRight, RefusalRight, ExecutedRight, RunRight, StatusRight, Completes, CompletesSurely, Refuses};
+ghost use Rattle.px_run.specs.Outcomes.{source_ends, sink_ends, Came, CheckCompletes, CheckCompletesSurely, CheckRefuses, IsUnread, DemoCompletes, DemoCompletesSurely, UsageRight, RefusalRight, ExecutedRight, RunRight, StatusRight, Completes, CompletesSurely, Refuses};
 
 use crate::check::check;
 use crate::demo::demo;
@@ -71,11 +71,9 @@ pub fn planex_main<'a, S: Source, K: Sink>(
         (sink_ends K.written K.faults K.sure sink.old sink.new)
         result }
     ensures demo_completes { (rooms seed : ℕ) → order_of (map (λ word. word.now) words.now) ≡ Some (Demo rooms seed)
-        → DemoCompletes rooms seed (sink_ends K.written K.faults K.sure sink.old sink.new) result }
+        → DemoCompletes (sink_ends K.written K.faults K.sure sink.old sink.new) result }
     ensures demo_completes_surely { (rooms seed : ℕ) → order_of (map (λ word. word.now) words.now) ≡ Some (Demo rooms seed)
         → DemoCompletesSurely rooms seed (sink_ends K.written K.faults K.sure sink.old sink.new) result }
-    ensures demo_refuses { (rooms seed : ℕ) → order_of (map (λ word. word.now) words.now) ≡ Some (Demo rooms seed)
-        → DemoRefuses rooms seed (sink_ends K.written K.faults K.sure sink.old sink.new) result }
     ensures demo_front { (rooms seed : ℕ) → order_of (map (λ word. word.now) words.now) ≡ Some (Demo rooms seed)
         → HasDemoFront rooms seed (sink_ends K.written K.faults K.sure sink.old sink.new) result }
     ensures check_completes { order_of (map (λ word. word.now) words.now) ≡ Some Check → CheckCompletes

@@ -20,7 +20,6 @@ use Rattle.px_printer.specs.declared.turn.Turn.{Turn}
 use Rattle.px_printer.specs.declared.turn.TurnEnd.{TurnEnd}
 use Rattle.px_printer.specs.declared.turn.TurnEnd.TheVariants.{Acted, Slipped, Goal, NoKernel}
 use Rattle.px_pursue.specs.Pursuits.{IsPursuit}
-use Rattle.px_script.specs.declared.command.About.TheVariants.{Show, Save, Certify}
 use Rattle.px_script.specs.declared.command.Command.{Command}
 use Rattle.px_script.specs.declared.command.Command.TheVariants as command
 use Rattle.px_script.specs.Stages.{stage_now}
@@ -34,6 +33,7 @@ use Rattle.px_session.specs.Lawful.{Notes, end_told, first_unknown, recorded_for
 use Rattle.px_session.specs.OwnStates.{IsOwnGoal}
 use Rattle.px_session.specs.Sessions.{Edit, IsSession, SessionState, any_table, leaves_edit, of_atoms, of_rooms, opening}
 use Rattle.px_session.specs.Transcripts.{AreAnswers, texts}
+use Rattle.px_session.proofs.AskedReplies.{asked-reply}
 use Rattle.px_session.proofs.DuosEnd.{duo-ends}
 use Rattle.px_session.proofs.Executing.{own-goals}
 use Rattle.px_session.proofs.ExistingEdits.{edit-reply}
@@ -41,7 +41,6 @@ use Rattle.px_session.proofs.ExistingLearning.{learn-reply}
 use Rattle.px_session.proofs.Kept.{sessions_are_kept}
 use Rattle.px_session.proofs.Learned.{are-learned}
 use Rattle.px_session.proofs.OneLearning.{any-right}
-use Rattle.px_session.proofs.OneSaving.{certify-reply, save-reply}
 use Rattle.px_session.proofs.OwnDuos.{each_table}
 use Rattle.px_session.proofs.PursuitsEnd.{pursuits_end}
 use Rattle.px_totality.proofs.TreesExist.{trees_exist}
@@ -87,13 +86,6 @@ module _ (traces-exist : TracesExist leaves_edit) (duo-traces-exist : DuoTracesE
       → (answer : Reply) × ((new : SessionState) × Notes old (recorded_for turn between edits) answer new)
   noted turn between edits =
       (reply.Noted (length old.recorded + 1), (record old { recorded = old.recorded ++ recorded_for turn between edits ∷ [] }, (refl, refl)))
-
-  shown : (name : ℕ) → HasReply problem old (command.Ask Show name)
-  shown name = by (any_table old name) refl
-    where
-      by : (found : Option Table) → any_table old name ≡ found → HasReply problem old (command.Ask Show name)
-      by None named = (reply.Unknown name, (old, (refl, named, refl)))
-      by (Some table) named = (reply.Shown name table, (old, (refl, named, refl)))
 
   module _ (valid : IsValid problem) (session : IsSession problem old) where
     right : (name : ℕ) (table : Table) → any_table old name ≡ Some table → IsTable problem table
@@ -179,9 +171,7 @@ module _ (traces-exist : TracesExist leaves_edit) (duo-traces-exist : DuoTracesE
     other-reply (command.Edit name source prefix wanted) asks = absurd asks
     other-reply (command.Pursue name goal vars) asks = absurd asks
     other-reply (command.Tree name nodes goal vars) asks = absurd asks
-    other-reply (command.Ask Show name) asks = shown name
-    other-reply (command.Ask Save name) asks = save-reply problem old name
-    other-reply (command.Ask Certify name) asks = certify-reply problem old name
+    other-reply (command.Ask about name) asks = asked-reply problem old name about
     other-reply (command.DisturbAtoms turn between edits) asks = noted turn between (map of_atoms edits)
     other-reply (command.DisturbRooms turn between edits) asks = noted turn between (map of_rooms edits)
     other-reply (command.Run name bound) asks = ran name bound

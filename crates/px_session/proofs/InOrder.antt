@@ -19,10 +19,10 @@ use Rattle.px_tree.specs.declared.nodes.TreeNode.{TreeNode}
 use Rattle.px_session.specs.Causes.{CausesInOrder, RefusedReplies, one_learned, plan_p, tree_p, where_p}
 use Rattle.px_session.specs.Lawful.{Lawful, RefusesLearning, TellsLearning, TellsRun, first_unknown}
 use Rattle.px_session.specs.Sessions.{SessionState, any_table}
+use Rattle.px_session.proofs.AskedReplies.{asked_in_order}
 use Rattle.px_session.proofs.OneDuo.{no-first, no-second}
 use Rattle.px_session.proofs.OneEditing.{no-source, not-edited}
 use Rattle.px_session.proofs.OneLearning.{none_or_some, one_some}
-use Rattle.px_session.proofs.OneSaving.{none-to-certify, none-to-save, not-certified, not-saved}
 use Rattle.px_session.proofs.RunReplies.{bad-unknown}
 
 no-plan : (problem : Problem) (old : SessionState) (name source : ℕ) (answer : Reply) (new : SessionState)
@@ -78,10 +78,7 @@ causes_in_order = record {
   too_deep = too-deep;
   no_source = λ problem old name source prefix wanted answer new. no-source problem old name source prefix wanted answer new;
   not_edited = λ problem old name source prefix wanted answer new. not-edited problem old name source prefix wanted answer new;
-  none_to_save = λ problem old name answer new. none-to-save old name answer new;
-  not_saved = λ problem old name answer new. not-saved old name answer new;
-  none_to_certify = λ problem old name answer new. none-to-certify old name problem answer new;
-  not_certified = λ problem old name answer new. not-certified old name problem answer new;
+  asked = asked_in_order;
   no_table = no-table;
   no_parameter = no-parameter;
   no_first_table = λ problem old first second numbers answer new. no-first problem old first second numbers answer new;

@@ -2,7 +2,10 @@
 pub mod OneSearch
 pub mod OneLearning
 pub mod OneEditing
-pub mod OneSaving
+pub mod NamedTerms
+pub mod NamedBlocks
+pub mod WrittenTables
+pub mod AskedReplies
 pub mod ExistingEdits
 pub mod ExistingLearning
 pub mod OneRunning
@@ -32,15 +35,12 @@ pub mod Kept
 pub mod WritableGoals
 pub mod Writables
 pub mod Certifying
-pub mod ReadingBack
 pub mod OneTranscript
 pub mod Lifted
 pub mod InOrder
 pub mod WorkedAnswers
 pub mod FoundPlans
 pub mod FoundTables
-pub mod NamedTerms
-pub mod NamedBlocks
 pub mod NamedTables
 pub mod NamedTrees
 pub mod NamedReplies

@@ -16,20 +16,18 @@ use Rattle.px_printer.specs.DuoLines.{IsNamedDuoLine}
 use Rattle.px_printer.specs.declared.reply.Reply.{Reply}
 use Rattle.px_printer.specs.declared.reply.Reply.TheVariants as reply
 use Rattle.px_printer.specs.Replies.{IsReplyNamed}
-use Rattle.px_printer.specs.Rows.{IsNamedTable}
 use Rattle.px_printer.specs.Texts.{IsNamedAtom, IsNamedInstance}
-use Rattle.px_script.specs.declared.command.About.TheVariants.{Show, Save, Certify}
 use Rattle.px_script.specs.declared.command.Command.{Command}
 use Rattle.px_script.specs.declared.command.Command.TheVariants as command
-use Rattle.px_session.specs.Lawful.{FindsPlan, Lawful, Notes, TellsCertifying, TellsDuo, TellsEditing, TellsFacts, TellsLearning, TellsPursuit, TellsRun, TellsSaving, TellsSearch, TellsShow, TellsTree, recorded_for, turn_told}
+use Rattle.px_session.specs.Lawful.{FindsPlan, Lawful, Notes, TellsDuo, TellsEditing, TellsFacts, TellsLearning, TellsPursuit, TellsRun, TellsSearch, TellsTree, recorded_for, turn_told}
 use Rattle.px_session.specs.Named.{AreNamesOfProblem, HasTableNames, IsTellable, RepliesAreNamed, TellsOfNamed}
 use Rattle.px_session.specs.Sessions.{Edit, IsLearnedTable, IsPlanTable, IsSession, SessionState, any_table, of_atoms, of_rooms}
+use Rattle.px_session.proofs.AskedReplies.{named-asked}
 use Rattle.px_session.proofs.FoundTables.{found-table}
 use Rattle.px_session.proofs.Learned.{are-learned}
-use Rattle.px_session.proofs.NamedBlocks.{named-block}
 use Rattle.px_session.proofs.NamedTables.{tables-named, tables-named-later}
 use Rattle.px_session.proofs.NamedTrees.{named-nodes}
-use Rattle.px_session.proofs.NamedTerms.{named-atoms, named-step-of, named-steps, named-table, named-turns}
+use Rattle.px_session.proofs.NamedTerms.{named-atoms, named-step-of, named-steps, named-turns}
 use Rattle.px_session.proofs.OneLearning.{any-right}
 use Rattle.px_session.proofs.OwnDuos.{duo-steps, each_table}
 use Rattle.px_session.proofs.OwnRuns.{IsOwnStep, run-steps}
@@ -98,26 +96,6 @@ module _ (problem : Problem) (names : NameLists) (all : AreNamesOfProblem proble
 
   module _ (old : SessionState) (plans : All (IsPlanTable problem) old.plans.tables)
       (learned : All (IsLearnedTable problem) old.learned.tables) where
-    any-named : (name : ℕ) (table : Table) → any_table old name ≡ Some table → IsNamedTable names table
-    any-named name table named = named-table problem names all table (any-right problem old plans learned name table named)
-
-    named-show : (name : ℕ) (answer : Reply) (new : SessionState) → name < length names.results
-        → TellsShow old name answer new → IsReplyNamed names answer
-    named-show name (reply.Unknown given) new below is = same-result given name (length names.results) is.0 below
-    named-show name (reply.Shown given table) new below is =
-        (same-result given name (length names.results) is.0 below, any-named name table is.1)
-    named-show name answer new below is = absurd is
-
-    named-saving : (name : ℕ) (answer : Reply) (new : SessionState) → name < length names.results
-        → TellsSaving old name answer new → IsReplyNamed names answer
-    named-saving name (reply.Unknown given) new below is = same-result given name (length names.results) is.0 below
-    named-saving name (reply.SaveRefused given why) new below is = same-result given name (length names.results) is.0 below
-    named-saving name (reply.Saved given table) new below is = (
-      same-result given name (length names.results) is.0 below,
-      named-block problem names all table (any-right problem old plans learned name table is.1.named),
-    )
-    named-saving name answer new below is = absurd is
-
     named-run : (name : ℕ) (bound : List (ℕ × ℕ)) (answer : Reply) (new : SessionState) → name < length names.results
         → TellsRun problem old name bound answer new → IsReplyNamed names answer
     named-run name bound (reply.Unknown given) new below is = same-result given name (length names.results) is.0 below
@@ -179,16 +157,6 @@ named-editing problem names old name source prefix wanted (reply.Edited given pa
     same-result given name (length names.results) is.0 below
 named-editing problem names old name source prefix wanted answer new below also is = absurd is
 
--- certifying reports the name that is given, or bytes
-named-certifying : (problem : Problem) (names : NameLists) (old : SessionState) (name : ℕ) (answer : Reply) (new : SessionState)
-    → name < length names.results → TellsCertifying problem old name answer new → IsReplyNamed names answer
-named-certifying problem names old name (reply.Unknown given) new below is =
-    same-result given name (length names.results) is.0 below
-named-certifying problem names old name (reply.CertifyRefused given why) new below is =
-    same-result given name (length names.results) is.0 below
-named-certifying problem names old name (reply.Certified given bytes) new below is = tt
-named-certifying problem names old name answer new below is = absurd is
-
 -- for each command that is built
 named-each : (problem : Problem) (names : NameLists) (old : SessionState) (given : Command) (answer : Reply)
     (new : SessionState)
@@ -201,12 +169,8 @@ named-each problem names old (command.Pursue name goal vars) answer new valid al
     named-pursuit problem names all valid old session goal vars tellable.1 name answer new tellable.0 is
 named-each problem names old (command.Tree name nodes goal vars) answer new valid all atoms session tables tellable is =
     named-tree problem names all old session tables nodes goal vars name answer new tellable.0 is
-named-each problem names old (command.Ask Show name) answer new valid all atoms session tables tellable is =
-    named-show problem names all old session.plans session.learned name answer new tellable is
-named-each problem names old (command.Ask Save name) answer new valid all atoms session tables tellable is =
-    named-saving problem names all old session.plans session.learned name answer new tellable is
-named-each problem names old (command.Ask Certify name) answer new valid all atoms session tables tellable is =
-    named-certifying problem names old name answer new tellable is
+named-each problem names old (command.Ask about name) answer new valid all atoms session tables tellable is =
+    named-asked problem old name names all session.plans session.learned tellable about answer new is
 named-each problem names old (command.Duo first second numbers) answer new valid all atoms session tables tellable is =
     named-duo problem names all old session.plans session.learned first second numbers answer new tellable.0 tellable.1 is
 named-each problem names old command.Facts answer new valid all atoms session tables tellable is =

@@ -13,34 +13,20 @@ use Rattle.px_printer.specs.Replies.{reply_text}
 use Rattle.px_printer.specs.Texts.{text_line, name_text}
 use Rattle.px_printer.specs.declared.reply.Reply.{Reply}
 use Rattle.px_printer.specs.declared.reply.Reply.TheVariants as reply
-use Rattle.px_script.specs.declared.command.About.TheVariants.{Show, Save, Certify}
 use Rattle.px_script.specs.declared.command.Command.{Command}
 use Rattle.px_script.specs.declared.command.Command.TheVariants as command
 use Rattle.px_session.specs.Determined.{LawfulIsOne, SameReply}
-use Rattle.px_session.specs.Lawful.{Lawful, Notes, TellsFacts, TellsShow, TellsTree, recorded_for}
-use Rattle.px_session.specs.Sessions.{Edit, IsSession, SessionState, any_table, of_atoms, of_rooms}
+use Rattle.px_session.specs.Lawful.{Lawful, Notes, TellsFacts, TellsTree, recorded_for}
+use Rattle.px_session.specs.Sessions.{Edit, IsSession, SessionState, of_atoms, of_rooms}
+use Rattle.px_session.proofs.AskedReplies.{asked-one}
 use Rattle.px_session.proofs.OneDuo.{duo-one}
 use Rattle.px_session.proofs.OneEditing.{editing-one}
-use Rattle.px_session.proofs.OneLearning.{learning-one, none_or_some, one_some}
+use Rattle.px_session.proofs.OneLearning.{learning-one}
 use Rattle.px_session.proofs.OnePursuit.{pursuit-one, pursuit-text}
 use Rattle.px_session.proofs.OneRunning.{run-one}
-use Rattle.px_session.proofs.OneSaving.{certifying-one, saving-one}
 use Rattle.px_session.proofs.OneSearch.{search-one}
 
--- ---- show, disturb, tree, facts
-
-show-one : (old : SessionState) (name : ℕ) (one other : Reply) (new later : SessionState) → TellsShow old name one new
-    → TellsShow old name other later → SameReply one other × (new ≡ later)
-show-one old name (reply.Unknown n) (reply.Unknown m) new later p q = (inl (ap reply.Unknown (p.0 ∙ sym q.0)), p.2 ∙ sym q.2)
-show-one old name (reply.Unknown n) (reply.Shown m table) new later p q = absurd (none_or_some (any_table old name) table p.1 q.1)
-show-one old name (reply.Shown n table) (reply.Unknown m) new later p q = absurd (none_or_some (any_table old name) table q.1 p.1)
-show-one old name (reply.Shown n table) (reply.Shown m other) new later p q =
-    let tables = one_some (any_table old name) table other p.1 q.1 in
-    let names : n ≡ m = p.0 ∙ sym q.0 in
-    (inl (λ i. reply.Shown (names i) (tables i)), p.2 ∙ sym q.2)
-show-one old name (reply.Unknown n) other new later p q = absurd q
-show-one old name (reply.Shown n table) other new later p q = absurd q
-show-one old name one other new later p q = absurd p
+-- ---- disturb, tree, facts
 
 notes-one : (old : SessionState) (note : Recorded Edit) (one other : Reply) (new later : SessionState) → Notes old note one new
     → Notes old note other later → SameReply one other × (new ≡ later)
@@ -75,10 +61,8 @@ reply-one problem old (command.Learn name source) one other new later valid sess
     learning-one problem valid old session name source one other new later p q
 reply-one problem old (command.Edit name source prefix wanted) one other new later valid session p q =
     editing-one problem old name source prefix wanted one other new later p q
-reply-one problem old (command.Ask Show name) one other new later valid session p q = show-one old name one other new later p q
-reply-one problem old (command.Ask Save name) one other new later valid session p q = saving-one old name one other new later p q
-reply-one problem old (command.Ask Certify name) one other new later valid session p q =
-    certifying-one old name problem one other new later p q
+reply-one problem old (command.Ask about name) one other new later valid session p q =
+    asked-one problem old name about one other new later p q
 reply-one problem old (command.DisturbAtoms turn between edits) one other new later valid session p q =
     notes-one old (recorded_for turn between (map of_atoms edits)) one other new later p q
 reply-one problem old (command.DisturbRooms turn between edits) one other new later valid session p q =

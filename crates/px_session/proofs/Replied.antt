@@ -11,12 +11,12 @@ use Rattle.px_printer.specs.declared.pursue_end.PursueEnd.{PursueEnd}
 use Rattle.px_printer.specs.declared.reply.Reply.{Reply}
 use Rattle.px_printer.specs.declared.reply.Reply.TheVariants as reply
 use Rattle.px_printer.specs.declared.turn.Turn.{Turn}
-use Rattle.px_script.specs.declared.command.About.TheVariants.{Show, Save, Certify}
 use Rattle.px_script.specs.declared.command.Command.{Command}
 use Rattle.px_script.specs.declared.command.Command.TheVariants as command
-use Rattle.px_session.specs.Lawful.{FindsPlan, IsDuoOf, IsEditedInto, IsLearned, IsPursuitOf, IsRunOf, Lawful, Notes, TellsCertifying, TellsDuo, TellsEditing, TellsFacts, TellsLearning, TellsPursuit, TellsRun, TellsSaving, TellsSearch, TellsShow, TellsTree, recorded_for}
+use Rattle.px_session.specs.Lawful.{FindsPlan, IsDuoOf, IsEditedInto, IsLearned, IsPursuitOf, IsRunOf, Lawful, Notes, TellsDuo, TellsEditing, TellsFacts, TellsLearning, TellsPursuit, TellsRun, TellsSearch, TellsTree, recorded_for}
 use Rattle.px_session.specs.OwnStates.{edits_given}
 use Rattle.px_session.specs.Sessions.{Edit, SessionState, of_atoms, of_rooms}
+use Rattle.px_session.proofs.AskedReplies.{asked-same}
 
 -- What holds of the state, and of each state that one more plan, one more learned or edited table, one more disturbance, a run, two
 -- executors or a pursuit leave of it, holds of the state after each lawful reply.
@@ -62,23 +62,6 @@ module _ (problem : Problem) (old : SessionState) (given : Command) (P : Session
       edited name source prefix wanted params steps new by is.1
   after-editing name source prefix wanted by answer new is = absurd is
 
-  after-show : (name : ℕ) (answer : Reply) (new : SessionState) → TellsShow old name answer new → P new
-  after-show name (reply.Unknown told) new is = unchanged new is.2
-  after-show name (reply.Shown told table) new is = unchanged new is.2
-  after-show name answer new is = absurd is
-
-  after-saving : (name : ℕ) (answer : Reply) (new : SessionState) → TellsSaving old name answer new → P new
-  after-saving name (reply.Unknown told) new is = unchanged new is.2
-  after-saving name (reply.SaveRefused told why) new is = unchanged new is.1.same
-  after-saving name (reply.Saved told table) new is = unchanged new is.1.same
-  after-saving name answer new is = absurd is
-
-  after-certifying : (name : ℕ) (answer : Reply) (new : SessionState) → TellsCertifying problem old name answer new → P new
-  after-certifying name (reply.Unknown told) new is = unchanged new is.2
-  after-certifying name (reply.CertifyRefused told why) new is = unchanged new is.1.same
-  after-certifying name (reply.Certified told bytes) new is = unchanged new is.1.saved.same
-  after-certifying name answer new is = absurd is
-
   after-notes : (turn : ℕ) (between : Bool) (edits : List Edit) → edits_given given ≡ edits → (answer : Reply) (new : SessionState)
       → Notes old (recorded_for turn between edits) answer new → P new
   after-notes turn between edits are (reply.Noted count) new is = subst P (sym is.1)
@@ -116,9 +99,7 @@ module _ (problem : Problem) (old : SessionState) (given : Command) (P : Session
       after-search name goal vars by answer new is
   after-reply (command.Learn name source) by answer new is = after-learning name source by answer new is
   after-reply (command.Edit name source prefix wanted) by answer new is = after-editing name source prefix wanted by answer new is
-  after-reply (command.Ask Show name) by answer new is = after-show name answer new is
-  after-reply (command.Ask Save name) by answer new is = after-saving name answer new is
-  after-reply (command.Ask Certify name) by answer new is = after-certifying name answer new is
+  after-reply (command.Ask about name) by answer new is = unchanged new (asked-same problem old name about answer new is)
   after-reply (command.DisturbAtoms turn between edits) by answer new is =
       after-notes turn between (map of_atoms edits) (ap edits_given by) answer new is
   after-reply (command.DisturbRooms turn between edits) by answer new is =

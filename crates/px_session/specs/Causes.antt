@@ -9,16 +9,15 @@ use Rattle.px_ends.specs.WorkedEnds.{idle, p, p_at_once}
 use Rattle.px_printer.specs.declared.reply.EditWhy.{EditWhy}
 use Rattle.px_printer.specs.declared.reply.Reply.{Reply}
 use Rattle.px_printer.specs.declared.reply.Reply.TheVariants as reply
-use Rattle.px_printer.specs.declared.reply.SaveWhy.{SaveWhy}
 use Rattle.px_printer.specs.declared.reply.Why.{Why}
 use Rattle.px_printer.specs.declared.reply.Why.TheVariants.{TooLong, TooDeep}
-use Rattle.px_script.specs.declared.command.About.TheVariants.{Save, Certify}
 use Rattle.px_script.specs.declared.command.Command.{Command}
 use Rattle.px_script.specs.declared.command.Command.TheVariants as command
 use Rattle.px_tree.specs.declared.nodes.Tree.{Tree}
 use Rattle.px_tree.specs.declared.nodes.TreeEnd.TheVariants.{Exhausted}
 use Rattle.px_tree.specs.declared.nodes.TreeNode.{TreeNode}
-use Rattle.px_session.specs.Lawful.{Lawful, RefusesEditing, RefusesLearning, RefusesSaving, first_unknown}
+use Rattle.px_session.specs.Asked.{AskedInOrder}
+use Rattle.px_session.specs.Lawful.{Lawful, RefusesEditing, RefusesLearning, first_unknown}
 use Rattle.px_session.specs.Sessions.{SessionState, any_table, opening}
 
 -- A name without a table is unknown, whatever is bound, and so is a plan's name without a plan, whatever is learned. A bound parameter
@@ -39,18 +38,7 @@ pub record CausesInOrder : Type 0 where
       (answer : Reply) (new : SessionState) (table : Table) (why : EditWhy)
       → any_table old source ≡ Some table → RefusesEditing problem old table prefix wanted why
       → Lawful problem old (command.Edit name source prefix wanted) answer new → (answer ≡ reply.EditRefused name why) × (new ≡ old)
-  pub none_to_save : (problem : Problem) (old : SessionState) (name : ℕ) (answer : Reply) (new : SessionState)
-      → any_table old name ≡ None → Lawful problem old (command.Ask Save name) answer new → (answer ≡ reply.Unknown name) × (new ≡ old)
-  -- of the causes not to save a table each is the answer wherever it is the first; and so it is for certifying
-  pub not_saved : (problem : Problem) (old : SessionState) (name : ℕ) (answer : Reply) (new : SessionState) (table : Table) (why : SaveWhy)
-      → any_table old name ≡ Some table → RefusesSaving table why → Lawful problem old (command.Ask Save name) answer new
-      → (answer ≡ reply.SaveRefused name why) × (new ≡ old)
-  pub none_to_certify : (problem : Problem) (old : SessionState) (name : ℕ) (answer : Reply) (new : SessionState)
-      → any_table old name ≡ None → Lawful problem old (command.Ask Certify name) answer new → (answer ≡ reply.Unknown name) × (new ≡ old)
-  pub not_certified : (problem : Problem) (old : SessionState) (name : ℕ) (answer : Reply) (new : SessionState) (table : Table)
-      (why : SaveWhy)
-      → any_table old name ≡ Some table → RefusesSaving table why → Lawful problem old (command.Ask Certify name) answer new
-      → (answer ≡ reply.CertifyRefused name why) × (new ≡ old)
+  pub asked : AskedInOrder
   pub no_table : (problem : Problem) (old : SessionState) (name : ℕ) (bound : List (ℕ × ℕ)) (answer : Reply) (new : SessionState)
       → any_table old name ≡ None → Lawful problem old (command.Run name bound) answer new → (answer ≡ reply.Unknown name) × (new ≡ old)
   pub no_parameter : (problem : Problem) (old : SessionState) (name : ℕ) (bound : List (ℕ × ℕ))

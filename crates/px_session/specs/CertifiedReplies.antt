@@ -12,12 +12,12 @@ use Rattle.px_cert.specs.ClaimRanges.{AreAtMost, IsShortSchema, certified}
 use Rattle.px_cert.specs.Limits.{greatest_sort, most_objects, most_operators, most_predicates}
 use Rattle.px_printer.specs.declared.reply.Reply.{Reply}
 use Rattle.px_printer.specs.declared.reply.Reply.TheVariants as reply
-use Rattle.px_printer.specs.declared.reply.SaveWhy.{SaveWhy}
 use Rattle.px_script.specs.declared.command.Command.{Command}
 use Rattle.px_script.specs.declared.command.Command.TheVariants.{Facts}
 use Rattle.px_script.specs.Content.{ScriptValue}
 use Rattle.px_script.specs.Ranges.{IsInRange, IsSavedTable}
-use Rattle.px_session.specs.Lawful.{Lawful, RefusesSaving}
+use Rattle.px_session.specs.Asked.{MayBeWritten}
+use Rattle.px_session.specs.Lawful.{Lawful}
 use Rattle.px_session.specs.Sessions.{IsSession, SessionState, any_table, opening}
 use Rattle.px_session.specs.Transcripts.{AreAnswers}
 use Rattle.px_session.specs.Writable.{AsksWritable, HasWritableTables}
@@ -55,7 +55,7 @@ pub record CertificatesAreAccepted : Type 0 where
       → Lawful script.problem state (slice_index_or script.commands done Facts) answer new → ReplyIsAccepted script.problem state answer
 
 -- The tables that a script begins with can be written, and those that its commands ask for are so after each lawful reply. Of such tables
--- each that has no cause not to be saved is within the limits of a table's block.
+-- each that may be written is within the limits of a table's block.
 pub record TablesStayWritable : Type 0 where
   pub opened : (script : ScriptValue) → IsInRange script
       → HasWritableTables script.problem (opening script.facts script.saved) × All (AsksWritable script.problem) script.commands
@@ -63,5 +63,4 @@ pub record TablesStayWritable : Type 0 where
       → IsSession problem old → HasWritableTables problem old → AsksWritable problem given → Lawful problem old given answer new
       → HasWritableTables problem new
   pub within : (problem : Problem) (state : SessionState) (name : ℕ) (table : Table) → IsSession problem state
-      → HasWritableTables problem state → any_table state name ≡ Some table → ((why : SaveWhy) → ¬ RefusesSaving table why)
-      → IsSavedTable 2 problem table
+      → HasWritableTables problem state → any_table state name ≡ Some table → MayBeWritten table → IsSavedTable 2 problem table

@@ -1,5 +1,5 @@
 -- Which replies to a command are lawful, and what state each leaves.
-use Rattle.std.specs.Prelude.{◌≡◌, ◌+◌, ◌<◌, ◌≤◌, ◌++◌, ℕ, Bool, not, nat_lt, Option, Some, None, is_some, List, [], ◌∷◌, map, find, length, option_map}
+use Rattle.std.specs.Prelude.{◌≡◌, ◌+◌, ◌≤◌, ◌++◌, ℕ, Bool, not, nat_lt, Option, Some, None, is_some, List, [], ◌∷◌, map, find, length, option_map}
 use Rattle.px_table.specs.Limits.{most_tables}
 use Rattle.px_terms.specs.declared.atom.Atom.{Atom}
 use Rattle.px_terms.specs.declared.instance.OpInst.{OpInst}
@@ -13,7 +13,6 @@ use Rattle.px_library.specs.Libraries.{table_named, with_table}
 use Rattle.px_planex.specs.Turns.{Recorded, RunsTable}
 use Rattle.px_duo.specs.Duos.{both}
 use Rattle.px_pursue.specs.Pursuits.{IsPursuit}
-use Rattle.px_cert.specs.Certificates.{certificate_text}
 use Rattle.px_edit.specs.EditCauses.{IsBadPrefix, IsEditable, IsFirstBadWant, KeepsTooDeep, KeepsTooMany}
 use Rattle.px_edit.specs.Editing.{IsEdited}
 use Rattle.px_ends.specs.ByValue.{IsExhausted, IsFound, IsNodeLimit, IsShapeLimit}
@@ -25,17 +24,14 @@ use Rattle.px_printer.specs.declared.reply.EditWhy.{EditWhy}
 use Rattle.px_printer.specs.declared.reply.EditWhy.TheVariants as edit_why
 use Rattle.px_printer.specs.declared.reply.Reply.{Reply}
 use Rattle.px_printer.specs.declared.reply.Reply.TheVariants as reply
-use Rattle.px_printer.specs.declared.reply.SaveWhy.{SaveWhy}
-use Rattle.px_printer.specs.declared.reply.SaveWhy.TheVariants as save_why
 use Rattle.px_printer.specs.declared.reply.Why.{Why}
 use Rattle.px_printer.specs.declared.reply.Why.TheVariants.{TooLong, TooDeep, TooWide, Full}
 use Rattle.px_printer.specs.declared.turn.Turn.{Turn}
 pub use Rattle.px_turns.specs.Told.{end_told, turn_told}
 use Rattle.px_ends.specs.Trees.{IsTree}
-use Rattle.px_script.specs.declared.command.About.TheVariants.{Show, Save, Certify}
 use Rattle.px_script.specs.declared.command.Command.{Command}
 use Rattle.px_script.specs.declared.command.Command.TheVariants as command
-use Rattle.px_script.specs.declared.limits.TheConstants.{LAST_NUMBER as last_number}
+use Rattle.px_session.specs.Asked.{TellsAsked}
 use Rattle.px_session.specs.DuoRuns.{RunsDuo}
 use Rattle.px_session.specs.Sessions.{Edit, SessionState, any_table, leaves_edit, of_atoms, of_rooms}
 
@@ -146,55 +142,6 @@ TellsEditing problem old name source prefix wanted (reply.Edited given params st
     (given ≡ name) × IsEditedInto problem name source prefix wanted old params steps new
 TellsEditing problem old name source prefix wanted answer new = ⊥
 
--- ---- show
-
--- the name has no table, or this one
-abbrev pub TellsShow : SessionState → ℕ → Reply → SessionState → Type 0
-TellsShow old name (reply.Unknown given) new = (given ≡ name) × (any_table old name ≡ None) × (new ≡ old)
-TellsShow old name (reply.Shown given table) new = (given ≡ name) × (any_table old name ≡ Some table) × (new ≡ old)
-TellsShow old name answer new = ⊥
-
--- ---- save and certify
-
--- the table may be neither saved nor certified, for the first of these causes
-abbrev pub RefusesSaving : Table → SaveWhy → Type 0
-RefusesSaving table save_why.TooLong = IsTooLong table
-RefusesSaving table save_why.TooDeep = (¬ IsTooLong table) × IsTooDeep table
-RefusesSaving table save_why.TooMany = (¬ IsTooLong table) × (¬ IsTooDeep table) × (last_number < table.params)
-
--- the name's table may not be saved, and so not be certified, for this cause; nothing changes
-pub record IsNotSaved (name : ℕ) (old : SessionState) (why : SaveWhy) (new : SessionState) : Type 0 where
-  pub table : Table
-  pub named : any_table old name ≡ Some table
-  pub refused : RefusesSaving table why
-  pub same : new ≡ old
-
--- this is the name's table, and it has no cause not to be saved; nothing changes
-pub record IsSaved (name : ℕ) (old : SessionState) (table : Table) (new : SessionState) : Type 0 where
-  pub named : any_table old name ≡ Some table
-  pub allowed : (why : SaveWhy) → ¬ RefusesSaving table why
-  pub same : new ≡ old
-
--- the bytes are the text of the certificate of such a table
-pub record IsCertified (problem : Problem) (name : ℕ) (old : SessionState) (bytes : List ℕ) (new : SessionState) : Type 0 where
-  pub table : Table
-  pub saved : IsSaved name old table new
-  pub bytes_are : bytes ≡ certificate_text problem table
-
--- to `save NAME`: the name has no table, or its table may not be saved, or this is the table whose block is printed
-abbrev pub TellsSaving : SessionState → ℕ → Reply → SessionState → Type 0
-TellsSaving old name (reply.Unknown given) new = (given ≡ name) × (any_table old name ≡ None) × (new ≡ old)
-TellsSaving old name (reply.SaveRefused given why) new = (given ≡ name) × IsNotSaved name old why new
-TellsSaving old name (reply.Saved given table) new = (given ≡ name) × IsSaved name old table new
-TellsSaving old name answer new = ⊥
-
--- to `certify NAME`: the name has no table, or its table may not be certified, or these are the bytes of its certificate
-abbrev pub TellsCertifying : Problem → SessionState → ℕ → Reply → SessionState → Type 0
-TellsCertifying problem old name (reply.Unknown given) new = (given ≡ name) × (any_table old name ≡ None) × (new ≡ old)
-TellsCertifying problem old name (reply.CertifyRefused given why) new = (given ≡ name) × IsNotSaved name old why new
-TellsCertifying problem old name (reply.Certified given bytes) new = (given ≡ name) × IsCertified problem name old bytes new
-TellsCertifying problem old name answer new = ⊥
-
 -- ---- disturb
 
 -- the disturbance is recorded, after the others, and the reply says how many are recorded then
@@ -304,9 +251,7 @@ Lawful problem old (command.Plan name goal vars) answer new =
     TellsSearch (task_of problem old.learned.tables old.atoms goal vars) name old answer new
 Lawful problem old (command.Learn name source) answer new = TellsLearning problem old name source answer new
 Lawful problem old (command.Edit name source prefix wanted) answer new = TellsEditing problem old name source prefix wanted answer new
-Lawful problem old (command.Ask Show name) answer new = TellsShow old name answer new
-Lawful problem old (command.Ask Save name) answer new = TellsSaving old name answer new
-Lawful problem old (command.Ask Certify name) answer new = TellsCertifying problem old name answer new
+Lawful problem old (command.Ask about name) answer new = TellsAsked problem about old name answer new
 Lawful problem old (command.DisturbAtoms turn between edits) answer new =
     Notes old (recorded_for turn between (map of_atoms edits)) answer new
 Lawful problem old (command.DisturbRooms turn between edits) answer new =

@@ -1,6 +1,7 @@
 -- The files of definitions and laws.
 pub mod Sessions
 pub mod DuoRuns
+pub mod Asked
 pub mod Lawful
 pub mod Transcripts
 pub mod Demo
@@ -12,7 +13,6 @@ pub mod ToldTrees
 pub mod Undisturbed
 pub mod Planning
 pub mod Learning
-pub mod Saving
 pub mod Writable
 pub mod CertifiedReplies
 pub mod Places

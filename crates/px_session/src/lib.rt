@@ -5,10 +5,9 @@
 //! # Calling it
 //!
 //! - [`Session::new`] takes a [`px_script::Script`] that was read. [`Session::execute`] answers command `k`, each once and in
-//!   order: `plan`, `learn`, `edit`, `show`, `save`, `certify`, `disturb`, `run`, `duo`, `pursue`, `tree` and `facts`. Its reply is
-//!   lawful, each number that it prints as a name has one, the bytes of a certificate are one, what `save` prints is read back
-//!   (`px_saved`), and after a refusal for memory the session is as it was. Contracts see a session as a `SessionValue` (`specs/Opened`);
-//!   what it keeps is in `specs/KeptSessions`.
+//!   order. Its reply is lawful, each number that it prints as a name has one, the bytes of a certificate are one, a block that it prints
+//!   is read back (`px_saved`), and after a refusal for memory the session is as it was. Contracts see a session as a `SessionValue`
+//!   (`specs/Opened`); what it keeps is in `specs/KeptSessions`.
 //! - With a building the world's atoms are the facts of a state of it, from the opening on and after each lawful reply, and the building
 //!   takes each recorded edit. A run or a pursuit leaves the state that the edits and steps of its turns leave, one after the other, and
 //!   two executors the one that their steps leave. Any other command leaves the state as it was (`specs/RoomRuns`, [`rooms_are_kept`]).
@@ -16,15 +15,16 @@
 //!   name in the order of learning, and the disturbances that are recorded for the next run. `opening` is the one before the
 //!   first command: its learned tables are those that the script has saved. An `Edit` is one of atoms or one of a building.
 //! - `Lawful` in `specs/Lawful` says which reply a command may have in a state, and which state it leaves: one relation for all
-//!   commands, a line for each. It stands on the ends of a search and its tree (`px_ends`), generalising (`px_general`), editing
-//!   (`px_edit`), certificates (`px_cert`), the executor's runs (`px_planex`, `px_turns`), two executors in one world (`px_duo`,
-//!   `specs/DuoRuns`), pursuits (`px_pursue`) and tables by name (`px_library`).
+//!   commands, a line for each, and one for those that ask for a table, such as `show` (`specs/Asked`). It stands on the ends of a search
+//!   and its tree (`px_ends`), generalising (`px_general`), editing (`px_edit`), certificates (`px_cert`), the executor's runs
+//!   (`px_planex`, `px_turns`), two executors in one world (`px_duo`, `specs/DuoRuns`), pursuits (`px_pursue`) and tables by name
+//!   (`px_library`).
 //! - `IsSession` is what a session keeps: the world's atoms are a set; the table of each stored plan has no parameters, and its
 //!   own steps delete nothing that its later rows rest on; there are at most 32 learned tables, none of them too long or with a
 //!   proof that is too high. The opening state of a script is like this, and each lawful reply leaves such a state
 //!   ([`sessions_are_kept`], which also says that these tables' kernels carry, and that atoms and edits of the problem stay so,
 //!   `IsOwnState` in `specs/OwnStates`).
-//! - All tables of a session can be written in a block (`specs/Writable`, [`tables_stay_writable`]): each that `save` prints is within the
+//! - All tables of a session can be written in a block (`specs/Writable`, [`tables_stay_writable`]): each that is printed so is within the
 //!   limits of a table's block, and the bytes that `certify` prints are a certificate, whose claim is right (`specs/CertifiedReplies`,
 //!   [`certificates_are_accepted`]).
 //! - A session's state and a command have at most one lawful reply ([`lawful_is_one`]; where a search met the limit of shapes, one
@@ -46,7 +46,7 @@
 //!   does (`specs/ToldTrees`, [`told_trees`]).
 //! - A small script is worked out with its text ([`worked_session`]), and so are the demo's line for five replies ([`worked_demo`]),
 //!   and the states that the turns of a run in a building leave ([`worked_rooms`]).
-//! - The laws are calls that do nothing. No public clause cites `specs/Learning`, `specs/Planning`, `specs/Running` and `specs/Saving`.
+//! - The laws are calls that do nothing. No public clause cites `specs/Learning`, `specs/Planning` and `specs/Running`.
 //!
 //! # How a run takes memory
 //!
@@ -56,6 +56,7 @@
 //! on in a copy of the building, too (`pursuing`).
 #![tactic(auto)]
 
+mod asking;
 mod commands;
 mod duo_lines;
 mod duo_run;
@@ -68,7 +69,6 @@ mod planning;
 mod plans;
 mod pursuing;
 mod running;
-mod saving;
 mod session;
 mod state;
 mod stored_runs;

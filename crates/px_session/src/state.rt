@@ -1,7 +1,7 @@
-//! What a session holds, and the commands that show some of it or record something.
+//! What a session holds, and the commands that tell its facts or record something.
 ghost use Rattle.std.specs.Prelude.{◌≡◌, ◌≢◌, ◌<◌, ◌≤◌, AllPairs, IfOk, OnErr, length, option_map};
 ghost use Rattle.px_base.specs.Bounds.{u32_max};
-ghost use Rattle.px_session.specs.Lawful.{Notes, TellsFacts, TellsShow, recorded_for};
+ghost use Rattle.px_session.specs.Lawful.{Notes, TellsFacts, recorded_for};
 ghost use Rattle.px_table.specs.Limits.{most_tables};
 ghost use Rattle.px_session.specs.Sessions.{any_table, opening, tables_by_name};
 
@@ -70,22 +70,6 @@ impl State {
         match self.plans.find(name) {
             Some(table) => Some(table),
             None => self.learned.find(name),
-        }
-    }
-
-    /// Shows the table of that name.
-    ///
-    /// # Errors
-    /// `NoMemory` where there is no memory for a copy of the table.
-    pub(crate) fn show(&self, name: u32) -> Result<Reply, NoMemory>
-        ensures told { IfOk result (λ reply. TellsShow self.now name reply self.now) }
-    {
-        match self.table(name) {
-            None => Ok(Reply::Unknown { name }),
-            Some(table) => Ok(Reply::Shown {
-                name,
-                table: table.try_copy()?,
-            }),
         }
     }
 

@@ -1,6 +1,6 @@
 -- Proofs of the goals that `planex_main` of src/top.rt leaves open.
 use Rattle.px_run.proofs.CheckLemmas.{check-completes, check-completes_surely, check-front, check-refuses, check-right, is_certified}
-use Rattle.px_run.proofs.DemoLemmas.{demo-completes, demo-completes_surely, demo-front, demo-refuses, demo-right, run-right}
+use Rattle.px_run.proofs.DemoLemmas.{demo-completes, demo-completes_surely, demo-front, demo-right, run-right}
 use Rattle.px_run.specs.Outcomes.{source_ends}
 use Rattle.px_run.proofs.Fronts.{run-front}
 use Rattle.px_run.proofs.OutcomeLemmas.{run-completes, run-completes_surely, run-refuses}
@@ -32,10 +32,6 @@ pub returns-clause-demo_completes_surely : goal.returns-clause-demo_completes_su
 returns-clause-demo_completes_surely g c =
     λ rooms seed taken. demo-completes_surely rooms seed _ c.obey.result
     (demo-right rooms seed _ _ _ c.obey.result taken c.obey.ensures.right)
-
-pub returns-clause-demo_refuses : goal.returns-clause-demo_refuses
-returns-clause-demo_refuses g c =
-    λ rooms seed taken. demo-refuses rooms seed _ c.obey.result (demo-right rooms seed _ _ _ c.obey.result taken c.obey.ensures.right)
 
 pub returns-clause-demo_front : goal.returns-clause-demo_front
 returns-clause-demo_front g c =

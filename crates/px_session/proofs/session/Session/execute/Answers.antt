@@ -9,10 +9,10 @@ use Rattle.px_session.specs.Opened.{SessionValue}
 use Rattle.px_session.specs.CertifiedReplies.{ReplyIsAccepted}
 use Rattle.px_session.specs.Writable.{AsksWritable}
 use Rattle.px_session.specs.contracts.session.Session as held
+use Rattle.px_session.proofs.AskedReplies.{reply-read-back}
 use Rattle.px_session.proofs.Certifying.{reply-accepted}
 use Rattle.px_session.proofs.Executing.{at-place, command-at, kept-after, kernels-after, named-after}
 use Rattle.px_session.proofs.GivenNames.{names-new}
-use Rattle.px_session.proofs.ReadingBack.{reply-read-back}
 use Rattle.px_session.proofs.session.Session.execute.Goals as goal
 
 pub run_command-requires-clause-runnable : goal.run_command-requires-clause-runnable

@@ -1,11 +1,11 @@
--- Proofs of the goals that `is_too_deep` of src/saving.rt leaves open.
+-- Proofs of the goals that `is_too_deep` of src/asking.rt leaves open.
 use Rattle.std.proofs.Common.{◌<◌, List, subst, sym}
 use Rattle.std.specs.Prelude.{Any}
 use Rattle.px_proof.specs.declared.proof.Proof.{Proof}
 use Rattle.px_proof.specs.Derivation.{height}
 use Rattle.px_table.specs.Tables.{rows_of}
 use Rattle.px_general.proofs.LimitSteps.{high_rows}
-use Rattle.px_session.proofs.saving.is_too_deep.Goals as goal
+use Rattle.px_session.proofs.asking.is_too_deep.Goals as goal
 
 pub returns : goal.returns
 returns c =

@@ -4,9 +4,7 @@ ghost use Rattle.px_terms.specs.Validity.{IsValid};
 ghost use Rattle.px_proof.specs.Derivation.{height};
 ghost use Rattle.px_proof.specs.ProofTerm.{derivation_of};
 ghost use Rattle.px_general.specs.Limits.{IsTooDeep, most_proof_height};
-ghost use Rattle.px_script.specs.declared.command.Command.TheVariants as command;
-ghost use Rattle.px_session.specs.Lawful.{Lawful, TellsCertifying, TellsSaving};
-ghost use Rattle.px_session.specs.Saving.{IsFirstCause};
+ghost use Rattle.px_session.specs.Asked.{IsFirstCause, TellsAsked, TellsCertifying, TellsSaving, TellsShow};
 
 use crate::state::State;
 use px_base::{NoMemory, Sequence};
@@ -18,11 +16,11 @@ use px_table::{MOST_STEPS, Row, Table};
 use px_terms::Problem;
 use std::alloc::Global;
 
-/// The greatest height of the proofs of a table that is saved.
+/// The greatest height of the proofs of a table that is written.
 const MOST_PROOF_HEIGHT: u32 = 56;
 
-/// Returns the first cause not to save the table, if there is one. Does not allocate.
-#[tactic(auto, using(crate::proofs::OneSaving::nothing_refuses))]
+/// Returns the first cause not to write the table, as a block or as a certificate, if there is one. Does not allocate.
+#[tactic(auto, using(crate::proofs::WrittenTables::nothing_refuses))]
 fn first_cause(table: &Table) -> Option<SaveWhy>
     ensures { IsFirstCause table.now result }
 {
@@ -73,12 +71,28 @@ impl State {
         about: About,
         name: u32,
     ) -> Result<Reply, NoMemory>
-        ensures lawful { IfOk result (λ reply. Lawful problem.now self.now (command.Ask about name) reply self.now) }
+        ensures told { IfOk result (λ reply. TellsAsked problem.now about self.now name reply self.now) }
     {
         match about {
             About::Show => self.show(name),
             About::Save => self.save(name),
             About::Certify => self.certify(alloc, problem, name),
+        }
+    }
+
+    /// Shows the table of that name.
+    ///
+    /// # Errors
+    /// `NoMemory` where there is no memory for a copy of the table.
+    fn show(&self, name: u32) -> Result<Reply, NoMemory>
+        ensures told { IfOk result (λ reply. TellsShow self.now name reply self.now) }
+    {
+        match self.table(name) {
+            None => Ok(Reply::Unknown { name }),
+            Some(table) => Ok(Reply::Shown {
+                name,
+                table: table.try_copy()?,
+            }),
         }
     }
 

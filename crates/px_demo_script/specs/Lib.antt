@@ -1,0 +1,2 @@
+-- The file of definitions.
+pub mod Value

@@ -1,0 +1,3 @@
+-- The files of definitions and laws.
+pub mod Longest
+pub mod Bounded
