@@ -9,7 +9,7 @@
 //!   a room, learns it and runs it.
 //! - The target of an errand follows from numbers that the seed determines (`room_after` in `specs/Errands.antt`). Each is at most
 //!   two rooms on, or back where there is no such room.
-//! - No clause here says that the bytes are a script.
+//! - That the bytes are a script is a law of `px_demo_script`, `demo_is_script`.
 #![tactic(auto)]
 
 mod errands;
