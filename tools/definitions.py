@@ -9,10 +9,13 @@ import pathlib
 import re
 
 CRATES = pathlib.Path(__file__).resolve().parent.parent / 'crates'
-# the contract of `planex_main`, and the laws that say that replies and texts exist and are one
+# the laws that docs/THEOREM.md names beside the contract of `planex_main`, and that contract
 STARTS = [('px_session/src/laws.rt', 'replies_exist'), ('px_session/src/laws.rt', 'transcripts_exist'),
           ('px_run/src/laws.rt', 'texts_are_one'), ('px_session/src/laws.rt', 'lawful_is_one'), ('px_planex/src/laws.rt', 'runs_are_one'),
-          ('px_ends/src/laws.rt', 'ends_are_one'), ('px_run/src/top.rt', 'planex_main')]
+          ('px_ends/src/laws.rt', 'value_ends_are_one'), ('px_ends/src/laws.rt', 'nodes_stand_once'),
+          ('px_totality/src/laws.rt', 'weight_none_is_exactly_breadth'), ('px_session/src/laws.rt', 'told_trees'),
+          ('px_saved/src/lib.rt', 'saved_is_read_back'), ('px_run/src/laws.rt', 'rooms_suffice'),
+          ('px_demo_script/src/laws.rt', 'demo_is_script'), ('px_run/src/top.rt', 'planex_main')]
 # what a certificate is, and when it is right
 CERTIFICATES = [('px_cert/src/reading.rt', 'read_cert'), ('px_cert/src/cert.rt', 'verify')]
 # what `planex check` writes, by the definitions that say so, and that its one word is taken
@@ -20,7 +23,8 @@ CHECKED = [('px_run/specs/Outcomes.antt', 'CheckRight'), ('px_run/specs/Laws.ant
 # what a plan is worth, by the definition that says so
 WORTH = CRATES / 'px_terms' / 'specs' / 'Plans.antt', 'Carries'
 IMPORTS = re.compile(r'^(?:ghost |pub )?use Rattle\.(px_\w+\.specs(?:\.\w+)+)(?:\.\{([^}]*)\})?(?: as (\w+))?', re.M)
-DEFINES = re.compile(r'(?:abbrev |record |data |instance |class )?(?:pub )?(?:abbrev |record |data |instance |class )?([^\s:(]+)')
+KIND = '(?:abbrev |record |data |instance |class |unfoldable )?'
+DEFINES = re.compile(rf'{KIND}(?:pub )?{KIND}([^\s:(]+)')
 WORD = re.compile(r"[^\W\d][\w'-]*")
 
 
@@ -221,7 +225,7 @@ def comments(file):
     told, untold, comment, defined = [], [], [], set(blocks(read(file)))
     for line in read(file).split('\n')[len(subject_lines(file)):]:
         bare = line.strip()
-        public = re.match(r'(?:abbrev |record |data )?pub ', bare) and DEFINES.match(bare).group(1)
+        public = re.match(rf'{KIND}pub ', bare) and DEFINES.match(bare).group(1)
         if bare.startswith('--'):
             comment = [] if bare.startswith('-- ----') else comment + [bare[3:]]
         elif public in defined:

@@ -1,5 +1,6 @@
 //! Certificates, and whether what they claim is so.
-ghost use Rattle.std.specs.Prelude.{◌≡◌, ◌↔◌, ◌<◌, IsTrue, length};
+ghost use Rattle.std.specs.Prelude.{◌≡◌, ◌↔◌, ◌≤◌, IsTrue, length};
+ghost use Rattle.px_base.specs.Bounds.{u32_max};
 ghost use Rattle.px_terms.specs.Validity.{IsValid};
 ghost use Rattle.px_table.specs.Kernels.{KernelsCarry};
 ghost use Rattle.px_table.specs.Tables.{IsTable};
@@ -25,7 +26,8 @@ pub struct Cert {
 }
 
 impl Model for Cert {
-    ghost use Rattle.std.specs.Prelude.{◌<◌, length};
+    ghost use Rattle.std.specs.Prelude.{◌≤◌, length};
+    ghost use Rattle.px_base.specs.Bounds.{u32_max};
     ghost use Rattle.std.specs.Coded.{codes};
     ghost use Rattle.px_proof.specs.contracts.proof.Proof as term;
     ghost use Rattle.px_table.specs.Tables.{table_of_rows};
@@ -40,7 +42,7 @@ impl Model for Cert {
       table = table_of_rows (length c.param_sorts) c.param_sorts c.steps c.goal c.goal_vars c.rows;
     } };
 
-    ghost invariant = { λ c. length c.param_sorts < 4294967296 };
+    ghost invariant = { λ c. length c.param_sorts ≤ u32_max };
 }
 
 impl Cert {
@@ -85,8 +87,8 @@ const LEAST_SHAPES: u32 = 2;
 
 /// Returns the certificate that the lines make.
 pub(crate) fn cert_of(draft: Draft) -> Cert
-    requires objects { length draft.objects < 4294967296 }
-    requires params { length draft.params < 4294967296 }
+    requires objects { length draft.objects ≤ u32_max }
+    requires params { length draft.params ≤ u32_max }
     ensures { result ≡ claim_of draft }
 {
     let problem = Problem {

@@ -1,5 +1,6 @@
 //! Lists of numbers at the front of bytes.
 ghost use Rattle.std.specs.Prelude.{◌<◌};
+ghost use Rattle.px_base.specs.Bounds.{u32_max};
 ghost use Rattle.px_cert.specs.Reading.{Reads, list_at, many_at, number_at};
 
 use crate::refused::Refused;
@@ -34,7 +35,7 @@ pub(crate) fn numbers(
     most: u32,
     limit: u32,
 ) -> Result<(Vec<u32>, &[u8]), Refused>
-    requires { most < 4294967295 }
+    requires { most < u32_max }
     ensures { Reads (λ x. (x.0.items, x.1.now)) result (list_at (number_at limit) most bytes.now) }
 {
     let (count, rest) = number(bytes, most + 1)?;
@@ -69,7 +70,7 @@ pub(crate) fn small_numbers(
     most: u32,
     limit: u8,
 ) -> Result<(Vec<u8>, &[u8]), Refused>
-    requires { most < 4294967295 }
+    requires { most < u32_max }
     ensures { Reads (λ x. (x.0.items, x.1.now)) result (list_at (number_at limit) most bytes.now) }
 {
     let (count, rest) = number(bytes, most + 1)?;

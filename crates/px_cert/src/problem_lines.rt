@@ -1,5 +1,6 @@
 //! The lines of a certificate's problem.
 ghost use Rattle.std.specs.Prelude.{◌≡◌, ◌+◌, ◌++◌, ◌∷◌, [], ◌<◌, IfErr, IfOk, OnOk, codes, length};
+ghost use Rattle.px_base.specs.Bounds.{u32_max};
 ghost use Rattle.px_terms.specs.Clauses.{IsClause};
 ghost use Rattle.px_cert.specs.declared.refused.Refused.TheVariants as refused;
 ghost use Rattle.px_cert.specs.declared.draft.Due.TheVariants as due;
@@ -67,7 +68,7 @@ pub(crate) fn sorts_line<'a>(
     word: &[u8],
     most: u32,
 ) -> Result<(Vec<u32>, &'a [u8]), Refused>
-    requires { most < 4294967295 }
+    requires { most < u32_max }
     ensures { Reads (λ x. (x.0.items, x.1.now)) result (line_of word.now (sorts_at most) bytes.now) }
 {
     let rest = expect(bytes, word)?;

@@ -1,6 +1,7 @@
 //! The text of the script, line by line.
 ghost use Rattle.std.specs.Prelude.{◌≡◌, ◌≤◌, ◌-◌, ◌++◌, ◌∷◌, [], IfOk, OnOk, codes, length, map, string_bytes};
 ghost use Rattle.std.specs.List.{flat_map, range_with_len};
+ghost use Rattle.px_demo.specs.Limits.{least_rooms, most_rooms, most_seed};
 ghost use Rattle.px_demo.specs.Script.{building_lines, demo_script, door_line, errand_lines, errands, learn_line, plan_line, room_line, run_line, text_of_lines, things_lines};
 
 use crate::errands::{distance, next_number, target};
@@ -14,8 +15,8 @@ use std::fmt::Write;
 /// `NoMemory` where there is no memory for the text.
 #[tactic(auto, using(crate::proofs::Texts::script_text))]
 pub fn demo_script(alloc: Global, rooms: u32, seed: u32) -> Result<Vec<u8>, NoMemory>
-    requires rooms { (3 ≤ rooms) × (rooms ≤ 12) }
-    requires seed { seed ≤ 2147483647 }
+    requires rooms { (least_rooms ≤ rooms) × (rooms ≤ most_rooms) }
+    requires seed { seed ≤ most_seed }
     ensures script { IfOk result (λ text. text.items ≡ demo_script rooms seed) }
     ensures short { IfOk result (λ text. length text.items ≤ 3200) }
 {
@@ -27,7 +28,7 @@ pub fn demo_script(alloc: Global, rooms: u32, seed: u32) -> Result<Vec<u8>, NoMe
 
 /// Appends the building: the rooms in a row, an open door between each two, a box and the robot.
 fn push_building(text: &mut String, rooms: u32) -> Result<(), AllocError>
-    requires rooms { (3 ≤ rooms) × (rooms ≤ 12) }
+    requires rooms { (least_rooms ≤ rooms) × (rooms ≤ most_rooms) }
     ensures { OnOk result (string_bytes text.new ≡ string_bytes text.old ++ text_of_lines (building_lines rooms)) }
 {
     push_start(text)?;
@@ -52,7 +53,7 @@ fn push_things(text: &mut String) -> Result<(), AllocError>
 
 /// Appends the lines of the first `count` rooms.
 fn push_rooms(text: &mut String, count: u32) -> Result<(), AllocError>
-    requires { count ≤ 12 }
+    requires { count ≤ most_rooms }
     ensures { OnOk result (string_bytes text.new ≡ string_bytes text.old ++ text_of_lines (map room_line (range_with_len 1 count))) }
 {
     for room in 1..=count {
@@ -70,7 +71,7 @@ fn push_room(text: &mut String, room: u32) -> Result<(), AllocError>
 
 /// Appends the lines of the first `count` doors.
 fn push_doors(text: &mut String, count: u32) -> Result<(), AllocError>
-    requires { count ≤ 12 }
+    requires { count ≤ most_rooms }
     ensures { OnOk result (string_bytes text.new ≡ string_bytes text.old ++ text_of_lines (map door_line (range_with_len 1 count))) }
 {
     for door in 1..=count {
@@ -81,7 +82,7 @@ fn push_doors(text: &mut String, count: u32) -> Result<(), AllocError>
 
 /// Appends the line of a door, which leads from the room of its number to the next.
 fn push_door(text: &mut String, door: u32) -> Result<(), AllocError>
-    requires { door ≤ 12 }
+    requires { door ≤ most_rooms }
     ensures { OnOk result (string_bytes text.new ≡ string_bytes text.old ++ text_of_lines (door_line door ∷ [])) }
 {
     let next = door + 1;
@@ -90,8 +91,8 @@ fn push_door(text: &mut String, door: u32) -> Result<(), AllocError>
 
 /// Appends the errands, as many as rooms.
 fn push_errands(text: &mut String, rooms: u32, seed: u32) -> Result<(), AllocError>
-    requires rooms { (3 ≤ rooms) × (rooms ≤ 12) }
-    requires seed { seed ≤ 2147483647 }
+    requires rooms { (least_rooms ≤ rooms) × (rooms ≤ most_rooms) }
+    requires seed { seed ≤ most_seed }
     ensures { OnOk result (string_bytes text.new ≡ string_bytes text.old ++ text_of_lines (errands rooms seed)) }
 {
     let mut number = u64::from(seed);

@@ -3,6 +3,7 @@ use Rattle.std.specs.Prelude.{◌≤◌, ◌+◌, ◌-◌, ◌*◌, ℕ, true, L
 use Rattle.std.specs.Fmt.{decimal}
 use Rattle.std.specs.List.{flat_map, range_with_len}
 use Rattle.px_demo.specs.Errands.{room_after}
+use Rattle.px_demo.specs.Limits.{least_rooms, most_rooms}
 use Rattle.px_demo.specs.Script.{demo_script}
 use Rattle.px_rooms.specs.Domain.{building_problem, in_room, robot, robot_name}
 use Rattle.px_rooms.specs.States.{first_state, rendering}
@@ -67,4 +68,4 @@ demo_value rooms seed = record {
 
 -- the bytes of each demo are the script of its value, whatever the seed
 abbrev pub DemoIsScript : Type 0
-DemoIsScript = (rooms seed : ℕ) → 3 ≤ rooms → rooms ≤ 12 → IsScript stage_now (demo_script rooms seed) (demo_value rooms seed)
+DemoIsScript = (rooms seed : ℕ) → least_rooms ≤ rooms → rooms ≤ most_rooms → IsScript stage_now (demo_script rooms seed) (demo_value rooms seed)

@@ -1,7 +1,6 @@
 -- Gathering the entries that may be pushed, part by part.
 use Rattle.std.proofs.Common.{◌≡◌, ◌∙◌, ◌⊎◌, ℕ, Some, List, [], ◌∷◌, ◌++◌, take, slice_get, ap, sym, subst, inl, inr}
 use Rattle.std.specs.Prelude.{◌↔◌, Contains}
-use Rattle.px_proof.specs.declared.shape.Tick.{Tick}
 use Rattle.px_terms.specs.declared.atom.Atom.{Atom}
 use Rattle.px_terms.specs.declared.problem.Problem.{Problem}
 use Rattle.px_table.specs.declared.entry.Entry.{Entry}
@@ -13,6 +12,7 @@ use Rattle.px_entries.specs.Entries.{IsEntry, effect_of, obligations_of, row_nee
 use Rattle.px_gaps.specs.Needs.{IsOpen}
 use Rattle.px_entries.proofs.RowTurns.{in_turn, row_obligations, table_is}
 use Rattle.px_gaps.specs.Known.{LimitsNeeds}
+use Rattle.px_gaps.specs.declared.question.MetLimit.{MetLimit}
 use Rattle.px_diff.specs.Macros.{GathersEntries}
 use Rattle.px_diff.specs.Pushes.{IsPushable, IsRelevant, LimitsRelevant}
 use Rattle.px_gaps.specs.Questions.{AreUnlimited}
@@ -110,11 +110,10 @@ module _ (problem : Problem) (tables : List Table) (wanted : List Atom) (stack :
 
 -- what meets the limit for what an entry needs does so for the request
 pub limits_entry : (problem : Problem) (tables : List Table) (wanted : List Atom) (stack : List Entry) (model : List Atom) (entry : Entry)
-    (formula : List Atom) (shapes : List (List Tick)) → IsRelevant problem tables wanted stack entry
-    → LimitsNeeds problem (obligations_of problem tables model entry) formula shapes
-    → LimitsRelevant problem tables wanted stack model formula shapes
-limits_entry problem tables wanted stack model entry formula shapes relevant limits =
-    record { entry = entry; relevant = relevant; question = limits.question; asked = limits.asked; met = limits.met }
+    (limit : MetLimit) → IsRelevant problem tables wanted stack entry
+    → LimitsNeeds problem (obligations_of problem tables model entry) limit → LimitsRelevant problem tables wanted stack model limit
+limits_entry problem tables wanted stack model entry limit relevant limits =
+    record { entry = entry; relevant = relevant; asked = limits.asked; met = limits.met }
 
 -- ---- MACROPs
 

@@ -13,7 +13,6 @@ use Rattle.px_table.specs.EntryOrder.{order_of_entries}
 use Rattle.px_table.specs.declared.entry.Entry.{Entry}
 use Rattle.px_table.specs.declared.entry.Entry.TheVariants.{Macro, Op}
 use Rattle.px_table.specs.declared.table.Table.{Table}
-use Rattle.px_proof.specs.declared.shape.Tick.{Tick}
 use Rattle.px_terms.specs.AtomSets.{IsAtomSet}
 use Rattle.px_terms.specs.Operators.{adds}
 use Rattle.px_terms.specs.Order.{instance_cmp}
@@ -21,6 +20,7 @@ use Rattle.px_terms.specs.declared.atom.Atom.{Atom}
 use Rattle.px_terms.specs.declared.instance.OpInst.{OpInst}
 use Rattle.px_terms.specs.declared.problem.Problem.{Problem}
 use Rattle.px_gaps.specs.Closings.{OneOf}
+use Rattle.px_gaps.specs.declared.question.MetLimit.{MetLimit}
 use Rattle.px_diff.specs.Firsts.{AreEnough, AreFirstEntries, BringsFirst, ComeBefore, IsBeforeFront, IsOfTableFrom}
 use Rattle.px_diff.specs.Gathering.{Gathers}
 use Rattle.px_entries.specs.Instances.{Covers, IsCovered, IsPartialInstance, StandsFor}
@@ -200,10 +200,10 @@ module _ (problem : Problem) (tables : List Table) (wanted : List Atom) (stack :
   }
 
 -- where no question about an entry is ever limited, none about a relevant one meets the limit
-pub never-met : (problem : Problem) (tables : List Table) (facts wanted formula : List Atom) (shapes : List (List Tick))
-    → IsNeverLimited problem tables → IsAtomSet facts → ¬ LimitsRelevant problem tables wanted [] facts formula shapes
-never-met problem tables facts wanted formula shapes never is_set l =
-    never facts is_set l.entry l.relevant.is_entry l.question formula shapes l.asked l.met
+pub never-met : (problem : Problem) (tables : List Table) (facts wanted : List Atom) (limit : MetLimit)
+    → IsNeverLimited problem tables → IsAtomSet facts → ¬ LimitsRelevant problem tables wanted [] facts limit
+never-met problem tables facts wanted limit never is_set l =
+    never facts is_set l.entry l.relevant.is_entry limit.question limit.formula limit.shapes l.asked l.met
 
 module _ (request : Request) (enough : ℕ) where
   abbrev IsFor : Entry → Type 0

@@ -30,11 +30,14 @@ use Rattle.px_table.specs.declared.mark.Mark.{Mark}
 use Rattle.px_table.specs.declared.table.Table.{Table}
 use Rattle.px_entries.specs.Deciding.{DecideAlike, IsDeciding}
 use Rattle.px_entries.specs.Entries.{initial_atoms, left_after, obligations_of, row_needs}
-use Rattle.px_gaps.specs.Needs.{HasAnswer, IsOpen, Obligation}
+use Rattle.px_gaps.specs.Needs.{HasAnswer, IsOpen}
 use Rattle.px_diff.specs.MacroOpen.{DeletesAddable, IsSettledMark, FactsSuffice}
 use Rattle.px_entries.specs.Unlimited.{IsNeverLimited}
 use Rattle.px_entries.specs.Plain.{AxiomsMentionAddable, IsSettled}
-use Rattle.px_gaps.specs.Questions.{AreUnlimited, FindingGaps, Proving, Question}
+use Rattle.px_gaps.specs.Questions.{AreUnlimited}
+use Rattle.px_gaps.specs.declared.question.Obligation.{Obligation}
+use Rattle.px_gaps.specs.declared.question.Question.{Question}
+use Rattle.px_gaps.specs.declared.question.Question.TheVariants.{FindingGaps, Proving}
 use Rattle.px_entries.proofs.DecidingLaws.{all-regapped}
 use Rattle.px_entries.proofs.RowTurns.{table_is}
 use Rattle.px_gaps.proofs.GapAtoms.{literals-are}

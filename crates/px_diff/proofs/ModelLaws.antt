@@ -24,7 +24,8 @@ use Rattle.px_table.specs.Prefixes.{IsMacro}
 use Rattle.px_table.specs.Tables.{IsTable}
 use Rattle.px_entries.specs.Deciding.{DecideAlike}
 use Rattle.px_entries.specs.Entries.{IsEntry, initial_atoms, left_after, obligations_of, row_needs, table_at}
-use Rattle.px_gaps.specs.Needs.{HasAnswer, HasGap, IsOpen, Obligation}
+use Rattle.px_gaps.specs.Needs.{HasAnswer, HasGap, IsOpen}
+use Rattle.px_gaps.specs.declared.question.Obligation.{Obligation}
 use Rattle.px_entries.specs.Learned.{AreLearned}
 use Rattle.px_diff.specs.Models.{RelevanceOverModels}
 use Rattle.px_entries.proofs.DecidingLaws.{all-regapped}

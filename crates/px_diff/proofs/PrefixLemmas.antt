@@ -15,8 +15,10 @@ use Rattle.px_terms.specs.declared.instance.OpInst.{OpInst}
 use Rattle.px_terms.specs.declared.problem.Problem.{Problem}
 use Rattle.px_terms.specs.declared.term.Term.{Term}
 use Rattle.px_entries.specs.Entries.{initial_atoms}
-use Rattle.px_gaps.specs.Needs.{HasAnswer, HasGap, IsOpen, Obligation}
-use Rattle.px_gaps.specs.Questions.{AreUnlimited, FindingGaps, MeetsLimit, Proving}
+use Rattle.px_gaps.specs.Needs.{HasAnswer, HasGap, IsOpen}
+use Rattle.px_gaps.specs.Questions.{AreUnlimited, MeetsLimit}
+use Rattle.px_gaps.specs.declared.question.Obligation.{Obligation}
+use Rattle.px_gaps.specs.declared.question.Question.TheVariants.{FindingGaps, Proving}
 use Rattle.px_diff.specs.RowQuestions.{FitsEach, FitsOne, IsInstanceKnown}
 use Rattle.px_entries.proofs.RowTurns.{row_obligations}
 use Rattle.px_diff.proofs.RowLemmas.{answer-fits, finding-unlimited, gap-fits, proving-unlimited}

@@ -35,17 +35,16 @@ relevance-over_stacks = record {
   );
   unlimited = λ problem tables wanted model stack free entry r. free entry (over-none problem tables wanted stack entry r);
   below = λ problem tables wanted model stack free entry r. free entry (over-none problem tables wanted stack entry r);
-  limited = λ problem tables wanted model stack formula shapes. (
+  limited = λ problem tables wanted model stack limit. (
     λ l. (
       l.entry,
       over-none problem tables wanted stack l.entry l.relevant,
       l.relevant.fresh,
-      record { question = l.question; asked = l.asked; met = l.met },
+      record { asked = l.asked; met = l.met },
     ),
     λ l. record {
       entry = l.0;
       relevant = over-stack problem tables wanted stack l.0 l.2 l.1;
-      question = l.3.question;
       asked = l.3.asked;
       met = l.3.met;
     },

@@ -4,6 +4,7 @@ pub mod Gathering
 pub mod MacroOpen
 pub mod Macros
 pub mod Models
+pub mod Outcomes
 pub mod Pushes
 pub mod Requests
 pub mod RowQuestions

@@ -1,14 +1,13 @@
 -- What is relevant and may be pushed for a request.
 use Rattle.std.specs.Prelude.{List}
-use Rattle.px_terms.specs.declared.atom.Atom.{Atom}
 use Rattle.px_terms.specs.declared.instance.OpInst.{OpInst}
-use Rattle.px_proof.specs.declared.shape.Tick.{Tick}
 use Rattle.px_table.specs.declared.entry.Entry.{Entry}
 use Rattle.px_table.specs.declared.entry.Entry.TheVariants.{Op}
 use Rattle.px_entries.specs.Entries.{obligations_of}
 use Rattle.px_diff.specs.Gathering.{Gathers}
 use Rattle.px_diff.specs.Pushes.{IsPushable, IsRelevant, LimitsRelevant}
 use Rattle.px_gaps.specs.Questions.{AreBelow, AreUnlimited}
+use Rattle.px_gaps.specs.declared.question.MetLimit.{MetLimit}
 use Rattle.px_diff.specs.declared.request.Request.{Request}
 
 -- the instance is relevant for it
@@ -31,8 +30,8 @@ AreBelowFor request =
     (entry : Entry) → IsRelevant request.problem.now request.tables.now request.wanted.now request.stack.now entry
     → AreBelow request.problem.now (obligations_of request.problem.now request.tables.now request.model.now.atoms entry)
 
--- a question about an entry that is relevant for it meets the limit at the formula, by these shapes
-abbrev pub LimitsFor : Request → List Atom → List (List Tick) → Type 0
+-- the question is one about an entry that is relevant for it, and meets the limit
+abbrev pub LimitsFor : Request → MetLimit → Type 0
 LimitsFor request = LimitsRelevant request.problem.now request.tables.now request.wanted.now request.stack.now request.model.now.atoms
 
 -- gathering what of the part may be pushed for it makes the new list from the old one

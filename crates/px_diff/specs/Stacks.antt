@@ -2,13 +2,13 @@
 use Rattle.std.specs.Prelude.{◌↔◌, List, [], Contains}
 use Rattle.px_terms.specs.declared.atom.Atom.{Atom}
 use Rattle.px_terms.specs.declared.problem.Problem.{Problem}
-use Rattle.px_proof.specs.declared.shape.Tick.{Tick}
 use Rattle.px_table.specs.declared.entry.Entry.{Entry}
 use Rattle.px_table.specs.declared.table.Table.{Table}
 use Rattle.px_entries.specs.Entries.{obligations_of}
 use Rattle.px_gaps.specs.Known.{LimitsNeeds}
 use Rattle.px_diff.specs.Pushes.{IsRelevant, IsPushable, LimitsRelevant}
 use Rattle.px_gaps.specs.Questions.{AreBelow, AreUnlimited}
+use Rattle.px_gaps.specs.declared.question.MetLimit.{MetLimit}
 
 -- no question about an entry that is relevant over the stack meets the limit
 abbrev pub AreUnlimitedOver : Problem → List Table → List Atom → List Atom → List Entry → Type 0
@@ -37,8 +37,7 @@ pub record RelevanceOverStacks : Type 0 where
       → AreUnlimitedOver problem tables wanted model [] → AreUnlimitedOver problem tables wanted model stack
   pub below : (problem : Problem) (tables : List Table) (wanted model : List Atom) (stack : List Entry)
       → AreBelowOver problem tables wanted model [] → AreBelowOver problem tables wanted model stack
-  pub limited : (problem : Problem) (tables : List Table) (wanted model : List Atom) (stack : List Entry) (formula : List Atom)
-      (shapes : List (List Tick))
-      → LimitsRelevant problem tables wanted stack model formula shapes
+  pub limited : (problem : Problem) (tables : List Table) (wanted model : List Atom) (stack : List Entry) (limit : MetLimit)
+      → LimitsRelevant problem tables wanted stack model limit
       ↔ ((entry : Entry) × IsRelevant problem tables wanted [] entry × (¬ Contains stack entry)
-      × LimitsNeeds problem (obligations_of problem tables model entry) formula shapes)
+      × LimitsNeeds problem (obligations_of problem tables model entry) limit)

@@ -8,13 +8,14 @@ ghost use Rattle.px_gaps.specs.Bounds.{AreBounds};
 ghost use Rattle.px_diff.specs.Firsts.{AreEnough, BringsFirstInstances, ComeBefore, IsNotAfter};
 ghost use Rattle.px_entries.specs.Learned.{AreLearned};
 ghost use Rattle.px_entries.specs.Instances.{IsCovered, IsPartialInstance, StandsFor};
-ghost use Rattle.px_gaps.specs.Outcomes.{IfLimit};
+ghost use Rattle.px_diff.specs.Outcomes.{IfStopped};
 ghost use Rattle.px_diff.specs.Requests.{GathersFor, LimitsFor};
 
+use crate::move_err::MoveErr;
 use crate::pushes::gather;
 use crate::request::Request;
 use px_entries::{PartialInstance, filled};
-use px_gaps::{AskErr, Asker, Bounds};
+use px_gaps::{Asker, Bounds};
 use px_terms::{MOST_PARAMETERS, OpInst, Problem};
 
 /// Returns the least of the instances that the partial one stands for: object 0 for each variable.
@@ -106,7 +107,7 @@ pub fn gather_first(
     bounds: &Bounds,
     matches: &[PartialInstance],
     enough: usize,
-) -> Result<bool, AskErr>
+) -> Result<bool, MoveErr>
     requires problem { IsValid request.now.problem.now }
     requires tables { AreLearned request.now.problem.now request.now.tables.now }
     requires bounds { AreBounds request.now.problem.now request.now.problem.now.height bounds.now.table }
@@ -114,7 +115,7 @@ pub fn gather_first(
     ensures gathers { IfOk result (λ is_all. MatchBool is_all
         (GathersFor request.now (IsCovered request.now.problem.now matches.now) found.old.items found.new.items)
         (BringsFirstInstances request.now enough (IsCovered request.now.problem.now matches.now) found.old.items found.new.items)) }
-    ensures limited { IfLimit result (LimitsFor request.now) }
+    ensures limited { IfStopped result (LimitsFor request.now) }
 {
     for place in 0..matches.len() {
         if can_leave_off(found, request.problem, &matches[place..], enough) {

@@ -7,15 +7,16 @@ ghost use Rattle.px_diff.specs.Firsts.{AreEnough, BringsFirstEntries, IsBeforeFr
 ghost use Rattle.px_entries.specs.Learned.{AreLearned};
 ghost use Rattle.px_diff.specs.Macros.{GathersEntriesFor, IsMacroEntry, IsOfTable};
 ghost use Rattle.px_entries.specs.Unlimited.{IsNeverLimited};
-ghost use Rattle.px_gaps.specs.Outcomes.{IfLimit};
+ghost use Rattle.px_diff.specs.Outcomes.{IfStopped};
 ghost use Rattle.px_diff.specs.Requests.{LimitsFor};
 
 use crate::front::Front;
 use crate::macro_open::facts_suffice;
 use crate::macros::{choices_of_table, gather_front};
+use crate::move_err::MoveErr;
 use crate::pushes::order;
 use crate::request::Request;
-use px_gaps::{AskErr, Asker};
+use px_gaps::Asker;
 use px_table::Entry;
 
 /// Returns whether the entry comes before this many first steps of the table of this number, whatever their objects are.
@@ -64,7 +65,7 @@ fn gather_first_table(
     request: &Request,
     number: u32,
     enough: usize,
-) -> Result<bool, AskErr>
+) -> Result<bool, MoveErr>
     requires problem { IsValid request.now.problem.now }
     requires tables { AreLearned request.now.problem.now request.now.tables.now }
     requires number { number < length request.now.tables.now }
@@ -72,7 +73,7 @@ fn gather_first_table(
     ensures gathers { IfOk result (λ is_all. MatchBool is_all
         (GathersEntriesFor request.now (IsOfTable number) found.old.items found.new.items)
         (BringsFirstEntries request.now enough (IsOfTableFrom number) found.old.items found.new.items)) }
-    ensures limited { IfLimit result (LimitsFor request.now) }
+    ensures limited { IfStopped result (LimitsFor request.now) }
 {
     if can_leave_off(found, number, 0, enough) {
         return Ok(false);
@@ -106,13 +107,13 @@ pub fn gather_first_tables(
     found: &mut Vec<Entry>,
     request: &Request,
     enough: usize,
-) -> Result<bool, AskErr>
+) -> Result<bool, MoveErr>
     requires problem { IsValid request.now.problem.now }
     requires tables { AreLearned request.now.problem.now request.now.tables.now }
     requires never { IsNeverLimited request.now.problem.now request.now.tables.now }
     ensures gathers { IfOk result (λ is_all. MatchBool is_all (GathersEntriesFor request.now IsMacroEntry found.old.items found.new.items)
         (BringsFirstEntries request.now enough IsMacroEntry found.old.items found.new.items)) }
-    ensures limited { IfLimit result (LimitsFor request.now) }
+    ensures limited { IfStopped result (LimitsFor request.now) }
 {
     for number in 0..request.tables.len() as u32 {
         if !gather_first_table(asker, found, request, number, enough)? {

@@ -13,16 +13,17 @@ ghost use Rattle.px_diff.specs.Pushes.{IsPushable};
 ghost use Rattle.px_diff.specs.Firsts.{AreFirstEntries, BringsFirstEntries};
 ghost use Rattle.px_entries.specs.Instances.{Covers};
 ghost use Rattle.px_diff.specs.Macros.{GathersEntriesFor, IsOperatorEntry};
-ghost use Rattle.px_gaps.specs.Outcomes.{IfLimit};
+ghost use Rattle.px_diff.specs.Outcomes.{IfStopped};
 ghost use Rattle.px_diff.specs.Requests.{LimitsFor};
 
 use crate::first::First;
 use crate::first_instances::gather_first;
 use crate::first_macros::gather_first_tables;
+use crate::move_err::MoveErr;
 use crate::pushes::{entries_of, order};
 use crate::request::Request;
 use px_entries::{PartialInstance, matches_of};
-use px_gaps::{AskErr, Asker, Bounds};
+use px_gaps::{Asker, Bounds};
 use px_ops::Model;
 use px_table::{Entry, Table};
 use px_terms::{Atom, NoMemory, Problem};
@@ -45,12 +46,12 @@ fn ordered_matches(
 
 /// Returns the entries of operators that may be pushed for the request. Where it isn't said that they are all, there are enough of them,
 /// and all others that may be pushed come after them.
-fn first_operators(asker: &mut Asker, request: &Request, enough: usize) -> Result<First, AskErr>
+fn first_operators(asker: &mut Asker, request: &Request, enough: usize) -> Result<First, MoveErr>
     requires problem { IsValid request.now.problem.now }
     requires tables { AreLearned request.now.problem.now request.now.tables.now }
     ensures gathers { IfOk result (λ first. MatchBool first.is_all (GathersEntriesFor request.now IsOperatorEntry [] first.entries.items)
         (BringsFirstEntries request.now enough (λ entry. Unit {0}) [] first.entries.items)) }
-    ensures limited { IfLimit result (LimitsFor request.now) }
+    ensures limited { IfStopped result (LimitsFor request.now) }
 {
     let matches = ordered_matches(asker.alloc, request.problem, request.wanted)?;
     let bounds = Bounds::of(asker.alloc, request.problem)?;
@@ -61,13 +62,13 @@ fn first_operators(asker: &mut Asker, request: &Request, enough: usize) -> Resul
 }
 
 /// Returns the first of the entries that may be pushed for the request.
-fn first_for(asker: &mut Asker, request: &Request, enough: usize) -> Result<First, AskErr>
+fn first_for(asker: &mut Asker, request: &Request, enough: usize) -> Result<First, MoveErr>
     requires problem { IsValid request.now.problem.now }
     requires tables { AreLearned request.now.problem.now request.now.tables.now }
     requires never { IsNeverLimited request.now.problem.now request.now.tables.now }
     ensures first { IfOk result (λ first. AreFirstEntries request.now enough first.is_all first.entries.items) }
     ensures order { IfOk result (λ first. IsStrictlySortedBy order_of_entries first.entries.items) }
-    ensures limited { IfLimit result (LimitsFor request.now) }
+    ensures limited { IfStopped result (LimitsFor request.now) }
 {
     let first = first_operators(asker, request, enough)?;
     if !first.is_all {
@@ -119,7 +120,7 @@ pub fn relevant_first(
     };
     match first_for(&mut asker, &request, enough) {
         Ok(first) => Ok(first),
-        Err(AskErr::ShapeLimit { .. }) => unreachable!(),
-        Err(AskErr::NoMemory) => Err(NoMemory),
+        Err(MoveErr::ShapeLimit(_)) => unreachable!(),
+        Err(MoveErr::NoMemory) => Err(NoMemory),
     }
 }

@@ -7,9 +7,9 @@
 //!   wanted atom, and are open, which is to say that each formula that they need has an answer or a gap. An entry is an instance
 //!   of an operator, whose objects fit its parameters, or a MACROP of a table. The tables have to be learned ones, as for
 //!   `known_entry` of `px_entries`.
-//! - It has a valid problem as its condition. It stops with `AskErr::ShapeLimit` of `px_gaps` where a question meets the shape
-//!   limit. This error has the formula at which it does, which is the question's own or one atom that a gap would close, and the first
-//!   shapes. `relevant` asks, of each entry that isn't on the stack and adds a wanted atom, whether each formula that it needs has
+//! - It has a valid problem as its condition. It stops with [`MoveErr::ShapeLimit`] where a question meets the shape limit. This
+//!   error has the question, the formula at which it does, which is the question's own or one atom that a gap would close, and the first
+//!   shapes (`MetLimit` of `px_gaps`). `relevant` asks, of each entry that isn't on the stack and adds a wanted atom, whether each formula that it needs has
 //!   an answer, and where it has none, for its gaps. An `Ok` says that no question meets the limit. Whether `relevant` meets it
 //!   doesn't depend on the order in which it works.
 //! - Models with the same deciding facts (`deciding_part` of `px_entries`) allow the same pushes ([`relevance_over_models`]).
@@ -25,7 +25,7 @@
 //!   close whether they have a proof. No clause of the call speaks of this number.
 //!
 //! The definitions are in `specs/`: `Pushes` (which entries are relevant, which may be pushed, and where that meets the limit),
-//! `Stacks` and `Models` (the laws). Only private functions cite the others. Laws for callers are in `proofs/`: `Opening` (when an
+//! `Outcomes` (what an error says), `Stacks` and `Models` (the laws). Only private functions cite the others. Laws for callers are in `proofs/`: `Opening` (when an
 //! operator's instance is open).
 //!
 //! Internally `relevant` matches what operators add with the wanted atoms (`matches_of` of `px_entries`). One question of gaps is
@@ -66,6 +66,7 @@ mod laws;
 mod macro_open;
 mod macros;
 mod measured;
+mod move_err;
 mod pushes;
 mod relevance;
 mod request;
@@ -78,4 +79,5 @@ pub use first::First;
 pub use firsts::relevant_first;
 pub use laws::{relevance_over_models, relevance_over_stacks};
 pub use measured::Measured;
+pub use move_err::MoveErr;
 pub use pushes::{relevant, relevant_measured};

@@ -10,13 +10,14 @@ ghost use Rattle.px_gaps.specs.Closings.{OneOf};
 ghost use Rattle.px_entries.specs.Learned.{AreLearned};
 ghost use Rattle.px_diff.specs.Macros.{GathersEntriesFor, IsMacroFront, IsMacroBy, IsMacroEntry, IsMacroFitting, IsMacroTold, IsOfFront, IsOfTable};
 ghost use Rattle.px_entries.specs.Parameters.{IsParameterMatch};
-ghost use Rattle.px_gaps.specs.Outcomes.{IfLimit};
+ghost use Rattle.px_diff.specs.Outcomes.{IfStopped};
 ghost use Rattle.px_diff.specs.Requests.{IsRelevantEntryFor, LimitsFor};
 ghost use Rattle.px_diff.specs.RowQuestions.{AreTableChoices};
 
 use crate::fitting::{fewest, numbers_below, without_place};
 use crate::front::Front;
 use crate::macro_open::are_settled_marks;
+use crate::move_err::MoveErr;
 use crate::pushes::are_few;
 use crate::relevance::is_stacked;
 use crate::request::Request;
@@ -28,7 +29,7 @@ use px_entries::{
     add_wanted, first_terms, first_unbound, known_entry, macro_matches, merged, objects_of,
     steps_with,
 };
-use px_gaps::{AskErr, Asker, Known, bound, unbound};
+use px_gaps::{Asker, Known, bound, unbound};
 use px_prover::MOST_GAP_VARIABLES;
 use px_table::{Entry, Table, is_macro};
 use px_terms::{Atom, NoMemory, OpInst, Problem, Sequence, Term, fits_sort};
@@ -61,11 +62,11 @@ fn is_relevant_macro(front: &Front, sigma: &[u32], entry: &Entry) -> Result<bool
 }
 
 /// Adds the relevant entry where it may be pushed, as questions about it show.
-fn keep_known(found: &mut Vec<Entry>, front: &Front, entry: Entry) -> Result<(), AskErr>
+fn keep_known(found: &mut Vec<Entry>, front: &Front, entry: Entry) -> Result<(), MoveErr>
     requires front { IsMacroFront front.now }
     requires relevant { IsRelevantEntryFor front.now.request entry }
     ensures gathers { OnOk result (GathersEntriesFor front.now.request (λ other. entry ≡ other) found.old.items found.new.items) }
-    ensures limited { IfLimit result (LimitsFor front.now.request) }
+    ensures limited { IfStopped result (LimitsFor front.now.request) }
 {
     match known_entry(
         front.alloc,
@@ -83,8 +84,8 @@ fn keep_known(found: &mut Vec<Entry>, front: &Front, entry: Entry) -> Result<(),
             Ok(())
         }
         Ok(Known::Closed) => Ok(()),
-        Ok(Known::Limited { formula, shapes }) => Err(AskErr::ShapeLimit { formula, shapes }),
-        Err(NoMemory) => Err(AskErr::NoMemory),
+        Ok(Known::Limited(limit)) => Err(MoveErr::ShapeLimit(limit)),
+        Err(NoMemory) => Err(MoveErr::NoMemory),
     }
 }
 
@@ -94,13 +95,13 @@ fn keep_relevant(
     front: &Front,
     sigma: &[u32],
     entry: Entry,
-) -> Result<(), AskErr>
+) -> Result<(), MoveErr>
     requires front { IsMacroFront front.now }
     requires sigma { IsMacro front.now.request.problem.now front.now.table.now front.now.count sigma.now }
     requires entry { entry ≡ Macro front.now.number front.now.count sigma.now }
     requires relevant { IsRelevantEntryFor front.now.request entry }
     ensures gathers { OnOk result (GathersEntriesFor front.now.request (λ other. entry ≡ other) found.old.items found.new.items) }
-    ensures limited { IfLimit result (LimitsFor front.now.request) }
+    ensures limited { IfStopped result (LimitsFor front.now.request) }
 {
     if !front.facts_suffice {
         return keep_known(found, front, entry);
@@ -118,11 +119,11 @@ fn keep_relevant(
 }
 
 /// Adds the entry of the first steps with these objects where it is one that may be pushed.
-fn keep_open(found: &mut Vec<Entry>, front: &Front, sigma: &[u32]) -> Result<(), AskErr>
+fn keep_open(found: &mut Vec<Entry>, front: &Front, sigma: &[u32]) -> Result<(), MoveErr>
     requires front { IsMacroFront front.now }
     ensures gathers { OnOk result (GathersEntriesFor front.now.request (λ other. Macro front.now.number front.now.count sigma.now ≡ other)
         found.old.items found.new.items) }
-    ensures limited { IfLimit result (LimitsFor front.now.request) }
+    ensures limited { IfStopped result (LimitsFor front.now.request) }
 {
     let is_one = is_macro(front.request.problem, front.table, front.count, sigma);
     if !is_one {
@@ -137,12 +138,12 @@ fn keep_open(found: &mut Vec<Entry>, front: &Front, sigma: &[u32]) -> Result<(),
 
 /// Adds those of the entries of the first steps, with the objects that are chosen, that may be pushed. Each recursive call has one
 /// parameter without an object less. An object of another sort than its places have is passed over.
-fn keep_all(found: &mut Vec<Entry>, front: &Front, terms: &[Term]) -> Result<(), AskErr>
+fn keep_all(found: &mut Vec<Entry>, front: &Front, terms: &[Term]) -> Result<(), MoveErr>
     requires front { IsMacroFront front.now }
     requires binding { IsBinding front.now.request.problem.now.objects terms.now }
     ensures gathers { OnOk result (GathersEntriesFor front.now.request
         (IsMacroBy front.now.request.problem.now.objects front.now.number front.now.count terms.now) found.old.items found.new.items) }
-    ensures limited { IfLimit result (LimitsFor front.now.request) }
+    ensures limited { IfStopped result (LimitsFor front.now.request) }
 {
     if !steps_may_fit(front, terms) {
         return Ok(());
@@ -174,7 +175,7 @@ fn keep_by_rows(
     terms: &[Term],
     rows: &[Sequence<Sequence<Term>>],
     numbers: &[usize],
-) -> Result<(), AskErr>
+) -> Result<(), MoveErr>
     requires front { IsMacroFront front.now }
     requires binding { IsBinding front.now.request.problem.now.objects terms.now }
     requires rows { All (All (λ (choice : List TermValue). length choice ≡ length terms.now)) rows.now }
@@ -182,7 +183,7 @@ fn keep_by_rows(
     ensures gathers { OnOk result (GathersEntriesFor front.now.request
         (IsMacroFitting front.now.request.problem.now.objects front.now.number front.now.count terms.now rows.now) found.old.items
         found.new.items) }
-    ensures limited { IfLimit result (LimitsFor front.now.request) }
+    ensures limited { IfStopped result (LimitsFor front.now.request) }
 {
     let limit = front.request.problem.objects;
     let place = match fewest(limit, terms, rows, numbers) {
@@ -206,14 +207,14 @@ fn keep_fitting(
     front: &Front,
     terms: &[Term],
     rows: &[Sequence<Sequence<Term>>],
-) -> Result<(), AskErr>
+) -> Result<(), MoveErr>
     requires front { IsMacroFront front.now }
     requires binding { IsBinding front.now.request.problem.now.objects terms.now }
     requires rows { All (All (λ (choice : List TermValue). length choice ≡ length terms.now)) rows.now }
     ensures gathers { OnOk result (GathersEntriesFor front.now.request
         (IsMacroFitting front.now.request.problem.now.objects front.now.number front.now.count terms.now rows.now) found.old.items
         found.new.items) }
-    ensures limited { IfLimit result (LimitsFor front.now.request) }
+    ensures limited { IfStopped result (LimitsFor front.now.request) }
 {
     let numbers = numbers_below(front.alloc, rows.len())?;
     keep_by_rows(found, front, terms, rows, &numbers)
@@ -224,13 +225,13 @@ fn keep_listed(
     found: &mut Vec<Entry>,
     front: &Front,
     matches: &[Sequence<Term>],
-) -> Result<(), AskErr>
+) -> Result<(), MoveErr>
     requires front { IsMacroFront front.now }
     requires matches { All (IsParameterMatch front.now.request.problem.now.objects front.now.table.now.params) matches.now }
     ensures gathers { OnOk result (GathersEntriesFor front.now.request
         (λ entry. OneOf matches.now (λ (terms : List TermValue). IsMacroBy front.now.request.problem.now.objects front.now.number
         front.now.count terms entry)) found.old.items found.new.items) }
-    ensures limited { IfLimit result (LimitsFor front.now.request) }
+    ensures limited { IfStopped result (LimitsFor front.now.request) }
 {
     for terms in matches {
         keep_all(found, front, terms.as_slice())?;
@@ -246,7 +247,7 @@ fn keep_told(
     terms: &[Term],
     rows: &[Sequence<Sequence<Term>>],
     limited: &[Sequence<Sequence<Term>>],
-) -> Result<(), AskErr>
+) -> Result<(), MoveErr>
     requires front { IsMacroFront front.now }
     requires binding { IsBinding front.now.request.problem.now.objects terms.now }
     requires rows { All (All (λ (choice : List TermValue). length choice ≡ length terms.now)) rows.now }
@@ -254,7 +255,7 @@ fn keep_told(
     ensures gathers { OnOk result (GathersEntriesFor front.now.request
         (IsMacroTold front.now.request.problem.now.objects front.now.number front.now.count rows.now limited.now terms.now) found.old.items
         found.new.items) }
-    ensures limited { IfLimit result (LimitsFor front.now.request) }
+    ensures limited { IfStopped result (LimitsFor front.now.request) }
 {
     for place in 0..limited.len() {
         keep_fitting(found, front, terms, &limited[place..place + 1])?;
@@ -270,7 +271,7 @@ fn keep_matches(
     matches: &[Sequence<Term>],
     rows: &[Sequence<Sequence<Term>>],
     limited: &[Sequence<Sequence<Term>>],
-) -> Result<(), AskErr>
+) -> Result<(), MoveErr>
     requires front { IsMacroFront front.now }
     requires matches { All (IsParameterMatch front.now.request.problem.now.objects front.now.table.now.params) matches.now }
     requires rows { All (All (λ (choice : List TermValue). length choice ≡ front.now.table.now.params)) rows.now }
@@ -278,7 +279,7 @@ fn keep_matches(
     ensures gathers { OnOk result (GathersEntriesFor front.now.request
         (λ entry. OneOf matches.now (λ (terms : List TermValue). IsMacroTold front.now.request.problem.now.objects front.now.number
         front.now.count rows.now limited.now terms entry)) found.old.items found.new.items) }
-    ensures limited { IfLimit result (LimitsFor front.now.request) }
+    ensures limited { IfStopped result (LimitsFor front.now.request) }
 {
     for terms in matches {
         keep_told(found, front, terms.as_slice(), rows, limited)?;
@@ -292,12 +293,12 @@ pub fn gather_front(
     found: &mut Vec<Entry>,
     front: &Front,
     rows: &Option<TableChoices>,
-) -> Result<(), AskErr>
+) -> Result<(), MoveErr>
     requires front { IsMacroFront front.now }
     requires rows { IfSome rows.now (AreTableChoices front.now.request.problem.now front.now.request.model.now.atoms front.now.table.now) }
     ensures gathers { OnOk result (GathersEntriesFor front.now.request (IsOfFront front.now.number front.now.count) found.old.items
         found.new.items) }
-    ensures limited { IfLimit result (LimitsFor front.now.request) }
+    ensures limited { IfStopped result (LimitsFor front.now.request) }
 {
     let problem = front.request.problem;
     let start = first_terms(front.alloc, front.table, front.count)?;
@@ -393,12 +394,12 @@ fn gather_table(
     found: &mut Vec<Entry>,
     request: &Request,
     number: u32,
-) -> Result<(), AskErr>
+) -> Result<(), MoveErr>
     requires problem { IsValid request.now.problem.now }
     requires tables { AreLearned request.now.problem.now request.now.tables.now }
     requires number { number < length request.now.tables.now }
     ensures gathers { OnOk result (GathersEntriesFor request.now (IsOfTable number) found.old.items found.new.items) }
-    ensures limited { IfLimit result (LimitsFor request.now) }
+    ensures limited { IfStopped result (LimitsFor request.now) }
 {
     let table = &request.tables[number as usize];
     let made = rows_of_table(asker, request, table)?;
@@ -423,11 +424,11 @@ pub fn gather_tables(
     asker: &mut Asker,
     found: &mut Vec<Entry>,
     request: &Request,
-) -> Result<(), AskErr>
+) -> Result<(), MoveErr>
     requires problem { IsValid request.now.problem.now }
     requires tables { AreLearned request.now.problem.now request.now.tables.now }
     ensures gathers { OnOk result (GathersEntriesFor request.now IsMacroEntry found.old.items found.new.items) }
-    ensures limited { IfLimit result (LimitsFor request.now) }
+    ensures limited { IfStopped result (LimitsFor request.now) }
 {
     for number in 0..request.tables.len() as u32 {
         gather_table(asker, found, request, number)?;

@@ -16,13 +16,14 @@ ghost use Rattle.px_gaps.specs.GapAnswers.{AnswersSome, IsGapAnswer};
 ghost use Rattle.px_diff.specs.Gathering.{AreObjectsFor, IsOpenIn, instance_by};
 ghost use Rattle.px_entries.specs.Instances.{IsCovered, IsPartialInstance, StandsFor};
 ghost use Rattle.px_entries.specs.Learned.{AreLearned};
-ghost use Rattle.px_gaps.specs.Outcomes.{IfLimit};
+ghost use Rattle.px_diff.specs.Outcomes.{IfStopped};
 ghost use Rattle.px_diff.specs.Pushes.{IsRelevant, IsPushable, LimitsRelevant};
 ghost use Rattle.px_gaps.specs.Questions.{AreBelow, AreUnlimited};
 ghost use Rattle.px_diff.specs.Requests.{AreBelowFor, AreUnlimitedFor, GathersFor, IsPushableFor, IsRelevantFor, LimitsFor};
 
 use crate::macros::gather_tables;
 use crate::measured::Measured;
+use crate::move_err::MoveErr;
 use crate::relevance::is_relevant;
 use crate::request::Request;
 use crate::rest::rest_answer;
@@ -41,12 +42,12 @@ fn gather_one(
     found: &mut Vec<OpInst>,
     request: &Request,
     inst: &OpInst,
-) -> Result<(), AskErr>
+) -> Result<(), MoveErr>
     requires problem { IsValid request.now.problem.now }
     requires tables { AreLearned request.now.problem.now request.now.tables.now }
     requires inst { IsInstanceOf request.now.problem.now inst.now }
     ensures gathers { OnOk result (GathersFor request.now (λ other. inst.now ≡ other) found.old.items found.new.items) }
-    ensures limited { IfLimit result (LimitsFor request.now) }
+    ensures limited { IfStopped result (LimitsFor request.now) }
 {
     if !is_relevant(request, inst) {
         return Ok(());
@@ -68,8 +69,8 @@ fn gather_one(
             Ok(())
         }
         Ok(Known::Closed) => Ok(()),
-        Ok(Known::Limited { formula, shapes }) => Err(AskErr::ShapeLimit { formula, shapes }),
-        Err(NoMemory) => Err(AskErr::NoMemory),
+        Ok(Known::Limited(limit)) => Err(MoveErr::ShapeLimit(limit)),
+        Err(NoMemory) => Err(MoveErr::NoMemory),
     }
 }
 
@@ -190,13 +191,13 @@ pub fn gather(
     request: &Request,
     bounds: &Bounds,
     partial: &PartialInstance,
-) -> Result<(), AskErr>
+) -> Result<(), MoveErr>
     requires problem { IsValid request.now.problem.now }
     requires tables { AreLearned request.now.problem.now request.now.tables.now }
     requires bounds { AreBounds request.now.problem.now request.now.problem.now.height bounds.now.table }
     requires partial { IsPartialInstance request.now.problem.now partial.now }
     ensures gathers { OnOk result (GathersFor request.now (StandsFor request.now.problem.now partial.now) found.old.items found.new.items) }
-    ensures limited { IfLimit result (LimitsFor request.now) }
+    ensures limited { IfStopped result (LimitsFor request.now) }
 {
     // `atoms` says that these are a model, ascending and each once, on which the proof of what follows rests
     let _facts = request.model.atoms();
@@ -235,13 +236,13 @@ fn gather_matches(
     request: &Request,
     bounds: &Bounds,
     matches: &[PartialInstance],
-) -> Result<(), AskErr>
+) -> Result<(), MoveErr>
     requires problem { IsValid request.now.problem.now }
     requires tables { AreLearned request.now.problem.now request.now.tables.now }
     requires bounds { AreBounds request.now.problem.now request.now.problem.now.height bounds.now.table }
     requires matches { All (IsPartialInstance request.now.problem.now) matches.now }
     ensures gathers { OnOk result (GathersFor request.now (IsCovered request.now.problem.now matches.now) found.old.items found.new.items) }
-    ensures limited { IfLimit result (LimitsFor request.now) }
+    ensures limited { IfStopped result (LimitsFor request.now) }
 {
     for partial in matches {
         gather(asker, found, request, bounds, partial)?;
@@ -270,14 +271,14 @@ pub fn order(found: &mut Vec<Entry>)
 }
 
 /// Returns the entries that may be pushed for the request.
-fn pushable_for(asker: &mut Asker, request: &Request) -> Result<Vec<Entry>, AskErr>
+fn pushable_for(asker: &mut Asker, request: &Request) -> Result<Vec<Entry>, MoveErr>
     requires problem { IsValid request.now.problem.now }
     requires tables { AreLearned request.now.problem.now request.now.tables.now }
     ensures exact { IfOk result (λ entries. (entry : Entry) → Contains entries.items entry ↔ IsPushableFor request.now entry) }
     ensures order { IfOk result (λ entries. IsStrictlySortedBy order_of_entries entries.items) }
     ensures unlimited { IfOk result (λ entries. AreUnlimitedFor request.now) }
     ensures below { IfOk result (λ entries. AreBelowFor request.now) }
-    ensures limited { IfLimit result (LimitsFor request.now) }
+    ensures limited { IfStopped result (LimitsFor request.now) }
 {
     let matches = matches_of(asker.alloc, request.problem, request.wanted)?;
     let bounds = Bounds::of(asker.alloc, request.problem)?;
@@ -304,7 +305,7 @@ pub fn relevant_measured(
     stack: &[Entry],
     model: &Model,
     tables: &[Table],
-) -> Result<Measured, AskErr>
+) -> Result<Measured, MoveErr>
     requires problem { IsValid problem.now }
     requires tables { AreLearned problem.now tables.now }
     ensures exact { IfOk result (λ measured. (entry : Entry) → Contains measured.entries.items entry
@@ -314,7 +315,7 @@ pub fn relevant_measured(
         → AreUnlimited problem.now (obligations_of problem.now tables.now model.now.atoms entry)) }
     ensures below { IfOk result (λ measured. (entry : Entry) → IsRelevant problem.now tables.now wanted.now stack.now entry
         → AreBelow problem.now (obligations_of problem.now tables.now model.now.atoms entry)) }
-    ensures limited { IfLimit result (LimitsRelevant problem.now tables.now wanted.now stack.now model.now.atoms) }
+    ensures limited { IfStopped result (LimitsRelevant problem.now tables.now wanted.now stack.now model.now.atoms) }
 {
     let mut asker = Asker::new(alloc);
     let request = Request {
@@ -348,7 +349,7 @@ pub fn relevant(
     stack: &[Entry],
     model: &Model,
     tables: &[Table],
-) -> Result<Vec<Entry>, AskErr>
+) -> Result<Vec<Entry>, MoveErr>
     requires problem { IsValid problem.now }
     requires tables { AreLearned problem.now tables.now }
     ensures exact { IfOk result (λ entries. (entry : Entry) → Contains entries.items entry
@@ -358,7 +359,7 @@ pub fn relevant(
         → AreUnlimited problem.now (obligations_of problem.now tables.now model.now.atoms entry)) }
     ensures below { IfOk result (λ entries. (entry : Entry) → IsRelevant problem.now tables.now wanted.now stack.now entry
         → AreBelow problem.now (obligations_of problem.now tables.now model.now.atoms entry)) }
-    ensures limited { IfLimit result (LimitsRelevant problem.now tables.now wanted.now stack.now model.now.atoms) }
+    ensures limited { IfStopped result (LimitsRelevant problem.now tables.now wanted.now stack.now model.now.atoms) }
 {
     match relevant_measured(alloc, problem, wanted, stack, model, tables) {
         Ok(measured) => Ok(measured.entries),

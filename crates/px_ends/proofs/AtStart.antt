@@ -3,7 +3,9 @@ use Rattle.std.proofs.Common.{◌≡◌, ℕ, zero, suc, ◌≤◌, List, [], �
 use Rattle.px_terms.specs.declared.atom.Atom.{Atom}
 use Rattle.px_proof.specs.declared.shape.Tick.{Tick}
 use Rattle.px_table.specs.declared.entry.Move.{Move}
-use Rattle.px_gaps.specs.Questions.{Question, MeetsLimit}
+use Rattle.px_gaps.specs.Questions.{IsMetLimit, MeetsLimit}
+use Rattle.px_gaps.specs.declared.question.MetLimit.{MetLimit}
+use Rattle.px_gaps.specs.declared.question.Question.{Question}
 use Rattle.px_order.proofs.LawProofs.{asked_by_run}
 use Rattle.px_order.specs.Ends as order_ends
 use Rattle.px_order.specs.Places.{some-one}
@@ -62,13 +64,6 @@ module _ (task : Task) (weight : ℕ) (room : 1 ≤ task.nodes) where
           (subst (λ (x : Question). MeetsLimit task.problem x met.0 met.1) tries.1 met.2))
 
   -- trying the goal there meets the limit
-  pub limited_at_start : (formula : List Atom) (shapes : List (List Tick))
-      → MeetsLimit task.problem (goal_question task (initial_node task)) formula shapes
-      → IsShapeLimit task weight (initial_node task) formula shapes
-  limited_at_start formula shapes met = record {
-    moves = [];
-    question = goal_question task (initial_node task);
-    node_is = refl;
-    asked = inr (tested, (refl, refl));
-    met = met;
-  }
+  pub limited_at_start : (limit : MetLimit) → limit.question ≡ goal_question task (initial_node task) → IsMetLimit task.problem limit
+      → IsShapeLimit task weight (initial_node task) limit
+  limited_at_start limit is met = record { moves = []; node_is = refl; asked = inr (tested, (refl, is)); met = met }

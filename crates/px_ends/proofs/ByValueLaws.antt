@@ -1,10 +1,9 @@
 -- Proofs of the laws of the ends with a weight.
 use Rattle.std.proofs.Common.{ℕ, List, map, sym, ◌∙◌, ap, inl, inr}
-use Rattle.px_terms.specs.declared.atom.Atom.{Atom}
-use Rattle.px_proof.specs.declared.shape.Tick.{Tick}
 use Rattle.px_table.specs.declared.entry.Move.{Move}
 use Rattle.px_table.specs.declared.node.Node.{Node}
-use Rattle.px_gaps.specs.Questions.{Question}
+use Rattle.px_gaps.specs.declared.question.MetLimit.{MetLimit}
+use Rattle.px_gaps.specs.declared.question.Question.{Question}
 use Rattle.px_order.proofs.LawProofs.{runs_are_one, nodes_stand_once, all_is_found, one_stop, exhausted_in_all, blind_ends}
 use Rattle.px_order.specs.BreadthEnds as least_ends
 use Rattle.px_order.specs.Spaces.{IsLinear}
@@ -34,11 +33,11 @@ value_ends_are_one = record {
   found_or_node_limit = λ task weight moves nodes count f l.
       (one_stop (space_of task) (aim_of task)).found_or_node_limit (order_by task weight) (linear task weight) moves l.earlier count f
       l.limit;
-  shape_limit_or_found = λ task weight node formula shapes moves s f.
-      f.unlimited s.moves s.question s.asked (formula, shapes, s.met);
-  shape_limit_or_node_limit = λ task weight node formula shapes nodes count s l.
-      l.limit.unlimited s.moves s.question s.asked (formula, shapes, s.met);
-  shapes = λ task weight node formula shapes s. limit-count task.problem s.question formula shapes s.met;
+  shape_limit_or_found = λ task weight node limit moves s f.
+      f.unlimited s.moves limit.question s.asked (limit.formula, limit.shapes, s.met);
+  shape_limit_or_node_limit = λ task weight node limit nodes count s l.
+      l.limit.unlimited s.moves limit.question s.asked (limit.formula, limit.shapes, s.met);
+  shapes = λ task weight node limit s. limit-count task.problem limit.question limit.formula limit.shapes s.met;
 }
 
 pub nodes_stand_once_with_all : NodesStandOnceWithAll
@@ -53,9 +52,9 @@ exhausted_with_all = record {
       (exhausted_in_all (space_of task) (aim_of task)).found (order_by task weight) (order_by task other) x moves;
   node_limit = λ task weight other x nodes count l.
       (exhausted_in_all (space_of task) (aim_of task)).node_limit (order_by task weight) (order_by task other) x l.earlier count l.limit;
-  shape_limit = λ task weight other x node formula shapes s.
-      (exhausted_in_all (space_of task) (aim_of task)).limited (order_by task weight) (order_by task other) x s.moves s.question s.asked
-      (formula, shapes, s.met);
+  shape_limit = λ task weight other x node limit s.
+      (exhausted_in_all (space_of task) (aim_of task)).limited (order_by task weight) (order_by task other) x s.moves limit.question s.asked
+      (limit.formula, limit.shapes, s.met);
 }
 
 -- ---- weight 0
@@ -124,14 +123,12 @@ module _ (task : Task) where
         moves_are = g.moves_are;
       }
 
-  blind_shapes : (node : Node) (formula : List Atom) (shapes : List (List Tick)) → IsShapeLimit task 0 node formula shapes
-      → breadth.IsShapeLimit task node formula shapes
-  blind_shapes node formula shapes s = record {
+  blind_shapes : (node : Node) (limit : MetLimit) → IsShapeLimit task 0 node limit → breadth.IsShapeLimit task node limit
+  blind_shapes node limit s = record {
     moves = s.moves;
-    question = s.question;
     node_is = s.node_is;
-    asked = asked_to s.moves s.question
-        ((blind_ends (space_of task) (aim_of task)).asked (order_by task 0) (linear task 0) s.moves s.question s.asked);
+    asked = asked_to s.moves limit.question
+        ((blind_ends (space_of task) (aim_of task)).asked (order_by task 0) (linear task 0) s.moves limit.question s.asked);
     met = s.met;
   }
 

@@ -7,7 +7,10 @@ use Rattle.px_terms.specs.declared.problem.Problem.{Problem}
 use Rattle.px_proof.specs.declared.shape.Tick.{Tick}
 use Rattle.px_table.specs.declared.entry.Move.{Move}
 use Rattle.px_table.specs.declared.node.Node.{Node}
-use Rattle.px_gaps.specs.Questions.{FindingGaps, MeetsLimit, Proving, Question}
+use Rattle.px_gaps.specs.Questions.{MeetsLimit}
+use Rattle.px_gaps.specs.declared.question.MetLimit.{MetLimit}
+use Rattle.px_gaps.specs.declared.question.Question.{Question}
+use Rattle.px_gaps.specs.declared.question.Question.TheVariants.{FindingGaps, Proving}
 use Rattle.px_order.specs.Beginnings.{beginnings_agree, one_place}
 use Rattle.px_order.specs.Places.{at_end, at_index, contains_place, order_of, place-within-list, place_of, still_there}
 use Rattle.px_ends.specs.ByValue.{space_of}
@@ -102,17 +105,15 @@ module _ (task : Task) where
       (length l.earlier) l.last place.1 (at_end l.earlier l.last) in
       omega (arith, number, l.full, x.room, place-within-list x.lists place.0 l.last place.1)
 
-  pub shape_limit_or_found : (node : Node) (formula : List Atom) (shapes : List (List Tick)) (ms : List Move)
-      → IsShapeLimit task node formula shapes → ¬ IsFound task ms
-  shape_limit_or_found node formula shapes ms s f = f.unlimited s.moves s.question formula shapes s.asked s.met
+  pub shape_limit_or_found : (node : Node) (limit : MetLimit) (ms : List Move) → IsShapeLimit task node limit → ¬ IsFound task ms
+  shape_limit_or_found node limit ms s f = f.unlimited s.moves limit.question limit.formula limit.shapes s.asked s.met
 
-  pub shape_limit_or_exhausted : (node : Node) (formula : List Atom) (shapes : List (List Tick)) → IsShapeLimit task node formula shapes
-      → ¬ IsExhausted task
-  shape_limit_or_exhausted node formula shapes s x = x.unlimited s.moves s.question formula shapes s.asked s.met
+  pub shape_limit_or_exhausted : (node : Node) (limit : MetLimit) → IsShapeLimit task node limit → ¬ IsExhausted task
+  shape_limit_or_exhausted node limit s x = x.unlimited s.moves limit.question limit.formula limit.shapes s.asked s.met
 
-  pub shape_limit_or_limit : (node : Node) (formula : List Atom) (shapes : List (List Tick)) (nodes : List Node) (moves : ℕ)
-      → IsShapeLimit task node formula shapes → ¬ IsNodeLimit task nodes moves
-  shape_limit_or_limit node formula shapes nodes moves s l = l.unlimited s.moves s.question formula shapes s.asked s.met
+  pub shape_limit_or_limit : (node : Node) (limit : MetLimit) (nodes : List Node) (moves : ℕ) → IsShapeLimit task node limit
+      → ¬ IsNodeLimit task nodes moves
+  shape_limit_or_limit node limit nodes moves s l = l.unlimited s.moves limit.question limit.formula limit.shapes s.asked s.met
 
 -- ---- the laws
 
@@ -133,5 +134,5 @@ ends_are_one = record {
   shape_limit_or_found = shape_limit_or_found;
   shape_limit_or_exhausted = shape_limit_or_exhausted;
   shape_limit_or_node_limit = shape_limit_or_limit;
-  shapes = λ task node formula shapes limit. limit-count task.problem limit.question formula shapes limit.met;
+  shapes = λ task node limit s. limit-count task.problem limit.question limit.formula limit.shapes s.met;
 }

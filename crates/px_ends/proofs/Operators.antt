@@ -22,8 +22,10 @@ use Rattle.px_table.specs.declared.entry.Move.{Move}
 use Rattle.px_table.specs.declared.entry.Move.TheVariants.{Apply, Push}
 use Rattle.px_table.specs.declared.node.Node.{Node}
 use Rattle.px_entries.specs.Entries.{IsEntry, obligations_of}
-use Rattle.px_gaps.specs.Needs.{HasAnswer, HasGap, IsOpen, Obligation}
-use Rattle.px_gaps.specs.Questions.{AsksOf, MeetsLimit, Question}
+use Rattle.px_gaps.specs.Needs.{HasAnswer, HasGap, IsOpen}
+use Rattle.px_gaps.specs.Questions.{AsksOf, MeetsLimit}
+use Rattle.px_gaps.specs.declared.question.Obligation.{Obligation}
+use Rattle.px_gaps.specs.declared.question.Question.{Question}
 use Rattle.px_ends.specs.Ends.{AreMoves, IsExhausted, IsFound, IsLeastList, IsNodeLimit, IsStop, IsUnlimited, node_of}
 use Rattle.px_ends.specs.Moves.{CanMake}
 use Rattle.px_ends.specs.Order.{IsBefore}

@@ -22,8 +22,11 @@ use Rattle.px_question.proofs.DeterminedLaws.{few_or_limited}
 use Rattle.px_table.specs.declared.entry.Move.{Move}
 use Rattle.px_table.specs.declared.table.Table.{Table}
 use Rattle.px_table.specs.Marks.{marks_from, step_at}
-use Rattle.px_gaps.specs.Needs.{HasAnswer, Obligation}
-use Rattle.px_gaps.specs.Questions.{AsksOf, FindingGaps, MeetsLimit, Proving, Question}
+use Rattle.px_gaps.specs.Needs.{HasAnswer}
+use Rattle.px_gaps.specs.Questions.{AsksOf, MeetsLimit}
+use Rattle.px_gaps.specs.declared.question.Obligation.{Obligation}
+use Rattle.px_gaps.specs.declared.question.Question.{Question}
+use Rattle.px_gaps.specs.declared.question.Question.TheVariants.{FindingGaps, Proving}
 use Rattle.px_ends.specs.Ends.{BeginsWith, IsFound, IsLeastList, IsStop, IsUnlimited, node_of}
 use Rattle.px_ends.specs.Made.{IsFirstRow, IsSource, IsTableOfMoves}
 use Rattle.px_ends.specs.Order.{IsBefore}

@@ -11,7 +11,8 @@ use Rattle.px_table.specs.declared.entry.Move.{Move}
 use Rattle.px_table.specs.declared.entry.Move.TheVariants.{Apply, Push}
 use Rattle.px_table.specs.declared.node.Node.{Node}
 use Rattle.px_proof.specs.Derivation.{also, fact, none}
-use Rattle.px_gaps.specs.Questions.{Question, MeetsLimit}
+use Rattle.px_gaps.specs.Questions.{MeetsLimit}
+use Rattle.px_gaps.specs.declared.question.Question.{Question}
 use Rattle.px_order.specs.Spaces.{Order, value}
 use Rattle.px_order.specs.Runs.{IsDone, IsGoneOver, IsNew, Reaches, RunsFor}
 use Rattle.px_order.specs.Places.{contains_place}

@@ -5,7 +5,9 @@ use Rattle.px_terms.specs.declared.atom.Atom.{Atom}
 use Rattle.px_proof.specs.declared.shape.Tick.{Tick}
 use Rattle.px_table.specs.declared.entry.Move.{Move}
 use Rattle.px_table.specs.declared.node.Node.{Node}
-use Rattle.px_gaps.specs.Questions.{Question, MeetsLimit}
+use Rattle.px_gaps.specs.Questions.{IsMetLimit, MeetsLimit}
+use Rattle.px_gaps.specs.declared.question.MetLimit.{MetLimit}
+use Rattle.px_gaps.specs.declared.question.Question.{Question}
 use Rattle.px_order.specs.Spaces.{Space, Order}
 use Rattle.px_order.specs.Ends as order_ends
 use Rattle.px_ends.specs.Ends.{node_of}
@@ -53,10 +55,9 @@ pub record IsNodeLimit (task : Task) (weight : ℕ) (nodes : List Node) (moves :
   pub limit : order_ends.IsNodeLimit (space_of task) (order_by task weight) (aim_of task) earlier moves
   pub nodes_are : nodes ≡ map (node_of task) earlier
 
--- a question that is asked at the node meets the shape limit at the formula, by its first shapes
-pub record IsShapeLimit (task : Task) (weight : ℕ) (node : Node) (formula : List Atom) (shapes : List (List Tick)) : Type 0 where
+-- the question is asked at the node, and meets the shape limit
+pub record IsShapeLimit (task : Task) (weight : ℕ) (node : Node) (limit : MetLimit) : Type 0 where
   pub moves : List Move
-  pub question : Question
   pub node_is : node ≡ node_of task moves
-  pub asked : IsAsked task weight moves question
-  pub met : MeetsLimit task.problem question formula shapes
+  pub asked : IsAsked task weight moves limit.question
+  pub met : IsMetLimit task.problem limit

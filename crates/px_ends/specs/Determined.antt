@@ -1,10 +1,9 @@
 -- What a task determines.
 use Rattle.std.specs.Prelude.{◌≡◌, ◌↔◌, ◌⊎◌, ◌<◌, ℕ, List, [], ◌∷◌, ◌++◌, length}
-use Rattle.px_terms.specs.declared.atom.Atom.{Atom}
-use Rattle.px_proof.specs.declared.shape.Tick.{Tick}
 use Rattle.px_table.specs.declared.entry.Move.{Move}
 use Rattle.px_table.specs.declared.node.Node.{Node}
 use Rattle.px_table.specs.declared.table.Table.{Table}
+use Rattle.px_gaps.specs.declared.question.MetLimit.{MetLimit}
 use Rattle.px_ends.specs.Ends.{IsExhausted, IsFound, IsGoneThrough, IsLeastList, IsMadeFrom, IsNodeLimit, IsShapeLimit, IsStop, IsTested, node_of}
 use Rattle.px_ends.specs.Made.{IsTableOfMoves}
 use Rattle.px_ends.specs.Order.{IsBefore}
@@ -20,15 +19,12 @@ pub record EndsAreOne : Type 0 where
   pub found_or_node_limit : (task : Task) (moves : List Move) (nodes : List Node) (count : ℕ) → IsFound task moves
       → ¬ IsNodeLimit task nodes count
   pub node_limit_or_exhausted : (task : Task) (nodes : List Node) (count : ℕ) → IsNodeLimit task nodes count → ¬ IsExhausted task
-  pub shape_limit_or_found : (task : Task) (node : Node) (formula : List Atom) (shapes : List (List Tick)) (moves : List Move)
-      → IsShapeLimit task node formula shapes → ¬ IsFound task moves
-  pub shape_limit_or_exhausted : (task : Task) (node : Node) (formula : List Atom) (shapes : List (List Tick))
-      → IsShapeLimit task node formula shapes → ¬ IsExhausted task
-  pub shape_limit_or_node_limit : (task : Task) (node : Node) (formula : List Atom) (shapes : List (List Tick)) (nodes : List Node)
-      (count : ℕ)
-      → IsShapeLimit task node formula shapes → ¬ IsNodeLimit task nodes count
-  pub shapes : (task : Task) (node : Node) (formula : List Atom) (shapes : List (List Tick)) → IsShapeLimit task node formula shapes
-      → length shapes ≡ task.problem.shapes
+  pub shape_limit_or_found : (task : Task) (node : Node) (limit : MetLimit) (moves : List Move) → IsShapeLimit task node limit
+      → ¬ IsFound task moves
+  pub shape_limit_or_exhausted : (task : Task) (node : Node) (limit : MetLimit) → IsShapeLimit task node limit → ¬ IsExhausted task
+  pub shape_limit_or_node_limit : (task : Task) (node : Node) (limit : MetLimit) (nodes : List Node) (count : ℕ)
+      → IsShapeLimit task node limit → ¬ IsNodeLimit task nodes count
+  pub shapes : (task : Task) (node : Node) (limit : MetLimit) → IsShapeLimit task node limit → length limit.shapes ≡ task.problem.shapes
 
 -- Which questions are asked, by the first node that is solved or that there is no room for. There is at most one such node. All questions
 -- of the nodes up to and including the one from which it is reached, which is one of the nodes in order, are asked; and the goal is tried

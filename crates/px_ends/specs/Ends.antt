@@ -5,7 +5,9 @@ use Rattle.px_terms.specs.declared.atom.Atom.{Atom}
 use Rattle.px_proof.specs.declared.shape.Tick.{Tick}
 use Rattle.px_table.specs.declared.entry.Move.{Move}
 use Rattle.px_table.specs.declared.node.Node.{Node}
-use Rattle.px_gaps.specs.Questions.{Question, MeetsLimit}
+use Rattle.px_gaps.specs.Questions.{IsMetLimit, MeetsLimit}
+use Rattle.px_gaps.specs.declared.question.MetLimit.{MetLimit}
+use Rattle.px_gaps.specs.declared.question.Question.{Question}
 use Rattle.px_ends.specs.Moves.{CanMake, reached, IsLeast, IsBeginning, IsAll}
 use Rattle.px_ends.specs.Order.{IsBefore}
 use Rattle.px_ends.specs.Tasks.{Task, initial_node, IsSolved, IsAllowed, after, AsksAt, goal_question}
@@ -97,10 +99,9 @@ pub record IsNodeLimit (task : Task) (nodes : List Node) (moves : ℕ) : Type 0 
   pub nodes_are : nodes ≡ map (node_of task) earlier
   pub moves_are : moves ≡ length last
 
--- a question that is asked at the node meets the shape limit at the formula, by its first shapes
-pub record IsShapeLimit (task : Task) (node : Node) (formula : List Atom) (shapes : List (List Tick)) : Type 0 where
+-- the question is asked at the node, and meets the shape limit
+pub record IsShapeLimit (task : Task) (node : Node) (limit : MetLimit) : Type 0 where
   pub moves : List Move
-  pub question : Question
   pub node_is : node ≡ node_of task moves
-  pub asked : IsAsked task moves question
-  pub met : MeetsLimit task.problem question formula shapes
+  pub asked : IsAsked task moves limit.question
+  pub met : IsMetLimit task.problem limit

@@ -9,7 +9,7 @@ use Rattle.px_terms.specs.Order.{term_eq}
 use Rattle.px_table.specs.declared.entry.Entry.{Entry}
 use Rattle.px_table.specs.declared.node.Node.{Node}
 use Rattle.px_entries.specs.Entries.{obligations_of}
-use Rattle.px_gaps.specs.Needs.{Obligation}
+use Rattle.px_gaps.specs.declared.question.Obligation.{Obligation}
 use Rattle.px_ends.specs.Tasks.{Task, goal_from}
 
 -- the term with these objects for the variables

@@ -8,7 +8,9 @@ use Rattle.px_table.specs.declared.entry.Move.{Move}
 use Rattle.px_table.specs.declared.entry.Move.TheVariants.{Apply, Push}
 use Rattle.px_table.specs.declared.node.Node.{Node}
 use Rattle.px_entries.specs.Entries.{effect_of}
-use Rattle.px_gaps.specs.Questions.{Question, MeetsLimit}
+use Rattle.px_gaps.specs.Questions.{IsMetLimit, MeetsLimit}
+use Rattle.px_gaps.specs.declared.question.MetLimit.{MetLimit}
+use Rattle.px_gaps.specs.declared.question.Question.{Question}
 use Rattle.px_order.specs.Ends as order_ends
 use Rattle.px_ends.specs.ByValue.{IsExhausted, IsFound, aim_of, order_by, space_of}
 use Rattle.px_ends.specs.Ends.{node_of}
@@ -67,14 +69,12 @@ IsAskedAmong task weight found moves question =
     ⊎ ((tested : order_ends.IsTested (space_of task) (order_by task weight) (aim_of task) moves) × (tested.earlier ++ moves ∷ [] ≡ found)
     × ((node_of task moves).stack ≡ []) × (question ≡ goal_question task (node_of task moves)))
 
--- These are the found lists when a question first meets the shape limit, at the formula, by these shapes: none meets it that is asked while
--- fewer are found.
-pub record IsFirstLimit (task : Task) (weight : ℕ) (found : List (List Move)) (formula : List Atom) (shapes : List (List Tick))
-    : Type 0 where
+-- These are the found lists when a question first meets the shape limit, which is this one: none meets it that is asked while fewer are
+-- found.
+pub record IsFirstLimit (task : Task) (weight : ℕ) (found : List (List Move)) (limit : MetLimit) : Type 0 where
   pub moves : List Move
-  pub question : Question
-  pub asked : IsAskedAmong task weight found moves question
-  pub met : MeetsLimit task.problem question formula shapes
+  pub asked : IsAskedAmong task weight found moves limit.question
+  pub met : IsMetLimit task.problem limit
   pub first : (fewer : List (List Move)) (others : List Move) (other : Question) → length fewer < length found
       → IsAskedAmong task weight fewer others other → (atoms : List Atom) (lists : List (List Tick))
       → ¬ MeetsLimit task.problem other atoms lists
@@ -87,7 +87,7 @@ EndsTree task weight found Solved =
 EndsTree task weight found Exhausted = (end : IsExhausted task weight) × (found ≡ end.lists)
 EndsTree task weight found (More moves) = order_ends.IsNodeLimit (space_of task) (order_by task weight) (aim_of task) found moves
 EndsTree task weight found (ShapeLimit number) =
-    (formula : List Atom) × (shapes : List (List Tick)) × IsFirstLimit task weight found formula shapes × (number ≡ length shapes)
+    (limit : MetLimit) × IsFirstLimit task weight found limit × (number ≡ length limit.shapes)
 
 -- ---- the tree
 

@@ -2,9 +2,9 @@
 use Rattle.std.specs.Prelude.{◌≡◌, ℕ, List, length}
 use Rattle.std.specs.Bool.{Decides}
 use Rattle.px_terms.specs.declared.atom.Atom.{Atom}
-use Rattle.px_proof.specs.declared.shape.Tick.{Tick}
 use Rattle.px_table.specs.declared.entry.Move.{Move}
 use Rattle.px_table.specs.declared.node.Node.{Node}
+use Rattle.px_gaps.specs.declared.question.MetLimit.{MetLimit}
 use Rattle.px_order.specs.OrderLaws.{AllIsFound, NodesStandOnce}
 use Rattle.px_order.specs.Runs.{RunsFor}
 use Rattle.px_ends.specs.ByValue.{space_of, order_by, IsExhausted, IsFound, IsNodeLimit, IsShapeLimit}
@@ -28,13 +28,12 @@ pub record ValueEndsAreOne : Type 0 where
       → IsNodeLimit task weight more others → (nodes ≡ more) × (moves ≡ others)
   pub found_or_node_limit : (task : Task) (weight : ℕ) (moves : List Move) (nodes : List Node) (count : ℕ) → IsFound task weight moves
       → ¬ IsNodeLimit task weight nodes count
-  pub shape_limit_or_found : (task : Task) (weight : ℕ) (node : Node) (formula : List Atom) (shapes : List (List Tick)) (moves : List Move)
-      → IsShapeLimit task weight node formula shapes → ¬ IsFound task weight moves
-  pub shape_limit_or_node_limit : (task : Task) (weight : ℕ) (node : Node) (formula : List Atom) (shapes : List (List Tick))
-      (nodes : List Node) (count : ℕ)
-      → IsShapeLimit task weight node formula shapes → ¬ IsNodeLimit task weight nodes count
-  pub shapes : (task : Task) (weight : ℕ) (node : Node) (formula : List Atom) (shapes : List (List Tick))
-      → IsShapeLimit task weight node formula shapes → length shapes ≡ task.problem.shapes
+  pub shape_limit_or_found : (task : Task) (weight : ℕ) (node : Node) (limit : MetLimit) (moves : List Move)
+      → IsShapeLimit task weight node limit → ¬ IsFound task weight moves
+  pub shape_limit_or_node_limit : (task : Task) (weight : ℕ) (node : Node) (limit : MetLimit) (nodes : List Node) (count : ℕ)
+      → IsShapeLimit task weight node limit → ¬ IsNodeLimit task weight nodes count
+  pub shapes : (task : Task) (weight : ℕ) (node : Node) (limit : MetLimit) → IsShapeLimit task weight node limit
+      → length limit.shapes ≡ task.problem.shapes
 
 -- with each weight each node stands once among those that are found, and where no place is left, each that moves reach is found
 pub record NodesStandOnceWithAll : Type 0 where
@@ -46,14 +45,12 @@ pub record ExhaustedWithAll : Type 0 where
   pub found : (task : Task) (weight other : ℕ) → IsExhausted task weight → (moves : List Move) → ¬ IsFound task other moves
   pub node_limit : (task : Task) (weight other : ℕ) → IsExhausted task weight → (nodes : List Node) (count : ℕ)
       → ¬ IsNodeLimit task other nodes count
-  pub shape_limit : (task : Task) (weight other : ℕ) → IsExhausted task weight → (node : Node) (formula : List Atom)
-      (shapes : List (List Tick))
-      → ¬ IsShapeLimit task other node formula shapes
+  pub shape_limit : (task : Task) (weight other : ℕ) → IsExhausted task weight → (node : Node) (limit : MetLimit)
+      → ¬ IsShapeLimit task other node limit
 
 -- with weight 0 each end is that of the search in breadth
 pub record WeightNoneIsBreadth : Type 0 where
   pub found : (task : Task) (moves : List Move) → IsFound task 0 moves → breadth.IsFound task moves
   pub exhausted : (task : Task) → IsExhausted task 0 → breadth.IsExhausted task
   pub node_limit : (task : Task) (nodes : List Node) (moves : ℕ) → IsNodeLimit task 0 nodes moves → breadth.IsNodeLimit task nodes moves
-  pub shape_limit : (task : Task) (node : Node) (formula : List Atom) (shapes : List (List Tick))
-      → IsShapeLimit task 0 node formula shapes → breadth.IsShapeLimit task node formula shapes
+  pub shape_limit : (task : Task) (node : Node) (limit : MetLimit) → IsShapeLimit task 0 node limit → breadth.IsShapeLimit task node limit

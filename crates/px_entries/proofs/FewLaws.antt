@@ -31,10 +31,13 @@ use Rattle.px_table.specs.declared.mark.Mark.{Mark}
 use Rattle.px_table.specs.declared.table.Table.{Table}
 use Rattle.px_gaps.specs.Bounds.{HasFewShapes}
 use Rattle.px_entries.specs.Entries.{initial_atoms, left_after, obligations_of, row_needs}
-use Rattle.px_gaps.specs.Needs.{HasAnswer, Obligation}
+use Rattle.px_gaps.specs.Needs.{HasAnswer}
 use Rattle.px_entries.specs.Few.{EachHasFew, RowsHaveFew, HasFew}
 use Rattle.px_entries.specs.Unlimited.{IsNeverLimited}
-use Rattle.px_gaps.specs.Questions.{AreUnlimited, MeetsLimit, Question, Proving, FindingGaps}
+use Rattle.px_gaps.specs.Questions.{AreUnlimited, MeetsLimit}
+use Rattle.px_gaps.specs.declared.question.Obligation.{Obligation}
+use Rattle.px_gaps.specs.declared.question.Question.{Question}
+use Rattle.px_gaps.specs.declared.question.Question.TheVariants.{Proving, FindingGaps}
 use Rattle.px_gaps.proofs.AddableLaws.{addable-alike}
 use Rattle.px_entries.proofs.RowTurns.{table_is}
 use Rattle.px_entries.proofs.RowSteps.{row-early, steps-count}

@@ -11,12 +11,14 @@ use Rattle.px_terms.specs.Order.{atom_cmp, atom_eq}
 use Rattle.px_terms.specs.OrderLaws.{atom_cmp-matches_eq, atom_cmp-total, atom_eq-decides}
 use Rattle.px_terms.specs.declared.atom.Atom.{Atom}
 use Rattle.px_terms.specs.declared.problem.Problem.{Problem}
-use Rattle.px_proof.specs.declared.shape.Tick.{Tick}
-use Rattle.px_gaps.specs.Needs.{Obligation, HasAnswer, HasGap, IsApplicable, IsOpen}
+use Rattle.px_gaps.specs.Needs.{HasAnswer, HasGap, IsApplicable, IsOpen}
 use Rattle.px_gaps.specs.Known.{AreAllBelow, IsKnownOf, IsOpenWith, LimitsNeeds}
 use Rattle.px_entries.specs.Joined.{IsAtLimit, Joins}
 use Rattle.px_gaps.proofs.Ordered.{sorted_members}
-use Rattle.px_gaps.specs.Questions.{Question, Proving, FindingGaps}
+use Rattle.px_gaps.specs.declared.question.MetLimit.{MetLimit}
+use Rattle.px_gaps.specs.declared.question.Obligation.{Obligation}
+use Rattle.px_gaps.specs.declared.question.Question.{Question}
+use Rattle.px_gaps.specs.declared.question.Question.TheVariants.{Proving, FindingGaps}
 use Rattle.px_gaps.specs.declared.known.Known.{Known}
 use Rattle.px_gaps.specs.declared.known.Known.TheVariants.{Applicable, Open, Closed, Limited}
 
@@ -63,15 +65,11 @@ module _ (problem : Problem) (xs ys : List Obligation) where
     ];
   }
 
-  pub limits-left : (formula : List Atom) (shapes : List (List Tick)) → LimitsNeeds problem xs formula shapes
-      → LimitsNeeds problem (xs ++ ys) formula shapes
-  limits-left formula shapes l =
-      record { question = l.question; asked = Any-left (IsAskedOf problem l.question) xs ys l.asked; met = l.met }
+  pub limits-left : (limit : MetLimit) → LimitsNeeds problem xs limit → LimitsNeeds problem (xs ++ ys) limit
+  limits-left limit l = record { asked = Any-left (IsAskedOf problem limit.question) xs ys l.asked; met = l.met }
 
-  limits-right : (formula : List Atom) (shapes : List (List Tick)) → LimitsNeeds problem ys formula shapes
-      → LimitsNeeds problem (xs ++ ys) formula shapes
-  limits-right formula shapes l =
-      record { question = l.question; asked = Any-right (IsAskedOf problem l.question) xs ys l.asked; met = l.met }
+  limits-right : (limit : MetLimit) → LimitsNeeds problem ys limit → LimitsNeeds problem (xs ++ ys) limit
+  limits-right limit l = record { asked = Any-right (IsAskedOf problem limit.question) xs ys l.asked; met = l.met }
 
   open-left : IsOpen problem (xs ++ ys) → IsOpen problem xs
   open-left all = All-left (IsOpenOne problem) xs ys all
@@ -162,15 +160,14 @@ module _ (problem : Problem) (xs ys : List Obligation) where
 
 -- ---- case by case
 
-pub joins-limited : (formula : List Atom) (shapes : List (List Tick)) (second : Known)
-    → Joins (Limited formula shapes) second (Limited formula shapes)
-joins-limited formula shapes second = record { known = λ problem xs ys x y. limits-left problem xs ys formula shapes x }
+pub joins-limited : (limit : MetLimit) (second : Known) → Joins (Limited limit) second (Limited limit)
+joins-limited limit second = record { known = λ problem xs ys x y. limits-left problem xs ys limit x }
 
 pub joins-applicable : (second : Known) → Joins Applicable second second
 joins-applicable Applicable = record { known = λ problem xs ys x y. applicable-both problem xs ys x y }
 joins-applicable (Open gaps) = record { known = λ problem xs ys x y. applicable-open_with problem xs ys gaps x y }
 joins-applicable Closed = record { known = λ problem xs ys x y. closed-right problem xs ys x.1 y }
-joins-applicable (Limited formula shapes) = record { known = λ problem xs ys x y. limits-right problem xs ys formula shapes y }
+joins-applicable (Limited limit) = record { known = λ problem xs ys x y. limits-right problem xs ys limit y }
 
 pub joins-closed_applicable : Joins Closed Applicable Closed
 joins-closed_applicable = record { known = λ problem xs ys x y. closed-left problem xs ys x y.1 }
@@ -181,9 +178,8 @@ joins-closed_open gaps = record { known = λ problem xs ys x y. closed-left prob
 pub joins-closed_closed : Joins Closed Closed Closed
 joins-closed_closed = record { known = λ problem xs ys x y. closed-left problem xs ys x y.1 }
 
-pub joins-later_limit : (first : Known) (formula : List Atom) (shapes : List (List Tick))
-    → Joins first (Limited formula shapes) (Limited formula shapes)
-joins-later_limit first formula shapes = record { known = λ problem xs ys x y. limits-right problem xs ys formula shapes y }
+pub joins-later_limit : (first : Known) (limit : MetLimit) → Joins first (Limited limit) (Limited limit)
+joins-later_limit first limit = record { known = λ problem xs ys x y. limits-right problem xs ys limit y }
 
 pub joins-open_applicable : (gaps : List Atom) → Joins (Open gaps) Applicable (Open gaps)
 joins-open_applicable gaps = record { known = λ problem xs ys x y. open-applicable problem xs ys gaps x y }
@@ -202,7 +198,7 @@ pub limit-whole : (problem : Problem) (xs ys : List Obligation) (known : Known) 
 limit-whole problem xs ys Applicable at x = absurd at
 limit-whole problem xs ys (Open gaps) at x = absurd at
 limit-whole problem xs ys Closed at x = absurd at
-limit-whole problem xs ys (Limited formula shapes) at x = limits-left problem xs ys formula shapes x
+limit-whole problem xs ys (Limited limit) at x = limits-left problem xs ys limit x
 
 -- nothing is needed
 pub nothing-needed : (problem : Problem) → IsKnownOf problem [] Applicable

@@ -12,8 +12,10 @@ use Rattle.px_question.specs.Gaps.{MeetsGapLimit, all_gaps_of, gaps_in}
 use Rattle.px_question.specs.Limits.{IsLimited}
 use Rattle.px_question.specs.Settings.{setting_of, proofs_in}
 use Rattle.px_question.specs.Answers.{IsList}
-use Rattle.px_gaps.specs.Needs.{Obligation, HasAnswer, HasGap, IsOpen}
-use Rattle.px_gaps.specs.Questions.{Proving, FindingGaps, MeetsLimit, AreUnlimited}
+use Rattle.px_gaps.specs.Needs.{HasAnswer, HasGap, IsOpen}
+use Rattle.px_gaps.specs.Questions.{MeetsLimit, AreUnlimited}
+use Rattle.px_gaps.specs.declared.question.Obligation.{Obligation}
+use Rattle.px_gaps.specs.declared.question.Question.TheVariants.{Proving, FindingGaps}
 use Rattle.px_gaps.proofs.Singles.{one_any}
 use Rattle.px_gaps.proofs.GapLists.{list_by}
 use Rattle.px_base.specs.ListLaws.{Contains-first, Contains-none}

@@ -24,10 +24,12 @@ use Rattle.px_question.specs.Settings.{Setting, proofs_in, setting_of}
 use Rattle.px_question.proofs.ListedProofs.{finite-gaps}
 use Rattle.px_gaps.specs.Concluding.{IsConcluded}
 use Rattle.px_entries.specs.Deciding.{IsMentioned}
-use Rattle.px_gaps.specs.Needs.{HasAnswer, HasGap, Obligation}
+use Rattle.px_gaps.specs.Needs.{HasAnswer, HasGap}
 use Rattle.px_gaps.specs.Known.{AreAllBelow, IsKnownOf}
 use Rattle.px_entries.specs.Plain.{AxiomsMentionAddable, IsAbsent, IsSettled}
-use Rattle.px_gaps.specs.Questions.{AreUnlimited, FindingGaps, Proving}
+use Rattle.px_gaps.specs.Questions.{AreUnlimited}
+use Rattle.px_gaps.specs.declared.question.Obligation.{Obligation}
+use Rattle.px_gaps.specs.declared.question.Question.TheVariants.{FindingGaps, Proving}
 use Rattle.px_gaps.specs.declared.known.Known.TheVariants.{Applicable, Open, Closed}
 use Rattle.px_gaps.proofs.AddableLaws.{addable-alike}
 use Rattle.px_gaps.proofs.Below.{unlimited-below}

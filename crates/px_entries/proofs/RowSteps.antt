@@ -26,7 +26,7 @@ use Rattle.px_table.specs.declared.entry.Entry.TheVariants.{Macro}
 use Rattle.px_table.specs.declared.mark.Mark.{Mark}
 use Rattle.px_table.specs.declared.table.Table.{Table}
 use Rattle.px_entries.specs.Entries.{IsEntry, initial_atoms, obligations_of, row_needs, table_at}
-use Rattle.px_gaps.specs.Needs.{Obligation}
+use Rattle.px_gaps.specs.declared.question.Obligation.{Obligation}
 use Rattle.px_entries.specs.Joined.{IsAtLimit, Joins}
 use Rattle.px_gaps.specs.Known.{IsKnownOf}
 use Rattle.px_gaps.specs.declared.known.Known.{Known}

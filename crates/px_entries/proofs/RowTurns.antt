@@ -11,7 +11,7 @@ use Rattle.px_terms.specs.declared.atom.Atom.{Atom}
 use Rattle.px_terms.specs.declared.instance.OpInst.{OpInst}
 use Rattle.px_terms.specs.declared.problem.Problem.{Problem}
 use Rattle.px_entries.specs.Entries.{initial_atoms, left_after, row_needs, table_at}
-use Rattle.px_gaps.specs.Needs.{Obligation}
+use Rattle.px_gaps.specs.declared.question.Obligation.{Obligation}
 
 -- from a row on, with the facts that are left there: the row's atoms from these facts, and the rest from what its step leaves
 abbrev pub row_obligations : Problem → Table → List ℕ → List Atom → ℕ → List OpInst → List Obligation

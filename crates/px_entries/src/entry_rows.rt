@@ -35,7 +35,7 @@ fn known_row(
     match try_formula(alloc, problem, formula, 0, facts) {
         Ok(Tried::Answered) => Ok(Known::Applicable),
         Ok(Tried::Unanswered) => known_formula(alloc, problem, formula, 0, facts),
-        Ok(Tried::Limited { formula, shapes }) => Ok(Known::Limited { formula, shapes }),
+        Ok(Tried::Limited(limit)) => Ok(Known::Limited(limit)),
         Err(NoMemory) => Err(NoMemory),
     }
 }

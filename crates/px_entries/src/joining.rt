@@ -12,7 +12,7 @@ use std::alloc::Global;
 pub fn is_limited(known: &Known) -> bool
     ensures { IsTrue result ↔ IsAtLimit known.now }
 {
-    matches!(known, Known::Limited { .. })
+    matches!(known, Known::Limited(_))
 }
 
 /// Returns the atoms of both lists, one after the other.
@@ -47,7 +47,7 @@ fn open_beside(alloc: Global, gaps: Sequence<Atom>, others: Known) -> Result<Kno
             Ok(Known::Open(all))
         }
         Known::Closed => Ok(Known::Closed),
-        Known::Limited { formula, shapes } => Ok(Known::Limited { formula, shapes }),
+        Known::Limited(limit) => Ok(Known::Limited(limit)),
     }
 }
 
@@ -59,7 +59,7 @@ fn closed_beside(others: Known) -> Known
         Known::Applicable => Known::Closed,
         Known::Open(_) => Known::Closed,
         Known::Closed => Known::Closed,
-        Known::Limited { formula, shapes } => Known::Limited { formula, shapes },
+        Known::Limited(limit) => Known::Limited(limit),
     }
 }
 
@@ -71,6 +71,6 @@ pub fn joined(alloc: Global, first: Known, second: Known) -> Result<Known, NoMem
         Known::Applicable => Ok(second),
         Known::Open(gaps) => open_beside(alloc, gaps, second),
         Known::Closed => Ok(closed_beside(second)),
-        Known::Limited { formula, shapes } => Ok(Known::Limited { formula, shapes }),
+        Known::Limited(limit) => Ok(Known::Limited(limit)),
     }
 }

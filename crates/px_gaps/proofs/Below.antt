@@ -3,8 +3,9 @@ use Rattle.std.proofs.Common.{List, refl}
 use Rattle.px_terms.specs.declared.problem.Problem.{Problem}
 use Rattle.px_question.proofs.DecidedLaws.{questions-are_decided}
 use Rattle.px_question.specs.Settings.{setting_of}
-use Rattle.px_gaps.specs.Needs.{Obligation}
-use Rattle.px_gaps.specs.Questions.{AreBelow, AreUnlimited, FindingGaps, Proving}
+use Rattle.px_gaps.specs.Questions.{AreBelow, AreUnlimited}
+use Rattle.px_gaps.specs.declared.question.Obligation.{Obligation}
+use Rattle.px_gaps.specs.declared.question.Question.TheVariants.{FindingGaps, Proving}
 
 pub unlimited-below : (problem : Problem) (needs : List Obligation) → AreUnlimited problem needs → AreBelow problem needs
 unlimited-below problem needs unlimited (Proving needed) asks =

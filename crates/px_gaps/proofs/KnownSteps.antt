@@ -1,5 +1,5 @@
 -- What the prover's answer to a question of gaps says of a formula without an answer.
-use Rattle.std.proofs.Common.{◌≡◌, ◌⊎◌, List, [], ◌∷◌, refl, subst, inl, inr}
+use Rattle.std.proofs.Common.{◌≡◌, ◌⊎◌, List, [], ◌∷◌, sym, subst, inl, inr}
 use Rattle.std.specs.Prelude.{◌↔◌, Contains}
 use Rattle.std.proofs.lemmas.List.Elements.{All-cons, All-head, All-nil}
 use Rattle.px_base.specs.ListLaws.{Contains-none}
@@ -8,12 +8,17 @@ use Rattle.px_terms.specs.declared.atom.Atom.{Atom}
 use Rattle.px_terms.specs.declared.problem.Problem.{Problem}
 use Rattle.px_proof.specs.declared.shape.Tick.{Tick}
 use Rattle.px_question.specs.Gaps.{MeetsGapLimit, StaysBelowGapLimit}
+use Rattle.px_question.specs.Limits.{IsLimited}
 use Rattle.px_question.specs.Settings.{Setting, setting_of}
-use Rattle.px_gaps.specs.Needs.{Obligation, HasAnswer, HasGap, IsOpen}
+use Rattle.px_gaps.specs.Needs.{HasAnswer, HasGap, IsOpen}
 use Rattle.px_gaps.specs.Known.{AreAllBelow, IsKnownOf, IsTriedOf}
-use Rattle.px_gaps.specs.Questions.{Question, Proving, FindingGaps, AreUnlimited, MeetsLimit}
+use Rattle.px_gaps.specs.Questions.{AreUnlimited, MeetsLimit}
 use Rattle.px_gaps.specs.declared.known.Known.TheVariants.{Applicable, Open, Closed, Limited}
 use Rattle.px_gaps.specs.declared.known.Tried.TheVariants as tried
+use Rattle.px_gaps.specs.declared.question.MetLimit.{MetLimit}
+use Rattle.px_gaps.specs.declared.question.Obligation.{Obligation}
+use Rattle.px_gaps.specs.declared.question.Question.{Question}
+use Rattle.px_gaps.specs.declared.question.Question.TheVariants.{Proving, FindingGaps}
 use Rattle.px_gaps.proofs.Below.{unlimited-below}
 use Rattle.px_gaps.proofs.Singles.{any_one, one_any}
 use Rattle.px_question.proofs.DeterminedLaws.{few_or_limited}
@@ -35,16 +40,22 @@ known-applicable problem needed answered =
       record { unlimited = unlimited; below = unlimited-below problem (needed ∷ []) unlimited },
     )
 
+-- where the question to prove it meets the limit, that is tried
+pub tried-limited : (problem : Problem) (needed : Obligation) (limit : MetLimit) → limit.question ≡ Proving needed
+    → limit.formula ≡ needed.formula → IsLimited (setting_of problem needed.facts) needed.formula needed.vars limit.shapes
+    → IsTriedOf problem needed (tried.Limited limit)
+tried-limited problem needed limit is same met =
+    (is, subst (λ (q : Question). MeetsLimit problem q limit.formula limit.shapes) (sym is) (same, met))
+
 -- proving it meets the limit
-pub known-proof_limited : (problem : Problem) (needed : Obligation) (formula : List Atom) (shapes : List (List Tick))
-    → IsTriedOf problem needed (tried.Limited formula shapes) → IsKnownOf problem (needed ∷ []) (Limited formula shapes)
-known-proof_limited problem needed formula shapes met =
+pub known-proof_limited : (problem : Problem) (needed : Obligation) (limit : MetLimit)
+    → IsTriedOf problem needed (tried.Limited limit) → IsKnownOf problem (needed ∷ []) (Limited limit)
+known-proof_limited problem needed limit met =
     record {
-      question = Proving needed;
       asked =
-          any_one (λ (other : Obligation). (Proving needed ≡ Proving other)
-          ⊎ ((¬ HasAnswer problem other) × (Proving needed ≡ FindingGaps other))) needed (inl refl);
-      met = met;
+          any_one (λ (other : Obligation). (limit.question ≡ Proving other)
+          ⊎ ((¬ HasAnswer problem other) × (limit.question ≡ FindingGaps other))) needed (inl met.0);
+      met = met.1;
     }
 
 module _ (problem : Problem) (needed : Obligation) (no_answer : ¬ HasAnswer problem needed) where
@@ -58,10 +69,12 @@ module _ (problem : Problem) (needed : Obligation) (no_answer : ¬ HasAnswer pro
   IsAskedOf question other = (question ≡ Proving other) ⊎ ((¬ HasAnswer problem other) × (question ≡ FindingGaps other))
 
   -- finding its gaps meets the limit
-  pub known-limited : (formula : List Atom) (shapes : List (List Tick)) → MeetsGapLimit s needed.formula needed.vars formula shapes
-      → IsKnownOf problem (needed ∷ []) (Limited formula shapes)
-  known-limited formula shapes met =
-      record { question = FindingGaps needed; asked = any_one (IsAskedOf (FindingGaps needed)) needed (inr (no_answer, refl)); met = met }
+  pub known-limited : (limit : MetLimit) → limit.question ≡ FindingGaps needed
+      → MeetsGapLimit s needed.formula needed.vars limit.formula limit.shapes → IsKnownOf problem (needed ∷ []) (Limited limit)
+  known-limited limit is met = record {
+    asked = any_one (IsAskedOf limit.question) needed (inr (no_answer, is));
+    met = subst (λ (q : Question). MeetsLimit problem q limit.formula limit.shapes) (sym is) met;
+  }
 
   module _ (gaps : List Atom) (exact : (atom : Atom) → Contains gaps atom ↔ HasGap problem needed atom)
       (unlimited : (kept : List Atom) (shapes : List (List Tick)) → ¬ MeetsGapLimit s needed.formula needed.vars kept shapes)

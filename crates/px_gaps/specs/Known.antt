@@ -1,15 +1,19 @@
 -- What is known of what is needed: of a formula, of an entry, or of the goal.
-use Rattle.std.specs.Prelude.{◌↔◌, List, Contains}
+use Rattle.std.specs.Prelude.{◌≡◌, ◌↔◌, List, Contains}
 use Rattle.px_terms.specs.AtomSets.{IsAtomSet}
 use Rattle.px_terms.specs.declared.atom.Atom.{Atom}
 use Rattle.px_terms.specs.declared.problem.Problem.{Problem}
 use Rattle.px_proof.specs.declared.shape.Tick.{Tick}
-use Rattle.px_gaps.specs.Needs.{Obligation, HasAnswer, IsApplicable, IsOpen, IsGapOfNeeds}
-use Rattle.px_gaps.specs.Questions.{Question, Proving, AsksOf, MeetsLimit, StaysBelow, AreUnlimited, AreBelow}
+use Rattle.px_gaps.specs.Needs.{HasAnswer, IsApplicable, IsOpen, IsGapOfNeeds}
+use Rattle.px_gaps.specs.Questions.{AsksOf, IsMetLimit, MeetsLimit, StaysBelow, AreUnlimited, AreBelow}
 use Rattle.px_gaps.specs.declared.known.Known.{Known}
 use Rattle.px_gaps.specs.declared.known.Known.TheVariants.{Applicable, Open, Closed, Limited}
 use Rattle.px_gaps.specs.declared.known.Tried.{Tried}
 use Rattle.px_gaps.specs.declared.known.Tried.TheVariants as tried
+use Rattle.px_gaps.specs.declared.question.MetLimit.{MetLimit}
+use Rattle.px_gaps.specs.declared.question.Obligation.{Obligation}
+use Rattle.px_gaps.specs.declared.question.Question.{Question}
+use Rattle.px_gaps.specs.declared.question.Question.TheVariants.{Proving}
 
 -- ---- whether a formula has an answer
 
@@ -22,7 +26,7 @@ pub record IsBelow (problem : Problem) (question : Question) : Type 0 where
 abbrev pub IsTriedOf : Problem → Obligation → Tried → Type 0
 IsTriedOf problem needed tried.Answered = HasAnswer problem needed × IsBelow problem (Proving needed)
 IsTriedOf problem needed tried.Unanswered = (¬ HasAnswer problem needed) × IsBelow problem (Proving needed)
-IsTriedOf problem needed (tried.Limited formula shapes) = MeetsLimit problem (Proving needed) formula shapes
+IsTriedOf problem needed (tried.Limited limit) = (limit.question ≡ Proving needed) × IsMetLimit problem limit
 
 -- ---- what is known of what is needed
 
@@ -39,15 +43,14 @@ pub record IsOpenWith (problem : Problem) (needs : List Obligation) (gaps : List
   pub exact : (atom : Atom) → Contains gaps atom ↔ IsGapOfNeeds problem needs atom
   pub questions : AreAllBelow problem needs
 
--- a question about it meets the limit at the formula, by these shapes
-pub record LimitsNeeds (problem : Problem) (needs : List Obligation) (formula : List Atom) (shapes : List (List Tick)) : Type 0 where
-  pub question : Question
-  pub asked : AsksOf problem needs question
-  pub met : MeetsLimit problem question formula shapes
+-- the question is one about it, and meets the limit
+pub record LimitsNeeds (problem : Problem) (needs : List Obligation) (limit : MetLimit) : Type 0 where
+  pub asked : AsksOf problem needs limit.question
+  pub met : IsMetLimit problem limit
 
 -- this is known of it
 abbrev pub IsKnownOf : Problem → List Obligation → Known → Type 0
 IsKnownOf problem needs Applicable = IsApplicable problem needs × AreAllBelow problem needs
 IsKnownOf problem needs (Open gaps) = IsOpenWith problem needs gaps
 IsKnownOf problem needs Closed = (¬ IsOpen problem needs) × AreAllBelow problem needs
-IsKnownOf problem needs (Limited formula shapes) = LimitsNeeds problem needs formula shapes
+IsKnownOf problem needs (Limited limit) = LimitsNeeds problem needs limit

@@ -1,16 +1,11 @@
 -- What is needed: formulas that are to be proved from facts. When one has an answer or a gap, and when all are open.
-use Rattle.std.specs.Prelude.{◌⊎◌, ℕ, List, All, Any}
+use Rattle.std.specs.Prelude.{◌⊎◌, List, All, Any}
 use Rattle.px_terms.specs.declared.atom.Atom.{Atom}
 use Rattle.px_terms.specs.declared.problem.Problem.{Problem}
 use Rattle.px_question.specs.Answers.{IsAnswer}
 use Rattle.px_question.specs.Gaps.{IsGapOf}
 use Rattle.px_question.specs.Settings.{setting_of}
-
--- a formula with its number of variables, and the facts from which it is to be proved
-pub record Obligation : Type 0 where
-  pub formula : List Atom
-  pub vars : ℕ
-  pub facts : List Atom
+use Rattle.px_gaps.specs.declared.question.Obligation.{Obligation}
 
 -- some objects for its variables make each of its atoms provable
 abbrev pub HasAnswer : Problem → Obligation → Type 0

@@ -6,13 +6,11 @@ use Rattle.px_proof.specs.declared.shape.Tick.{Tick}
 use Rattle.px_question.specs.Gaps.{MeetsGapLimit, StaysBelowGapLimit}
 use Rattle.px_question.specs.Limits.{IsLimited, StaysBelowLimit}
 use Rattle.px_question.specs.Settings.{setting_of}
-use Rattle.px_gaps.specs.Needs.{Obligation, HasAnswer}
-
-pub data Question : Type 0 where
-  -- whether there is an answer, and which is the first
-  Proving : Obligation → Question
-  -- which the gaps are
-  FindingGaps : Obligation → Question
+use Rattle.px_gaps.specs.Needs.{HasAnswer}
+use Rattle.px_gaps.specs.declared.question.MetLimit.{MetLimit}
+use Rattle.px_gaps.specs.declared.question.Obligation.{Obligation}
+use Rattle.px_gaps.specs.declared.question.Question.{Question}
+use Rattle.px_gaps.specs.declared.question.Question.TheVariants.{Proving, FindingGaps}
 
 -- the questions about what is needed: proving each part, and finding the gaps of each part that has no answer
 abbrev pub AsksOf : Problem → List Obligation → Question → Type 0
@@ -25,6 +23,10 @@ MeetsLimit problem (Proving needed) formula shapes = (formula ≡ needed.formula
     × IsLimited (setting_of problem needed.facts) needed.formula needed.vars shapes
 MeetsLimit problem (FindingGaps needed) formula shapes = MeetsGapLimit (setting_of problem needed.facts) needed.formula needed.vars formula
     shapes
+
+-- what is kept is such a question, with the formula and the shapes
+abbrev pub IsMetLimit : Problem → MetLimit → Type 0
+IsMetLimit problem limit = MeetsLimit problem limit.question limit.formula limit.shapes
 
 -- no question about what is needed meets the limit
 abbrev pub AreUnlimited : Problem → List Obligation → Type 0

@@ -1,5 +1,5 @@
 //! Whether a formula has an answer, and what is known of one that has none.
-ghost use Rattle.std.specs.Prelude.{◌<◌, ◌≤◌, ◌∷◌, [], All, IfOk};
+ghost use Rattle.std.specs.Prelude.{◌≡◌, ◌<◌, ◌≤◌, ◌∷◌, [], All, IfOk};
 ghost use Rattle.px_terms.specs.Limits.{most_formula_variables};
 ghost use Rattle.px_terms.specs.Validity.{IsValid, IsAtomOf};
 ghost use Rattle.px_gaps.specs.Needs.{HasAnswer};
@@ -8,10 +8,24 @@ ghost use Rattle.px_gaps.specs.Known.{IsKnownOf, IsTriedOf};
 use crate::ask_err::AskErr;
 use crate::differences::gaps;
 use crate::known::{Known, Tried};
+use crate::question::{MetLimit, Obligation, Question};
 use px_ops::Model;
 use px_prover::{ProveErr, prove};
 use px_terms::{Atom, NoMemory, Problem, Sequence};
 use std::alloc::Global;
+
+/// Returns what is needed: the formula, from the facts of the model.
+fn needed(alloc: Global, formula: &[Atom], vars: u32, model: &Model) -> Result<Obligation, NoMemory>
+    ensures { IfOk result (λ needed'. needed' ≡ record { formula = formula.now; vars = vars; facts = model.now.atoms }) }
+{
+    let formula = Sequence::from_slice(alloc, formula)?;
+    let facts = Sequence::from_slice(alloc, model.atoms())?;
+    Ok(Obligation {
+        formula,
+        vars,
+        facts,
+    })
+}
 
 /// Returns whether the formula has an answer from the facts of the model: some objects for its variables that make each of its atoms
 /// provable. Each answer is exact; the first two also say that proving it stays below the shape limit.
@@ -35,9 +49,16 @@ pub fn try_formula(
         Ok(_) => Ok(Tried::Answered),
         Err(ProveErr::Unprovable) => Ok(Tried::Unanswered),
         Err(ProveErr::ShapeLimit(shapes)) => {
+            let asked = needed(alloc, formula, vars, model)?;
             let formula = Sequence::from_slice(alloc, formula)?;
             let shapes = Sequence::from_vec(shapes);
-            Ok(Tried::Limited { formula, shapes })
+            let question = Question::Proving(asked);
+            let limit = MetLimit {
+                question,
+                formula,
+                shapes,
+            };
+            Ok(Tried::Limited(limit))
         }
         Err(ProveErr::NoMemory) => Err(NoMemory),
     }
@@ -69,7 +90,21 @@ pub fn known_formula(
             }
             Ok(Known::Open(Sequence::from_vec(found)))
         }
-        Err(AskErr::ShapeLimit { formula, shapes }) => Ok(Known::Limited { formula, shapes }),
+        Err(
+            AskErr::ShapeLimit {
+                formula: kept,
+                shapes,
+            },
+        ) => {
+            let asked = needed(alloc, formula, vars, model)?;
+            let question = Question::FindingGaps(asked);
+            let limit = MetLimit {
+                question,
+                formula: kept,
+                shapes,
+            };
+            Ok(Known::Limited(limit))
+        }
         Err(AskErr::NoMemory) => Err(NoMemory),
     }
 }

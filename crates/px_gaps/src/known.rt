@@ -1,6 +1,6 @@
 //! What is known of a formula, and of an entry, in a world model.
 
-use px_proof::Shape;
+use crate::question::MetLimit;
 use px_terms::{Atom, Sequence};
 
 /// Whether a formula has an answer.
@@ -11,12 +11,7 @@ pub enum Tried {
     /// No objects do.
     Unanswered,
     /// Proving it meets the shape limit.
-    Limited {
-        /// The formula itself.
-        formula: Sequence<Atom>,
-        /// As many shapes of unfinished lists of proofs as the limit, the first ones, in order.
-        shapes: Sequence<Shape>,
-    },
+    Limited(MetLimit),
 }
 
 /// What is known of what an entry needs, or the goal, in a world model. What is needed is a list of formulas, each to be
@@ -31,10 +26,5 @@ pub enum Known {
     /// One has neither an answer nor a gap.
     Closed,
     /// A question about one meets the shape limit: proving it, or, where it has no answer, finding its gaps.
-    Limited {
-        /// The formula, or the one atom that a gap would close, at which the limit is met.
-        formula: Sequence<Atom>,
-        /// As many shapes as the limit, the first ones, in order.
-        shapes: Sequence<Shape>,
-    },
+    Limited(MetLimit),
 }

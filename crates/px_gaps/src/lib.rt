@@ -10,7 +10,7 @@
 //!   the formula at which it does, which is the question's own or one atom that a gap would close, and the first shapes.
 //! - [`try_formula`] says whether a formula has an answer ([`Tried`]), and [`known_formula`] what is known of one that has none:
 //!   that it is open, with the gaps, that it isn't open, or that finding the gaps meets the shape limit ([`Known`]). The limit
-//!   is an answer like the others, so their only error is `NoMemory`.
+//!   is an answer like the others, with its question ([`MetLimit`]), so their only error is `NoMemory`.
 //! - All of these have a valid problem as their condition, and a formula of the problem's atoms over its variables.
 //! - Crates above ask through an [`Asker`], which counts the questions. [`ask_gaps`] asks one question of gaps, of at most 4,096
 //!   variables, and returns the gap patterns with those of their atoms that are provable ([`GapAnswer`]). [`choices_of`] gives
@@ -59,6 +59,7 @@ mod knowing;
 mod known;
 mod laws;
 mod missing;
+mod question;
 mod sorting;
 
 pub use ask_err::AskErr;
@@ -74,4 +75,5 @@ pub use gap_answer::{GapAnswer, ask_gaps};
 pub use knowing::{known_formula, try_formula};
 pub use known::{Known, Tried};
 pub use laws::addable_alike;
+pub use question::{MetLimit, Obligation, Question};
 pub use sorting::{Sorting, sort_of};

@@ -13,7 +13,7 @@ use Rattle.px_table.specs.declared.table.Table.{Table}
 use Rattle.px_ends.specs.Lacks.{lacks_of}
 use Rattle.px_entries.specs.Entries.{initial_atoms, row_needs}
 use Rattle.px_entries.proofs.RowTurns.{in_turn, row_obligations}
-use Rattle.px_gaps.specs.Needs.{Obligation}
+use Rattle.px_gaps.specs.declared.question.Obligation.{Obligation}
 
 module _ (problem : Problem) (table : Table) (sigma : List ℕ) (steps : List OpInst) (model : List Atom) where
   -- what all rows lack

@@ -1,5 +1,5 @@
 -- A pursuit has few turns, since each plan that it finds has a table.
-use Rattle.std.specs.Prelude.{◌≤◌, ◌+◌, ◌*◌, ℕ, List, [], length, All}
+use Rattle.std.specs.Prelude.{◌≤◌, ◌+◌, ◌-◌, ◌*◌, ℕ, List, [], length, All}
 use Rattle.std.proofs.Common.{ap, arith}
 use Rattle.std.proofs.lemmas.Nat.{mul-le}
 use Rattle.px_base.specs.Bounds.{u32_max}
@@ -24,7 +24,7 @@ module _ (problem : Problem) (old : SessionState) (valid : IsValid problem) (ses
     (own : All (IsAtomOf problem vars) goal) where
   -- the plan of moves that a search finds is shorter than any list may be
   found-short : (from : List Atom) (moves : List Move) → FindsMoves (task_of problem old.learned.tables from goal vars) moves
-      → length (steps_of old.learned.tables [] moves) ≤ 4294967294
+      → length (steps_of old.learned.tables [] moves) ≤ u32_max - 1
   found-short from moves found =
       let learned = are-learned problem old session in
       let task = task_of problem old.learned.tables from goal vars in
@@ -39,7 +39,7 @@ module _ (problem : Problem) (old : SessionState) (valid : IsValid problem) (ses
       → Lawful problem old (command.Pursue name goal vars) (reply.Pursuit given searches told end) new
       → length told ≤ (2 * disturbances + 1) * u32_max
   pursuit-few name given searches told end new disturbances few is =
-      let all = told_pursuits.short problem old name given goal vars searches told end new 4294967294 valid session own
+      let all = told_pursuits.short problem old name given goal vars searches told end new (u32_max - 1) valid session own
       (λ count before from moves vain found. found-short from moves found) is in
       let most : (2 * length old.recorded + 1) * u32_max ≤ (2 * disturbances + 1) * u32_max =
       mul-le (2 * length old.recorded + 1) u32_max (2 * disturbances + 1) u32_max (omega (arith, few)) (omega arith) in

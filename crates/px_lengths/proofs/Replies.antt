@@ -459,9 +459,9 @@ module _ (problem : Problem) (valid : IsValid problem) (limits : IsCertifiablePr
       let few = counts-short names short (codes "nodelimit") given (length nodes) moves (codes "nodes") (codes "moves") (omega arith)
       (omega arith) (omega arith) in
       plain (reply.NodeLimit given nodes moves) (omega (arith, few))
-  search-bounded name goal vars own (reply.ShapeLimit given node formula shapes) new is =
-      let few = count-short names short (codes "shapelimit") given (length shapes) (codes "shapes") (omega arith) (omega arith) in
-      plain (reply.ShapeLimit given node formula shapes) (omega (arith, few))
+  search-bounded name goal vars own (reply.ShapeLimit given node limit) new is =
+      let few = count-short names short (codes "shapelimit") given (length limit.shapes) (codes "shapes") (omega arith) (omega arith) in
+      plain (reply.ShapeLimit given node limit) (omega (arith, few))
   search-bounded name goal vars own answer new is = absurd is
 
   learning-bounded : (name source : ℕ) (answer : Reply) (new : SessionState) → TellsLearning problem old name source answer new

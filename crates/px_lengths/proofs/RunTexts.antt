@@ -172,9 +172,9 @@ pursue-end-short pursuit.Exhausted = omega arith
 pursue-end-short (pursuit.NodeLimit nodes moves) =
     let words = codes "nodelimit" ∷ decimal (length nodes) ∷ codes "nodes" ∷ decimal moves ∷ codes "moves" ∷ [] in
     omega (arith, indented-short words, number-short (length nodes), number-short moves)
-pursue-end-short (pursuit.ShapeLimit node formula shapes) =
-    let words = codes "shapelimit" ∷ decimal (length shapes) ∷ codes "shapes" ∷ [] in
-    omega (arith, indented-short words, number-short (length shapes))
+pursue-end-short (pursuit.ShapeLimit node limit) =
+    let words = codes "shapelimit" ∷ decimal (length limit.shapes) ∷ codes "shapes" ∷ [] in
+    omega (arith, indented-short words, number-short (length limit.shapes))
 
 pub tree-end-short : (end : TreeEnd) → length (tree_end_line end) ≤ longest_piece
 tree-end-short tree.Solved = omega arith

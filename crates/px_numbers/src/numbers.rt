@@ -102,6 +102,7 @@ impl Numbers {
     pub fn sound(&self)
         ensures { AreSound self.now }
     {
+        // what stands behind `self` is known once a field of it is read
         let _opened = &self.atoms;
     }
 

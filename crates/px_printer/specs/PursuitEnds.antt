@@ -11,4 +11,4 @@ pursue_end_text Goal = []
 pursue_end_text Exhausted = indented_line (codes "exhausted" ∷ [])
 pursue_end_text (NodeLimit nodes moves) =
     indented_line (codes "nodelimit" ∷ decimal (length nodes) ∷ codes "nodes" ∷ decimal moves ∷ codes "moves" ∷ [])
-pursue_end_text (ShapeLimit node formula shapes) = indented_line (codes "shapelimit" ∷ decimal (length shapes) ∷ codes "shapes" ∷ [])
+pursue_end_text (ShapeLimit node limit) = indented_line (codes "shapelimit" ∷ decimal (length limit.shapes) ∷ codes "shapes" ∷ [])

@@ -22,7 +22,7 @@ abbrev pub IsReplyNamed : NameLists → Reply → Type 0
 IsReplyNamed names (Plan name moves steps) = HasName names kind.Result name × All (IsNamedInstance names) steps
 IsReplyNamed names (Exhausted name) = HasName names kind.Result name
 IsReplyNamed names (NodeLimit name nodes moves) = HasName names kind.Result name
-IsReplyNamed names (ShapeLimit name node formula shapes) = HasName names kind.Result name
+IsReplyNamed names (ShapeLimit name node limit) = HasName names kind.Result name
 IsReplyNamed names (Learned name params steps) = HasName names kind.Result name
 IsReplyNamed names (LearnRefused name why) = HasName names kind.Result name
 IsReplyNamed names (Shown name table) = HasName names kind.Result name × IsNamedTable names table
@@ -53,8 +53,8 @@ reply_text names (Exhausted name) =
 reply_text names (NodeLimit name nodes moves) =
     text_line (codes "nodelimit" ∷ name_text names kind.Result name ∷ decimal (length nodes) ∷ codes "nodes" ∷ decimal moves ∷ codes "moves"
     ∷ [])
-reply_text names (ShapeLimit name node formula shapes) =
-    text_line (codes "shapelimit" ∷ name_text names kind.Result name ∷ decimal (length shapes) ∷ codes "shapes" ∷ [])
+reply_text names (ShapeLimit name node limit) =
+    text_line (codes "shapelimit" ∷ name_text names kind.Result name ∷ decimal (length limit.shapes) ∷ codes "shapes" ∷ [])
 reply_text names (Learned name params steps) =
     text_line (codes "learned" ∷ name_text names kind.Result name ∷ decimal params ∷ codes "parameters" ∷ decimal steps ∷ codes "steps"
     ∷ [])

@@ -1,6 +1,7 @@
 -- Texts that are worked out by hand.
 use Rattle.std.specs.Prelude.{◌≡◌, ℕ, List, [], ◌∷◌, ◌++◌, None, Some, codes, map}
 use Rattle.px_names.specs.Lists.{NameLists}
+use Rattle.px_gaps.specs.declared.question.MetLimit.{MetLimit}
 use Rattle.px_proof.specs.Derivation.{Derivation, fact, ancestor, step, none, also}
 use Rattle.px_proof.specs.declared.shape.Shape.{Shape}
 use Rattle.px_table.specs.declared.node.Node.{Node}
@@ -116,8 +117,8 @@ pub record WorkedTexts : Type 0 where
       ∷ record { kernel = 2; op = None; end = turn.Goal } ∷ []) pursuit.Goal)
       ≡ codes "pursue N 1 searches\n  turn 1 kernel 1 MOVE(A,X,Y) acted\n  turn 2 kernel 2 goal\n"
   pub nodes : (node : Node) → pursue_end_text (pursuit.NodeLimit (node ∷ node ∷ []) 4) ≡ codes "  nodelimit 2 nodes 4 moves\n"
-  pub shapes : (node : Node) (formula : List Atom) (shape : Shape)
-      → pursue_end_text (pursuit.ShapeLimit node formula (shape ∷ shape ∷ [])) ≡ codes "  shapelimit 2 shapes\n"
+  pub shapes : (node : Node) (limit : MetLimit) (shape : Shape)
+      → pursue_end_text (pursuit.ShapeLimit node (record limit { shapes = shape ∷ shape ∷ [] })) ≡ codes "  shapelimit 2 shapes\n"
   pub solved : tree_text (first_node ∷ found_by pushed 3 ∷ found_by applied 0 ∷ []) tree.Solved
       ≡ codes "tree M 3 nodes\n  0 needs 2\n  1 from 0 push MOVE(A,X,Y) needs 3\n"
       ++ codes "  2 from 0 apply N MOVE(A,X,Y) MOVE(A,X,Z) needs 0\n  solved\n"

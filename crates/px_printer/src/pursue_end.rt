@@ -1,9 +1,7 @@
 //! How a pursuit ends.
-use px_base::Sequence;
+use px_gaps::MetLimit;
 use px_numbers::FirstNodes;
-use px_proof::Shape;
 use px_table::Node;
-use px_terms::Atom;
 
 /// How a pursuit ends: at its goal, or with the last search, which found no plan.
 #[derive(Drop)]
@@ -23,9 +21,7 @@ pub enum PursueEnd {
     ShapeLimit {
         /// The node at which it was met.
         node: Node,
-        /// What was to be proved there.
-        formula: Sequence<Atom>,
-        /// The first shapes of unfinished proofs, as many as the limit.
-        shapes: Sequence<Shape>,
+        /// The question that met it there, and the first shapes.
+        limit: MetLimit,
     },
 }

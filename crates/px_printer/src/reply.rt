@@ -5,8 +5,8 @@ use crate::duo_line::DuoLine;
 use crate::pursue_end::PursueEnd;
 use crate::turn::Turn;
 use px_base::Sequence;
+use px_gaps::MetLimit;
 use px_numbers::FirstNodes;
-use px_proof::Shape;
 use px_table::{Node, Table};
 use px_terms::{Atom, OpInst};
 use px_tree::Tree;
@@ -130,10 +130,8 @@ pub enum Reply {
         name: u32,
         /// The node at which it was met.
         node: Node,
-        /// What was to be proved there.
-        formula: Sequence<Atom>,
-        /// The first shapes of unfinished proofs, as many as the limit.
-        shapes: Sequence<Shape>,
+        /// The question that met it there, and the first shapes.
+        limit: MetLimit,
     },
     /// The plan's general table was learned.
     Learned {

@@ -70,8 +70,8 @@ fn push_reply(text: &mut String, reply: &Reply, names: &Names) -> Result<(), All
             let (name, count) = (names.text(Kind::Result, *name), nodes.count());
             write!(text, "nodelimit {name} {count} nodes {moves} moves\n")
         }
-        Reply::ShapeLimit { name, shapes, .. } => {
-            let (name, count) = (names.text(Kind::Result, *name), shapes.len());
+        Reply::ShapeLimit { name, limit, .. } => {
+            let (name, count) = (names.text(Kind::Result, *name), limit.shapes.len());
             write!(text, "shapelimit {name} {count} shapes\n")
         }
         Reply::Noted { count } => write!(text, "noted {count}\n"),

@@ -40,8 +40,8 @@ fn push_pursue_end(text: &mut String, end: &PursueEnd) -> Result<(), AllocError>
         PursueEnd::Goal => Ok(()),
         PursueEnd::Exhausted => write!(text, "  exhausted\n"),
         PursueEnd::NodeLimit { nodes, moves } => push_node_limit(text, nodes.count(), *moves),
-        PursueEnd::ShapeLimit { shapes, .. } => {
-            let count = shapes.len();
+        PursueEnd::ShapeLimit { limit, .. } => {
+            let count = limit.shapes.len();
             write!(text, "  shapelimit {count} shapes\n")
         }
     }

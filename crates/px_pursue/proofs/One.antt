@@ -69,7 +69,7 @@ module _ {E : Type 0} (leaves : E → List Atom → List Atom) (problem : Proble
   two_ways number atoms run Goal after ends = inl (refl, ends.0, ends.1)
   two_ways number atoms run Exhausted after ends = inr ends
   two_ways number atoms run (NodeLimit nodes moves) after ends = inr ends
-  two_ways number atoms run (ShapeLimit node formula shapes) after ends = inr ends
+  two_ways number atoms run (ShapeLimit node limit) after ends = inr ends
 
   abbrev Same : List TurnValue → List TurnValue → PursueEnd → PursueEnd → List Atom → List Atom → Type 0
   Same turns others end also after later = (turns ≡ others) × AreSameEnds end also × (after ≡ later)

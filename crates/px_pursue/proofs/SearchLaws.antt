@@ -18,8 +18,8 @@ found-no_end task moves Exhausted found ends =
     exhausted_with_all.found task task.problem.weight task.problem.weight ends moves found
 found-no_end task moves (NodeLimit nodes count) found ends =
     value_ends_are_one.found_or_node_limit task task.problem.weight moves nodes count found ends
-found-no_end task moves (ShapeLimit node formula shapes) found ends =
-    value_ends_are_one.shape_limit_or_found task task.problem.weight node formula shapes moves ends found
+found-no_end task moves (ShapeLimit node limit) found ends =
+    value_ends_are_one.shape_limit_or_found task task.problem.weight node limit moves ends found
 
 -- two ends of one search are the same, apart from the question at which it met the limit of shapes
 pub ends-alike : (task : Task) (end also : PursueEnd) → EndsWithoutPlan task end → EndsWithoutPlan task also → AreSameEnds end also
@@ -28,30 +28,28 @@ ends-alike task Exhausted Goal is is_also = absurd is_also
 ends-alike task Exhausted Exhausted is is_also = inl refl
 ends-alike task Exhausted (NodeLimit nodes count) is is_also =
     absurd (exhausted_with_all.node_limit task task.problem.weight task.problem.weight is nodes count is_also)
-ends-alike task Exhausted (ShapeLimit node formula shapes) is is_also =
-    absurd (exhausted_with_all.shape_limit task task.problem.weight task.problem.weight is node formula shapes is_also)
+ends-alike task Exhausted (ShapeLimit node limit) is is_also =
+    absurd (exhausted_with_all.shape_limit task task.problem.weight task.problem.weight is node limit is_also)
 ends-alike task (NodeLimit nodes count) Goal is is_also = absurd is_also
 ends-alike task (NodeLimit nodes count) Exhausted is is_also =
     absurd (exhausted_with_all.node_limit task task.problem.weight task.problem.weight is_also nodes count is)
 ends-alike task (NodeLimit nodes count) (NodeLimit more others) is is_also =
     let same = value_ends_are_one.node_limit task task.problem.weight nodes more count others is is_also in
     inl (λ i. NodeLimit (same.0 i) (same.1 i))
-ends-alike task (NodeLimit nodes count) (ShapeLimit node formula shapes) is is_also =
-    absurd (value_ends_are_one.shape_limit_or_node_limit task task.problem.weight node formula shapes nodes count is_also is)
-ends-alike task (ShapeLimit node formula shapes) Goal is is_also = absurd is_also
-ends-alike task (ShapeLimit node formula shapes) Exhausted is is_also =
-    absurd (exhausted_with_all.shape_limit task task.problem.weight task.problem.weight is_also node formula shapes is)
-ends-alike task (ShapeLimit node formula shapes) (NodeLimit nodes count) is is_also =
-    absurd (value_ends_are_one.shape_limit_or_node_limit task task.problem.weight node formula shapes nodes count is is_also)
-ends-alike task (ShapeLimit node formula shapes) (ShapeLimit there other first) is is_also = inr (record {
+ends-alike task (NodeLimit nodes count) (ShapeLimit node limit) is is_also =
+    absurd (value_ends_are_one.shape_limit_or_node_limit task task.problem.weight node limit nodes count is_also is)
+ends-alike task (ShapeLimit node limit) Goal is is_also = absurd is_also
+ends-alike task (ShapeLimit node limit) Exhausted is is_also =
+    absurd (exhausted_with_all.shape_limit task task.problem.weight task.problem.weight is_also node limit is)
+ends-alike task (ShapeLimit node limit) (NodeLimit nodes count) is is_also =
+    absurd (value_ends_are_one.shape_limit_or_node_limit task task.problem.weight node limit nodes count is is_also)
+ends-alike task (ShapeLimit node limit) (ShapeLimit there other) is is_also = inr (record {
   node = node;
   also_node = there;
-  formula = formula;
-  also_formula = other;
-  shapes = shapes;
-  also_shapes = first;
+  limit = limit;
+  also_limit = other;
   one_is = refl;
   other_is = refl;
-  as_many = value_ends_are_one.shapes task task.problem.weight node formula shapes is
-      ∙ sym (value_ends_are_one.shapes task task.problem.weight there other first is_also);
+  as_many = value_ends_are_one.shapes task task.problem.weight node limit is
+      ∙ sym (value_ends_are_one.shapes task task.problem.weight there other is_also);
 })

@@ -55,4 +55,4 @@ module _ {E : Type 0} (leaves : E → List Atom → List Atom) (problem : Proble
   ends-without number atoms Goal is = absurd is
   ends-without number atoms Exhausted is = (is, refl, refl)
   ends-without number atoms (NodeLimit nodes moves) is = (is, refl, refl)
-  ends-without number atoms (ShapeLimit node formula shapes) is = (is, refl, refl)
+  ends-without number atoms (ShapeLimit node limit) is = (is, refl, refl)

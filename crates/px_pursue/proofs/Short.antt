@@ -141,7 +141,7 @@ module _ {E : Type 0} (leaves : E → List Atom → List Atom) (problem : Proble
       omega (arith, room)
   last-short number atoms last Exhausted after leads ends = omega (arith, ap length ends.1)
   last-short number atoms last (NodeLimit nodes moves) after leads ends = omega (arith, ap length ends.1)
-  last-short number atoms last (ShapeLimit node formula shapes) after leads ends = omega (arith, ap length ends.1)
+  last-short number atoms last (ShapeLimit node limit) after leads ends = omega (arith, ap length ends.1)
 
 pub pursuits_are_short : {E : Type 0} (leaves : E → List Atom → List Atom) → PursuitsAreShort leaves
 pursuits_are_short leaves problem tables goal vars recorded atoms after searches turns end n searchable few is =

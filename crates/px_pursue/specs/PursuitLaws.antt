@@ -3,10 +3,10 @@ use Rattle.std.specs.Prelude.{◌≡◌, ◌⊎◌, ℕ, ◌+◌, ◌*◌, ◌�
 use Rattle.px_terms.specs.declared.atom.Atom.{Atom}
 use Rattle.px_terms.specs.declared.problem.Problem.{Problem}
 use Rattle.px_terms.specs.Plans.{Carries}
-use Rattle.px_proof.specs.declared.shape.Tick.{Tick}
 use Rattle.px_table.specs.declared.entry.Move.{Move}
 use Rattle.px_table.specs.declared.node.Node.{Node}
 use Rattle.px_table.specs.declared.table.Table.{Table}
+use Rattle.px_gaps.specs.declared.question.MetLimit.{MetLimit}
 use Rattle.px_ends.specs.Made.{IsTableOfMoves}
 use Rattle.px_ends.specs.Tasks.{Task, steps_of, task_of}
 use Rattle.px_match.specs.Matching.{KernelFits}
@@ -59,13 +59,11 @@ module _ {E : Type 0} (leaves : E → List Atom → List Atom) where
 pub record AreLimitEnds (one other : PursueEnd) : Type 0 where
   pub node : Node
   pub also_node : Node
-  pub formula : List Atom
-  pub also_formula : List Atom
-  pub shapes : List (List Tick)
-  pub also_shapes : List (List Tick)
-  pub one_is : one ≡ ShapeLimit node formula shapes
-  pub other_is : other ≡ ShapeLimit also_node also_formula also_shapes
-  pub as_many : length shapes ≡ length also_shapes
+  pub limit : MetLimit
+  pub also_limit : MetLimit
+  pub one_is : one ≡ ShapeLimit node limit
+  pub other_is : other ≡ ShapeLimit also_node also_limit
+  pub as_many : length limit.shapes ≡ length also_limit.shapes
 
 abbrev pub AreSameEnds : PursueEnd → PursueEnd → Type 0
 AreSameEnds one other = (one ≡ other) ⊎ AreLimitEnds one other

@@ -25,4 +25,4 @@ abbrev pub EndsWithoutPlan : Task → PursueEnd → Type 0
 EndsWithoutPlan task Goal = ⊥
 EndsWithoutPlan task Exhausted = IsExhausted task task.problem.weight
 EndsWithoutPlan task (NodeLimit nodes moves) = IsNodeLimit task task.problem.weight nodes moves
-EndsWithoutPlan task (ShapeLimit node formula shapes) = IsShapeLimit task task.problem.weight node formula shapes
+EndsWithoutPlan task (ShapeLimit node limit) = IsShapeLimit task task.problem.weight node limit

@@ -54,17 +54,9 @@ pub(crate) fn seek(aim: &Aim<'_>, facts: &Model) -> Result<Sought, NoMemory>
         Err(SearchErr::NodeLimit { nodes, moves }) => {
             Ok(Sought::WithoutPlan(PursueEnd::NodeLimit { nodes, moves }))
         }
-        Err(
-            SearchErr::ShapeLimit {
-                node,
-                formula,
-                shapes,
-            },
-        ) => Ok(Sought::WithoutPlan(PursueEnd::ShapeLimit {
-            node,
-            formula,
-            shapes,
-        })),
+        Err(SearchErr::ShapeLimit { node, limit }) => {
+            Ok(Sought::WithoutPlan(PursueEnd::ShapeLimit { node, limit }))
+        }
         Err(SearchErr::NoMemory) => Err(NoMemory),
     }
 }

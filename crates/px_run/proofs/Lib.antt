@@ -8,3 +8,4 @@ pub mod OneCheckText
 pub mod OneText
 pub mod OutcomeLemmas
 pub mod Fronts
+pub mod Rooms

@@ -6,3 +6,4 @@ pub mod Exits
 pub mod Answers
 pub mod Fronts
 pub mod Laws
+pub mod Rooms

@@ -1,6 +1,7 @@
 //! The demo: its script is made, answered and summed up.
 ghost use Rattle.std.specs.Prelude.{◌≡◌, ◌≤◌, IfOk, ◌∷◌, [], codes};
 ghost use Rattle.std.specs.Fmt.{decimal};
+ghost use Rattle.px_demo.specs.Limits.{least_rooms, most_rooms, most_seed};
 ghost use Rattle.px_printer.specs.Texts.{text_line};
 ghost use Rattle.px_script.specs.ReadScripts.{content};
 ghost use Rattle.px_script.specs.Ranges.{IsOfStage};
@@ -22,8 +23,8 @@ use std::fmt::Write;
 
 /// Makes the demo's script, answers its commands and writes the line that sums up the replies.
 pub(crate) fn demo<K: Sink>(alloc: Global, rooms: u32, seed: u32, sink: &mut K) -> Status
-    requires rooms { (3 ≤ rooms) × (rooms ≤ 12) }
-    requires seed { seed ≤ 2147483647 }
+    requires rooms { (least_rooms ≤ rooms) × (rooms ≤ most_rooms) }
+    requires seed { seed ≤ most_seed }
     ensures right { DemoRight rooms seed (sink_ends K.written K.faults K.sure sink.old sink.new) result }
     ensures nature { K.sure sink.new ≡ K.sure sink.old }
 {

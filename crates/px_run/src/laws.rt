@@ -1,5 +1,6 @@
 //! Laws about what is written. The calls do nothing.
 ghost use Rattle.px_run.specs.Laws.{TextsAreOne, TranscriptsCarry};
+ghost use Rattle.px_run.specs.Rooms.{RoomsSuffice};
 
 /// The bytes determine what is written for all commands of a script, though a search that met the limit of shapes may report one question
 /// or another. What is written for the first commands begins it.
@@ -16,4 +17,11 @@ pub fn texts_are_one()
 /// state of it, which the replies so far have left.
 pub fn transcripts_carry()
     ensures { TranscriptsCarry }
+{}
+
+/// A script is answered, unless memory runs out, if its bytes come from a source that never fails and the sink is sure to take the
+/// transcript. The line of a demo and that of a certificate are written if the sink is sure to take as many bytes as these lines have at
+/// most (`px_lengths`).
+pub fn rooms_suffice()
+    ensures { RoomsSuffice }
 {}

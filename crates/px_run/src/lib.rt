@@ -21,6 +21,8 @@
 //! - After a write that failed, the replies before it and a proper front of the next text were written, and so a proper front of what
 //!   the bytes demand (`front` in `specs/Fronts`). Each reply is written as a whole; no clause says so, a test
 //!   shows it.
+//! - How much room suffices in a sink is in `specs/Rooms` ([`rooms_suffice`]): for the transcript, and for the line of a demo and that of
+//!   a certificate, which have bounds (`px_lengths`).
 //! - A script or a certificate has at most 1,048,576 bytes. Where more came, the answer is `TooLong`.
 //! - No public clause cites `specs/Answers` and `specs/Sums`.
 #![tactic(auto)]
@@ -33,6 +35,6 @@ mod running;
 mod status;
 mod top;
 
-pub use laws::{texts_are_one, transcripts_carry};
+pub use laws::{rooms_suffice, texts_are_one, transcripts_carry};
 pub use status::Status;
 pub use top::planex_main;

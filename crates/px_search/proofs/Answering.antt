@@ -1,10 +1,9 @@
 -- What the one end says of the answer.
 use Rattle.std.proofs.Common.{◌≡◌, ℕ, ◌⊎◌, List, refl, ◌∙◌, inl, inr, subst}
 use Rattle.std.specs.Prelude.{Result, Ok, Err, IfOk, IfErr, IsErrOf}
-use Rattle.px_terms.specs.declared.atom.Atom.{Atom}
-use Rattle.px_proof.specs.declared.shape.Tick.{Tick}
 use Rattle.px_table.specs.declared.entry.Move.{Move}
 use Rattle.px_table.specs.declared.node.Node.{Node}
+use Rattle.px_gaps.specs.declared.question.MetLimit.{MetLimit}
 use Rattle.px_ends.specs.ByValue.{IsFound, IsExhausted, IsNodeLimit, IsShapeLimit}
 use Rattle.px_ends.specs.Tasks.{Task}
 use Rattle.px_ends.proofs.ByValueLaws.{exhausted_with_all, value_ends_are_one}
@@ -42,9 +41,9 @@ module _ {F : Type 0} (task : Task) (result : Result F SearchErr) (ends : IfErr 
       → IsNodeLimit task task.problem.weight nodes moves
   end-limit nodes moves is = of_error (NodeLimit nodes moves) is
 
-  pub end-shape_limit : (node : Node) (formula : List Atom) (shapes : List (List Tick)) → IsErrOf result (ShapeLimit node formula shapes)
-      → IsShapeLimit task task.problem.weight node formula shapes
-  end-shape_limit node formula shapes is = of_error (ShapeLimit node formula shapes) is
+  pub end-shape_limit : (node : Node) (limit : MetLimit) → IsErrOf result (ShapeLimit node limit)
+      → IsShapeLimit task task.problem.weight node limit
+  end-shape_limit node limit is = of_error (ShapeLimit node limit) is
 
 -- ---- what each end says of the answer
 
@@ -59,7 +58,7 @@ module _ {F : Type 0} (moves_of : F → List Move) (task : Task) (result : Resul
       by (Ok f) h e = (value_ends_are_one.found task task.problem.weight (moves_of f) moves h is, tt)
       by (Err Exhausted) h e = absurd (exhausted_with_all.found task task.problem.weight task.problem.weight e moves is)
       by (Err (NodeLimit n m)) h e = absurd (value_ends_are_one.found_or_node_limit task task.problem.weight moves n m is e)
-      by (Err (ShapeLimit n f s)) h e = absurd (value_ends_are_one.shape_limit_or_found task task.problem.weight n f s moves e is)
+      by (Err (ShapeLimit n l)) h e = absurd (value_ends_are_one.shape_limit_or_found task task.problem.weight n l moves e is)
       by (Err NoMemory) h e = (tt, refl)
 
   pub answers_exhausted : IsExhausted task task.problem.weight → IsErrOf result Exhausted ⊎ IsErrOf result NoMemory
@@ -70,7 +69,7 @@ module _ {F : Type 0} (moves_of : F → List Move) (task : Task) (result : Resul
       by (Ok f) same h e = absurd (exhausted_with_all.found task task.problem.weight task.problem.weight is (moves_of f) h)
       by (Err Exhausted) same h e = inl same
       by (Err (NodeLimit n m)) same h e = absurd (exhausted_with_all.node_limit task task.problem.weight task.problem.weight is n m e)
-      by (Err (ShapeLimit n f s)) same h e = absurd (exhausted_with_all.shape_limit task task.problem.weight task.problem.weight is n f s e)
+      by (Err (ShapeLimit n l)) same h e = absurd (exhausted_with_all.shape_limit task task.problem.weight task.problem.weight is n l e)
       by (Err NoMemory) same h e = inr same
 
   pub answers_limit : (nodes : List Node) (moves : ℕ) → IsNodeLimit task task.problem.weight nodes moves
@@ -84,25 +83,25 @@ module _ {F : Type 0} (moves_of : F → List Move) (task : Task) (result : Resul
       by (Err (NodeLimit n m)) same h e =
           let parts = value_ends_are_one.node_limit task task.problem.weight n nodes m moves e is in
           inl (same ∙ (λ i. Err (NodeLimit (parts.0 i) (parts.1 i))))
-      by (Err (ShapeLimit n f s)) same h e =
-          absurd (value_ends_are_one.shape_limit_or_node_limit task task.problem.weight n f s nodes moves e is)
+      by (Err (ShapeLimit n l)) same h e =
+          absurd (value_ends_are_one.shape_limit_or_node_limit task task.problem.weight n l nodes moves e is)
       by (Err NoMemory) same h e = inr same
 
   -- the answer is that some question which was asked meets the limit
   abbrev pub AnswersLimit : Type 0
-  AnswersLimit = (node : Node) × (formula : List Atom) × (shapes : List (List Tick)) × IsErrOf result (ShapeLimit node formula shapes)
+  AnswersLimit = (node : Node) × (limit : MetLimit) × IsErrOf result (ShapeLimit node limit)
 
   -- and it comes wherever there is such a question
-  pub answers_shape_limit : (node : Node) (formula : List Atom) (shapes : List (List Tick))
-      → IsShapeLimit task task.problem.weight node formula shapes → AnswersLimit ⊎ IsErrOf result NoMemory
-  answers_shape_limit node formula shapes is = by result refl found ends
+  pub answers_shape_limit : (node : Node) (limit : MetLimit) → IsShapeLimit task task.problem.weight node limit
+      → AnswersLimit ⊎ IsErrOf result NoMemory
+  answers_shape_limit node limit is = by result refl found ends
     where
       by : (r : Result F SearchErr) → result ≡ r → IfOk r (λ f. IsFound task task.problem.weight (moves_of f)) → IfErr r (IsEnd task)
           → AnswersLimit ⊎ IsErrOf result NoMemory
-      by (Ok f) same h e = absurd (value_ends_are_one.shape_limit_or_found task task.problem.weight node formula shapes (moves_of f) is h)
+      by (Ok f) same h e = absurd (value_ends_are_one.shape_limit_or_found task task.problem.weight node limit (moves_of f) is h)
       by (Err Exhausted) same h e =
-          absurd (exhausted_with_all.shape_limit task task.problem.weight task.problem.weight e node formula shapes is)
+          absurd (exhausted_with_all.shape_limit task task.problem.weight task.problem.weight e node limit is)
       by (Err (NodeLimit n m)) same h e =
-          absurd (value_ends_are_one.shape_limit_or_node_limit task task.problem.weight node formula shapes n m is e)
-      by (Err (ShapeLimit n f s)) same h e = inl (n, f, s, same)
+          absurd (value_ends_are_one.shape_limit_or_node_limit task task.problem.weight node limit n m is e)
+      by (Err (ShapeLimit n l)) same h e = inl (n, l, same)
       by (Err NoMemory) same h e = inr same

@@ -6,8 +6,7 @@ use Rattle.std.specs.Cmp.{tied_itself}
 use Rattle.std.proofs.lemmas.List.{take_all}
 use Rattle.std.proofs.lemmas.List.Elements.{All-contains}
 use Rattle.px_base.specs.ListLaws.{Contains-none, Contains-first, Contains-later, Contains-cases}
-use Rattle.px_terms.specs.declared.atom.Atom.{Atom}
-use Rattle.px_proof.specs.declared.shape.Tick.{Tick}
+use Rattle.px_gaps.specs.declared.question.MetLimit.{MetLimit}
 use Rattle.px_table.specs.declared.entry.Move.{Move}
 use Rattle.px_table.specs.declared.node.Node.{Node}
 use Rattle.px_ends.specs.Order.{move_cmp}
@@ -130,11 +129,10 @@ module _ (task : Task) where
     node_here = node_of task t.list
 
     -- none of the questions of the node meets the limit
-    pub unlimited-here : (formula : List Atom) (shapes : List (List Tick))
-        → ¬ ((node : Node) → IsKeyOf old key node → LimitsNode task node formula shapes)
-    unlimited-here formula shapes limits =
+    pub unlimited-here : (limit : MetLimit) → ¬ ((node : Node) → IsKeyOf old key node → LimitsNode task node limit)
+    unlimited-here limit limits =
         let l = limits node_here (same_here task old keys origins picker picked next steps is_all from key t at) in
-        t.begun.unlimited l.question l.asked formula shapes l.met
+        t.begun.unlimited limit.question l.asked limit.formula limit.shapes l.met
 
     module _ (whole : List Step) (gone : (node : Node) → IsKeyOf old key node → IsGoneOn task new node whole) where
       abbrev all_here : IsGoneOn task new node_here whole

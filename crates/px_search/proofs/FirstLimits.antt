@@ -5,7 +5,9 @@ use Rattle.px_base.specs.ListLaws.{Contains-cases, Contains-later}
 use Rattle.px_terms.specs.declared.atom.Atom.{Atom}
 use Rattle.px_proof.specs.declared.shape.Tick.{Tick}
 use Rattle.px_table.specs.declared.entry.Move.{Move}
-use Rattle.px_gaps.specs.Questions.{Question, MeetsLimit}
+use Rattle.px_gaps.specs.Questions.{IsMetLimit, MeetsLimit}
+use Rattle.px_gaps.specs.declared.question.MetLimit.{MetLimit}
+use Rattle.px_gaps.specs.declared.question.Question.{Question}
 use Rattle.px_order.specs.Places.{order_of as order_between, place-within-list, some-one, still_there}
 use Rattle.px_order.specs.RunLaws.{prefixes, runs-one}
 use Rattle.px_order.specs.Runs.{IsNew, IsNext, RunsFor}
@@ -98,12 +100,10 @@ module _ (task : Task) where
   -- ---- a place was just picked, and a question of its node meets the limit
 
   abbrev pub first_here : (found : List (List Move)) (picked : List ℕ) → IsBetween task found picked → (place : ℕ)
-      → IsNext (space_of task) (order_of task) found picked place → (p : List Move) → slice_get found place ≡ Some p → (q : Question)
-      → AsksAt task (node_of task p) q → (formula : List Atom) (shapes : List (List Tick)) → MeetsLimit task.problem q formula shapes
-      → IsFirstLimit task weight found formula shapes
-  first_here found picked b place next p at q asks formula shapes met = record {
+      → IsNext (space_of task) (order_of task) found picked place → (p : List Move) → slice_get found place ≡ Some p → (limit : MetLimit)
+      → AsksAt task (node_of task p) limit.question → IsMetLimit task.problem limit → IsFirstLimit task weight found limit
+  first_here found picked b place next p at limit asks met = record {
     moves = p;
-    question = q;
     asked = inl (
       record {
         found = found;
@@ -139,12 +139,11 @@ module _ (task : Task) where
       | inr earlier ↦ λ other asks. s.gone_through k moves other earlier at_k asks
     ]
 
-    abbrev pub first_there : length found < task.nodes → (node_of task (p ++ m ∷ [])).stack ≡ []
-        → (formula : List Atom) (shapes : List (List Tick)) → MeetsLimit task.problem (goal_there task (p ++ m ∷ [])) formula shapes
-        → IsFirstLimit task weight (found ++ (p ++ m ∷ []) ∷ []) formula shapes
-    first_there room empty formula shapes met = record {
+    abbrev pub first_there : length found < task.nodes → (node_of task (p ++ m ∷ [])).stack ≡ [] → (limit : MetLimit)
+        → limit.question ≡ goal_there task (p ++ m ∷ []) → IsMetLimit task.problem limit
+        → IsFirstLimit task weight (found ++ (p ++ m ∷ []) ∷ []) limit
+    first_there room empty limit is met = record {
       moves = p ++ m ∷ [];
-      question = goal_there task (p ++ m ∷ []);
       asked = inr (
         record {
           earlier = found;
@@ -154,7 +153,7 @@ module _ (task : Task) where
         },
         refl,
         empty,
-        refl,
+        is,
       );
       met = met;
       first = none-met s.known.0 found (place ∷ picked) s.known.1 s.tested gone_here (length (found ++ (p ++ m ∷ []) ∷ []))
@@ -176,11 +175,10 @@ module _ (task : Task) where
   none-before fewer others other less (inr (t, same, empty, is)) atoms lists met =
       omega (arith, less, ap length same, length-append t.earlier (others ∷ []))
 
-  abbrev pub first_at_start : 1 ≤ task.nodes → (formula : List Atom) (shapes : List (List Tick))
-      → MeetsLimit task.problem (goal_there task []) formula shapes → IsFirstLimit task weight ([] ∷ []) formula shapes
-  first_at_start room formula shapes met = record {
+  abbrev pub first_at_start : 1 ≤ task.nodes → (limit : MetLimit) → limit.question ≡ goal_there task [] → IsMetLimit task.problem limit
+      → IsFirstLimit task weight ([] ∷ []) limit
+  first_at_start room limit is met = record {
     moves = [];
-    question = goal_there task [];
     asked = inr (
       record {
         earlier = [];
@@ -190,7 +188,7 @@ module _ (task : Task) where
       },
       refl,
       refl,
-      refl,
+      is,
     );
     met = met;
     first = none-before;
@@ -198,12 +196,11 @@ module _ (task : Task) where
 
   -- ---- it is a limit
 
-  pub limit_of : (found : List (List Move)) (formula : List Atom) (shapes : List (List Tick))
-      → (first : IsFirstLimit task weight found formula shapes) → IsShapeLimit task weight (node_of task first.moves) formula shapes
-  limit_of found formula shapes first = record {
+  pub limit_of : (found : List (List Move)) (limit : MetLimit) (first : IsFirstLimit task weight found limit)
+      → IsShapeLimit task weight (node_of task first.moves) limit
+  limit_of found limit first = record {
     moves = first.moves;
-    question = first.question;
     node_is = refl;
-    asked = asked_of task weight found first.moves first.question first.asked;
+    asked = asked_of task weight found first.moves limit.question first.asked;
     met = first.met;
   }

@@ -5,7 +5,6 @@ use Rattle.std.specs.List.Sorted.{IsStrictlySortedBy}
 use Rattle.std.specs.declared.cmp.Ordering.TheVariants.{Less}
 use Rattle.std.proofs.lemmas.List.Elements.{All-head}
 use Rattle.px_terms.specs.declared.atom.Atom.{Atom}
-use Rattle.px_proof.specs.declared.shape.Tick.{Tick}
 use Rattle.px_table.specs.declared.entry.Entry.{Entry}
 use Rattle.px_table.specs.declared.entry.Move.{Move}
 use Rattle.px_table.specs.declared.entry.Move.TheVariants as move
@@ -13,11 +12,12 @@ use Rattle.px_table.specs.declared.node.Node.{Node}
 use Rattle.px_table.specs.EntryOrder.{order_of_entries}
 use Rattle.px_entries.specs.Entries.{obligations_of}
 use Rattle.px_gaps.specs.Needs.{HasAnswer}
-use Rattle.px_gaps.specs.Outcomes.{AtLimit, IfLimit}
+use Rattle.px_diff.specs.Outcomes.{AtStop, IfStopped}
 use Rattle.px_diff.specs.Pushes.{IsPushable, IsRelevant}
 use Rattle.px_gaps.specs.Questions.{AreUnlimited}
-use Rattle.px_gaps.specs.declared.ask_err.AskErr.{AskErr}
-use Rattle.px_gaps.specs.declared.ask_err.AskErr.TheVariants.{ShapeLimit, NoMemory}
+use Rattle.px_diff.specs.declared.move_err.MoveErr.{MoveErr}
+use Rattle.px_diff.specs.declared.move_err.MoveErr.TheVariants.{ShapeLimit, NoMemory}
+use Rattle.px_gaps.specs.declared.question.MetLimit.{MetLimit}
 use Rattle.px_gaps.specs.declared.known.Known.{Known}
 use Rattle.px_gaps.specs.declared.known.Known.TheVariants.{Applicable, Closed}
 use Rattle.px_gaps.specs.declared.known.Tried.TheVariants.{Unanswered}
@@ -86,16 +86,15 @@ same_node kept key node model stack stands model_at stacks =
     let models = one_model kept key.model model node.model model_at stands.model in
     λ i. record { model = models i; stack = stacks i }
 
-pub if_limit : {A : Type 0} (P Q : List Atom → List (List Tick) → Type 0) (result : Result A AskErr) → IfLimit result P
-    → ((formula : List Atom) (shapes : List (List Tick)) → P formula shapes → Q formula shapes) → IfLimit result Q
+pub if_limit : {A : Type 0} (P Q : MetLimit → Type 0) (result : Result A MoveErr) → IfStopped result P
+    → ((limit : MetLimit) → P limit → Q limit) → IfStopped result Q
 if_limit P Q (Ok a) p f = tt
-if_limit P Q (Err (ShapeLimit formula shapes)) p f = f formula shapes p
+if_limit P Q (Err (ShapeLimit limit)) p f = f limit p
 if_limit P Q (Err NoMemory) p f = tt
 
 -- the same of an error
-pub at_limit : (P Q : List Atom → List (List Tick) → Type 0) (error : AskErr) → AtLimit error P
-    → ((formula : List Atom) (shapes : List (List Tick)) → P formula shapes → Q formula shapes) → AtLimit error Q
-at_limit P Q (ShapeLimit formula shapes) p f = f formula shapes p
+pub at_limit : (P Q : MetLimit → Type 0) (error : MoveErr) → AtStop error P → ((limit : MetLimit) → P limit → Q limit) → AtStop error Q
+at_limit P Q (ShapeLimit limit) p f = f limit p
 at_limit P Q NoMemory p f = tt
 
 -- where all that a node without an answer needs has one, an entry stands on its stack

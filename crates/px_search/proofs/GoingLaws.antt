@@ -5,13 +5,13 @@ use Rattle.std.proofs.lemmas.List.{length-append, length-map, map-append}
 use Rattle.std.proofs.lemmas.List.Elements.{All-tail, All-cons}
 use Rattle.px_terms.specs.declared.atom.Atom.{Atom}
 use Rattle.px_terms.specs.Operators.{results_of}
-use Rattle.px_proof.specs.declared.shape.Tick.{Tick}
 use Rattle.px_table.specs.declared.entry.Entry.{Entry}
 use Rattle.px_table.specs.declared.entry.Move.{Move}
 use Rattle.px_table.specs.declared.entry.Move.TheVariants.{Apply, Push}
 use Rattle.px_table.specs.declared.node.Node.{Node}
 use Rattle.px_entries.specs.Entries.{IsEntry, effect_of}
 use Rattle.px_gaps.specs.declared.known.Tried.TheVariants.{Answered, Unanswered, Limited}
+use Rattle.px_gaps.specs.declared.question.MetLimit.{MetLimit}
 use Rattle.px_ops.specs.Keeping.{Keeps}
 use Rattle.px_ops.specs.KeepLaws.{place_within, has_at, push-cases}
 use Rattle.px_numbers.specs.declared.nodes.NodeKey.{NodeKey}
@@ -342,11 +342,10 @@ module _ (task : Task) where
 
   -- a question of the node that was picked meets the limit
   pub limit-here : (old new : Kept) (keys : List NodeKey) (origins : List Origin) (picker : Picker) (picked : List ℕ) (next : ℕ)
-      (key : NodeKey) (formula : List Atom) (shapes : List (List Tick)) → KeepsAll old new
-      → AtPick task old keys origins picker picked next → slice_get keys next ≡ Some key
-      → ((node : Node) → IsKeyOf old key node → LimitsNode task node formula shapes)
-      → IsLimitedAt task new keys origins (record { key = key; formula = formula; shapes = shapes })
-  limit-here old new keys origins picker picked next key formula shapes keeps a at limits =
+      (key : NodeKey) (limit : MetLimit) → KeepsAll old new → AtPick task old keys origins picker picked next
+      → slice_get keys next ≡ Some key → ((node : Node) → IsKeyOf old key node → LimitsNode task node limit)
+      → IsLimitedAt task new keys origins (record { key = key; met = limit })
+  limit-here old new keys origins picker picked next key limit keeps a at limits =
       let here = list_of old keys origins a.found a.numbered next key at in
       let l = limits (goes here.0) here.2 in
       record {
@@ -355,7 +354,7 @@ module _ (task : Task) where
           begins = (picked, a.between.searching.known);
           numbered = numbered-grows old new keys origins a.found keeps a.numbered;
         };
-        first = first_here task a.found picked a.between next a.is_next here.0 here.1 l.question l.asked formula shapes l.met;
+        first = first_here task a.found picked a.between next a.is_next here.0 here.1 limit l.asked l.met;
         stands = stands-grows old new key (goes here.0) keeps here.2;
       }
 
@@ -514,16 +513,15 @@ module _ (task : Task) where
                 t_new.1,
           )
 
-      pub going-limit : (formula : List Atom) (shapes : List (List Tick)) → length keys < task.nodes
-          → IsTriedAt task next_node (Limited formula shapes)
-          → IsLimitedAt task kept (keys ++ there ∷ []) more_origins (record { key = there; formula = formula; shapes = shapes })
-      going-limit formula shapes room tried =
-          let t_new = subst (λ (x : Node). IsTriedAt task x (Limited formula shapes)) (sym new_goes) tried in
+      pub going-limit : (limit : MetLimit) → length keys < task.nodes → IsTriedAt task next_node (Limited limit)
+          → IsLimitedAt task kept (keys ++ there ∷ []) more_origins (record { key = there; met = limit })
+      going-limit limit room tried =
+          let t_new = subst (λ (x : Node). IsTriedAt task x (Limited limit)) (sym new_goes) tried in
           record {
             found = g.found ++ more_moves ∷ [];
             are = found-more;
             first = first_there task g.found next picked g.making.searching t.list t.list_at m is_new t.begun.unlimited (room_there room)
-                t_new.0 formula shapes t_new.1;
+                t_new.0 limit t_new.1 t_new.2;
             stands = new_stands;
           }
 

@@ -2,13 +2,12 @@
 use Rattle.std.proofs.Common.{◌≡◌, ℕ, Bool, true, zero, suc, ◌+◌, ◌<◌, ◌≤◌, List, [], ◌∷◌, ◌++◌, map, take, length, refl, sym, ◌∙◌, ap, inl, subst, arith, Some, slice_get, Contains}
 use Rattle.std.specs.Prelude.{All}
 use Rattle.std.proofs.lemmas.List.{take_all, length-append, length-map, map-append}
-use Rattle.px_terms.specs.declared.atom.Atom.{Atom}
-use Rattle.px_proof.specs.declared.shape.Tick.{Tick}
 use Rattle.px_table.specs.declared.entry.Move.{Move}
 use Rattle.px_table.specs.declared.node.Node.{Node}
 use Rattle.px_entries.specs.Entries.{IsEntry}
 use Rattle.px_gaps.specs.declared.known.Tried.{Tried}
 use Rattle.px_gaps.specs.declared.known.Tried.TheVariants.{Answered, Unanswered, Limited}
+use Rattle.px_gaps.specs.declared.question.MetLimit.{MetLimit}
 use Rattle.px_ops.specs.Keeping.{Keeps}
 use Rattle.px_numbers.specs.declared.nodes.NodeKey.{NodeKey}
 use Rattle.px_numbers.specs.Numbers.{Kept, AreEachOnce, IsKeyOf, KeepsAll, AllStand}
@@ -83,17 +82,17 @@ module _ (task : Task) where
         stops = inl solved;
       }
 
-  pub start-limit : (kept : Kept) (key : NodeKey) (keys : List NodeKey) (origins : List Origin) (tried : Tried) (formula : List Atom)
-      (shapes : List (List Tick)) → IsKeyOf kept key (initial_node task) → keys ≡ key ∷ [] → origins ≡ []
-      → ((node : Node) → IsKeyOf kept key node → IsTriedAt task node tried) → tried ≡ Limited formula shapes → 1 ≤ task.nodes
-      → IsLimitedAt task kept keys origins (record { key = key; formula = formula; shapes = shapes })
-  start-limit kept key keys origins tried formula shapes stands one none says is room =
-      let t : IsTriedAt task (initial_node task) (Limited formula shapes) =
+  pub start-limit : (kept : Kept) (key : NodeKey) (keys : List NodeKey) (origins : List Origin) (tried : Tried) (limit : MetLimit)
+      → IsKeyOf kept key (initial_node task) → keys ≡ key ∷ [] → origins ≡ []
+      → ((node : Node) → IsKeyOf kept key node → IsTriedAt task node tried) → tried ≡ Limited limit → 1 ≤ task.nodes
+      → IsLimitedAt task kept keys origins (record { key = key; met = limit })
+  start-limit kept key keys origins tried limit stands one none says is room =
+      let t : IsTriedAt task (initial_node task) (Limited limit) =
       subst (IsTriedAt task (initial_node task)) is (says (initial_node task) stands) in
       record {
         found = [] ∷ [];
         are = start-are kept key keys origins stands one none;
-        first = first_at_start task room formula shapes t.1;
+        first = first_at_start task room limit t.1 t.2;
         stands = stands;
       }
 
@@ -205,17 +204,16 @@ module _ (task : Task) where
       pub step-origins : (made : List Origin) → made ≡ origins ++ origin ∷ [] → length made ≤ task.nodes
       step-origins made is = omega (arith, step-few, st.t.going.numbered.one_more, ap length is, length-append origins (origin ∷ []))
 
-      pub step-limit : (made : List Origin) (tried : Tried) (formula : List Atom) (shapes : List (List Tick))
-          → made ≡ origins ++ origin ∷ [] → length keys < task.nodes
-          → ((node : Node) → IsKeyOf kept there node → IsTriedAt task node tried) → tried ≡ Limited formula shapes
-          → IsLimitedAt task kept new made (record { key = there; formula = formula; shapes = shapes })
-      step-limit made tried formula shapes is room says same =
+      pub step-limit : (made : List Origin) (tried : Tried) (limit : MetLimit) → made ≡ origins ++ origin ∷ []
+          → length keys < task.nodes → ((node : Node) → IsKeyOf kept there node → IsTriedAt task node tried) → tried ≡ Limited limit
+          → IsLimitedAt task kept new made (record { key = there; met = limit })
+      step-limit made tried limit is room says same =
           let t = subst (IsTriedAt task there_stands.0) same (says there_stands.0 st.stands) in
-          let limit : Limit = record { key = there; formula = formula; shapes = shapes } in
-          subst (λ (l : List NodeKey). IsLimitedAt task kept l made limit) (sym fresh.1)
-          (subst (λ (l : List Origin). IsLimitedAt task kept (keys ++ there ∷ []) l limit) (sym is)
+          let here : Limit = record { key = there; met = limit } in
+          subst (λ (l : List NodeKey). IsLimitedAt task kept l made here) (sym fresh.1)
+          (subst (λ (l : List Origin). IsLimitedAt task kept (keys ++ there ∷ []) l here) (sym is)
           (going-limit task kept once keys origins picker picked next steps is_all i s st.t st.m st.at_m st.step_is there st.stands fresh.0
-          formula shapes room t))
+          limit room t))
 
       pub step-full : (made : List Origin) (count : ℕ) → made ≡ origins ++ origin ∷ [] → task.nodes ≤ length keys
           → ((moves : List Move) × (count ≡ length moves)

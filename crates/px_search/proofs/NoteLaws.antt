@@ -9,8 +9,8 @@ use Rattle.px_terms.specs.Operators.{results_of}
 use Rattle.px_terms.specs.OrderLaws.{atom_eq-decides}
 use Rattle.px_table.specs.declared.entry.Move.TheVariants.{Push}
 use Rattle.px_entries.specs.Entries.{effect_of}
-use Rattle.px_gaps.specs.declared.ask_err.AskErr.{AskErr}
-use Rattle.px_gaps.specs.declared.ask_err.AskErr.TheVariants.{ShapeLimit, NoMemory}
+use Rattle.px_diff.specs.declared.move_err.MoveErr.{MoveErr}
+use Rattle.px_diff.specs.declared.move_err.MoveErr.TheVariants.{ShapeLimit, NoMemory}
 use Rattle.px_numbers.specs.Numbers.{Kept, KeepsAll}
 use Rattle.px_numbers.specs.NumberLaws.{model_at-grows}
 use Rattle.px_ends.specs.Tasks.{Task}
@@ -126,18 +126,18 @@ module _ (task : Task) where
 
 -- ---- what results say
 
-pub on_answer : {A : Type 0} (P Q : Type 0) (result : Result A AskErr) → OnAnswer result P → (P → Q) → OnAnswer result Q
+pub on_answer : {A : Type 0} (P Q : Type 0) (result : Result A MoveErr) → OnAnswer result P → (P → Q) → OnAnswer result Q
 on_answer P Q (Ok answer) p f = f p
-on_answer P Q (Err (ShapeLimit formula shapes)) p f = f p
+on_answer P Q (Err (ShapeLimit limit)) p f = f p
 on_answer P Q (Err NoMemory) p f = tt
 
-pub ok_answer : {A : Type 0} (P Q : Type 0) (result : Result A AskErr) → OnAnswer result P → (P → Q) → OnOk result Q
+pub ok_answer : {A : Type 0} (P Q : Type 0) (result : Result A MoveErr) → OnAnswer result P → (P → Q) → OnOk result Q
 ok_answer P Q (Ok answer) p f = f p
 ok_answer P Q (Err error) p f = tt
 
-pub any_answer : {A P : Type 0} (result : Result A AskErr) → P → OnAnswer result P
+pub any_answer : {A P : Type 0} (result : Result A MoveErr) → P → OnAnswer result P
 any_answer (Ok answer) p = p
-any_answer (Err (ShapeLimit formula shapes)) p = p
+any_answer (Err (ShapeLimit limit)) p = p
 any_answer (Err NoMemory) p = tt
 
 pub any_ok : {A E P : Type 0} (result : Result A E) → P → OnOk result P
@@ -146,7 +146,7 @@ any_ok (Err error) p = tt
 
 -- one result more, after what was kept before
 module _ (task : Task) (old mid new : Notes) (before : HaveGrown task old mid) where
-  pub answer-grown : {A : Type 0} (result : Result A AskErr) → OnAnswer result (HaveGrown task mid new)
+  pub answer-grown : {A : Type 0} (result : Result A MoveErr) → OnAnswer result (HaveGrown task mid new)
       → OnAnswer result (HaveGrown task old new)
   answer-grown result grown = on_answer (HaveGrown task mid new) (HaveGrown task old new) result grown (grown-both task old mid new before)
 

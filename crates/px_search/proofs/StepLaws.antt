@@ -83,7 +83,7 @@ tried_at task kept key node built tried stands none built_at is =
     by : (tried : Tried) → IsTriedOf task.problem (goal_from task node.model) tried → IsTriedAt task node tried
     by Answered h = ((empty, h.0), h.1.unlimited)
     by Unanswered h = ((λ solved. h.0 solved.1), λ _. h.1.unlimited)
-    by (Limited formula shapes) h = (empty, h)
+    by (Limited limit) h = (empty, h.0, h.1)
 
 pub asked-grows : (task : Task) (old new : Kept) (key : NodeKey) → KeepsAll old new → IsAskedAt task old key → IsAskedAt task new key
 asked-grows task old new key keeps asked =

@@ -6,16 +6,17 @@ use Rattle.std.specs.declared.cmp.Ordering.TheVariants.{Less}
 use Rattle.px_base.specs.ListLaws.{Contains-none, Contains-first, Contains-later, Contains-one, Contains-cases, AllByRecursion-at}
 use Rattle.px_terms.specs.declared.atom.Atom.{Atom}
 use Rattle.px_terms.specs.declared.problem.Problem.{Problem}
-use Rattle.px_proof.specs.declared.shape.Tick.{Tick}
 use Rattle.px_table.specs.declared.entry.Entry.{Entry}
 use Rattle.px_table.specs.declared.entry.Move.{Move}
 use Rattle.px_table.specs.declared.entry.Move.TheVariants.{Apply, Push}
 use Rattle.px_table.specs.declared.node.Node.{Node}
 use Rattle.px_table.specs.EntryOrder.{order_of_entries}
 use Rattle.px_entries.specs.Entries.{obligations_of}
-use Rattle.px_gaps.specs.Needs.{Obligation, HasAnswer, IsApplicable, IsOpen, IsGapOfNeeds}
+use Rattle.px_gaps.specs.Needs.{HasAnswer, IsApplicable, IsOpen, IsGapOfNeeds}
 use Rattle.px_diff.specs.Pushes.{IsRelevant, IsPushable, LimitsRelevant}
 use Rattle.px_gaps.specs.Questions.{AreUnlimited}
+use Rattle.px_gaps.specs.declared.question.MetLimit.{MetLimit}
+use Rattle.px_gaps.specs.declared.question.Obligation.{Obligation}
 use Rattle.px_gaps.specs.Known.{LimitsNeeds}
 use Rattle.px_ends.specs.Order.{move_cmp}
 use Rattle.px_ends.specs.Tasks.{Task, needs_at, IsRelevantAt, IsAllowed}
@@ -182,12 +183,10 @@ module _ (task : Task) (node : Node) where
         in_pushes entries entry (every entry (record { relevant = (relevant_at entry).0 may.0; open_entry = may.1 }))
 
     -- where a question about what is relevant meets the limit, one of the node does
-    pub limits-open : (formula : List Atom) (shapes : List (List Tick))
-        → LimitsRelevant task.problem task.tables gaps node.stack node.model formula shapes → LimitsNode task node formula shapes
-    limits-open formula shapes l =
-        record { question = l.question; asked = inr (l.entry, (relevant_at l.entry).1 l.relevant, l.asked); met = l.met }
+    pub limits-open : (limit : MetLimit) → LimitsRelevant task.problem task.tables gaps node.stack node.model limit
+        → LimitsNode task node limit
+    limits-open limit l = record { asked = inr (l.entry, (relevant_at l.entry).1 l.relevant, l.asked); met = l.met }
 
   -- where a question about what it needs meets the limit, one of the node does
-  pub limits-needs : (formula : List Atom) (shapes : List (List Tick)) → LimitsNeeds task.problem needs formula shapes
-      → LimitsNode task node formula shapes
-  limits-needs formula shapes l = record { question = l.question; asked = inl l.asked; met = l.met }
+  pub limits-needs : (limit : MetLimit) → LimitsNeeds task.problem needs limit → LimitsNode task node limit
+  limits-needs limit l = record { asked = inl l.asked; met = l.met }

@@ -15,7 +15,7 @@ use Rattle.px_table.specs.declared.entry.Move.TheVariants.{Apply, Push}
 use Rattle.px_table.specs.declared.node.Node.{Node}
 use Rattle.px_table.specs.EntryLaws.{entry_eq-decides}
 use Rattle.px_table.specs.EntryOrder.{entry_eq}
-use Rattle.px_gaps.specs.Questions.{Question}
+use Rattle.px_gaps.specs.declared.question.Question.{Question}
 use Rattle.px_numbers.specs.Numbers.{Kept, KeepsAll}
 use Rattle.px_ends.specs.Order.{move_cmp}
 use Rattle.px_ends.specs.Tasks.{Task, IsRelevantAt, IsAllowed, AsksAt}

@@ -1,12 +1,11 @@
 -- A search has one tree.
 use Rattle.std.proofs.Common.{◌≡◌, ℕ, zero, suc, ◌⊎◌, Option, None, List, [], ◌∷◌, ◌++◌, length, refl, sym, ◌∙◌, ap, subst, inl, inr, arith, Some, slice_get, slice_index_or, take, length-append}
-use Rattle.px_terms.specs.declared.atom.Atom.{Atom}
-use Rattle.px_proof.specs.declared.shape.Tick.{Tick}
 use Rattle.px_table.specs.declared.entry.Entry.{Entry}
 use Rattle.px_table.specs.declared.entry.Move.{Move}
 use Rattle.px_table.specs.declared.entry.Move.TheVariants.{Apply, Push}
 use Rattle.px_table.specs.declared.node.Node.{Node}
-use Rattle.px_gaps.specs.Questions.{Question}
+use Rattle.px_gaps.specs.declared.question.MetLimit.{MetLimit}
+use Rattle.px_gaps.specs.declared.question.Question.{Question}
 use Rattle.px_order.proofs.LawProofs.{exhausted_in_all, one_stop}
 use Rattle.px_order.specs.AnyOrder.{no-more}
 use Rattle.px_order.specs.Ends as order_ends
@@ -105,18 +104,17 @@ module _ (task : Task) (weight : ℕ) where
       within-all found (subst (λ (l : List (List Move)). Begun l) (sym is) (end.picked, end.over.comes))
   within found (More moves) end =
       record { all = found ++ end.last ∷ []; begins = end.stop.begins; rest = end.last ∷ []; all_are = refl }
-  within found (ShapeLimit number) (formula, shapes, first, is) =
-      within-all found (asked-begins found first.moves first.question first.asked)
+  within found (ShapeLimit number) (limit, first, is) = within-all found (asked-begins found first.moves limit.question first.asked)
 
   abbrev pub Same : List (List Move) → List (List Move) → TreeEnd → TreeEnd → Type 0
   Same found lists end other = (found ≡ lists) × (end ≡ other)
 
   -- some question that is asked meets the limit
-  pub not_asked : (found : List (List Move)) (formula : List Atom) (shapes : List (List Tick))
-      → IsFirstLimit task weight found formula shapes → ¬ order_ends.IsUnlimited (space_of task) (order_by task weight) (aim_of task)
-  not_asked found formula shapes first unlimited =
-      unlimited first.moves first.question (asked_of task weight found first.moves first.question first.asked)
-      (formula, shapes, first.met)
+  pub not_asked : (found : List (List Move)) (limit : MetLimit) → IsFirstLimit task weight found limit
+      → ¬ order_ends.IsUnlimited (space_of task) (order_by task weight) (aim_of task)
+  not_asked found limit first unlimited =
+      unlimited first.moves limit.question (asked_of task weight found first.moves limit.question first.asked)
+      (limit.formula, limit.shapes, first.met)
 
   pub one-end : (found lists : List (List Move)) (end other : TreeEnd) → EndsTree task weight found end → EndsTree task weight lists other
       → Same found lists end other
@@ -127,7 +125,7 @@ module _ (task : Task) (weight : ℕ) where
       absurd ((exhausted_in_all (space_of task) (aim_of task)).found (order_by task weight) (order_by task weight) y ms x)
   one-end found lists Solved (More n) (ms, x, is) y =
       absurd ((one_stop (space_of task) (aim_of task)).found_or_node_limit (order_by task weight) linear ms lists n x y)
-  one-end found lists Solved (ShapeLimit n) (ms, x, is) (f, s, y, are) = absurd (not_asked lists f s y x.unlimited)
+  one-end found lists Solved (ShapeLimit n) (ms, x, is) (l, y, are) = absurd (not_asked lists l y x.unlimited)
   one-end found lists Exhausted Solved (x, is) (ns, y, are) =
       absurd ((exhausted_in_all (space_of task) (aim_of task)).found (order_by task weight) (order_by task weight) x ns y)
   one-end found lists Exhausted Exhausted (x, is) (y, are) = (
@@ -144,7 +142,7 @@ module _ (task : Task) (weight : ℕ) where
   )
   one-end found lists Exhausted (More n) (x, is) y =
       absurd ((exhausted_in_all (space_of task) (aim_of task)).node_limit (order_by task weight) (order_by task weight) x lists n y)
-  one-end found lists Exhausted (ShapeLimit n) (x, is) (f, s, y, are) = absurd (not_asked lists f s y x.unlimited)
+  one-end found lists Exhausted (ShapeLimit n) (x, is) (l, y, are) = absurd (not_asked lists l y x.unlimited)
   one-end found lists (More n) Solved x (ns, y, are) =
       absurd ((one_stop (space_of task) (aim_of task)).found_or_node_limit (order_by task weight) linear ns found n y x)
   one-end found lists (More n) Exhausted x (y, are) =
@@ -152,20 +150,21 @@ module _ (task : Task) (weight : ℕ) where
   one-end found lists (More n) (More k) x y =
       let same = (one_stop (space_of task) (aim_of task)).node_limit (order_by task weight) linear found lists n k x y in
       (same.0, ap More same.1)
-  one-end found lists (More n) (ShapeLimit k) x (f, s, y, are) = absurd (not_asked lists f s y x.unlimited)
-  one-end found lists (ShapeLimit n) Solved (f, s, x, is) (ns, y, are) = absurd (not_asked found f s x y.unlimited)
-  one-end found lists (ShapeLimit n) Exhausted (f, s, x, is) (y, are) = absurd (not_asked found f s x y.unlimited)
-  one-end found lists (ShapeLimit n) (More k) (f, s, x, is) y = absurd (not_asked found f s x y.unlimited)
-  one-end found lists (ShapeLimit n) (ShapeLimit k) (f, s, x, is) (g, t, y, are) = (
-    begins-same found lists (asked-begins found x.moves x.question x.asked) (asked-begins lists y.moves y.question y.asked) long,
-    ap ShapeLimit (is ∙ limit-count task.problem x.question f s x.met ∙ sym (limit-count task.problem y.question g t y.met) ∙ sym are),
+  one-end found lists (More n) (ShapeLimit k) x (l, y, are) = absurd (not_asked lists l y x.unlimited)
+  one-end found lists (ShapeLimit n) Solved (l, x, is) (ns, y, are) = absurd (not_asked found l x y.unlimited)
+  one-end found lists (ShapeLimit n) Exhausted (l, x, is) (y, are) = absurd (not_asked found l x y.unlimited)
+  one-end found lists (ShapeLimit n) (More k) (l, x, is) y = absurd (not_asked found l x y.unlimited)
+  one-end found lists (ShapeLimit n) (ShapeLimit k) (l, x, is) (m, y, are) = (
+    begins-same found lists (asked-begins found x.moves l.question x.asked) (asked-begins lists y.moves m.question y.asked) long,
+    ap ShapeLimit (is ∙ limit-count task.problem l.question l.formula l.shapes x.met
+        ∙ sym (limit-count task.problem m.question m.formula m.shapes y.met) ∙ sym are),
   )
     where
       long : length found ≡ length lists
       long = elim (order_of (length found) (length lists)) [
-        | inl less ↦ absurd (y.first found x.moves x.question less x.asked f s x.met)
+        | inl less ↦ absurd (y.first found x.moves l.question less x.asked l.formula l.shapes x.met)
         | inr high ↦ elim (order_of (length lists) (length found)) [
-          | inl less ↦ absurd (x.first lists y.moves y.question less y.asked g t y.met)
+          | inl less ↦ absurd (x.first lists y.moves m.question less y.asked m.formula m.shapes y.met)
           | inr low ↦ omega (arith, high, low)
         ]
       ]

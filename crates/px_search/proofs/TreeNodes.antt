@@ -9,7 +9,7 @@ use Rattle.px_table.specs.declared.node.Node.{Node}
 use Rattle.px_entries.specs.Entries.{IsEntry}
 use Rattle.px_numbers.specs.declared.nodes.NodeKey.{NodeKey}
 use Rattle.px_numbers.specs.declared.stacks.Frame.{Frame}
-use Rattle.px_gaps.specs.Questions.{Question}
+use Rattle.px_gaps.specs.declared.question.Question.{Question}
 use Rattle.px_numbers.specs.NumberLaws.{one_at}
 use Rattle.px_numbers.specs.Numbers.{Kept, IsKeyOf, IsTopOf}
 use Rattle.px_order.specs.Places.{contains_place, place-within-list, push-cases, still_there}
@@ -260,13 +260,12 @@ module _ (task : Task) (kept : Kept) where
       found = limited.found;
       count =
           let long = counted task kept keys origins limited.found limited.are.numbered in
-          all (omega (arith, long, asked-room limited.found limited.first.moves limited.first.question limited.first.asked)) ∙ sym long;
+          all (omega (arith, long, asked-room limited.found limited.first.moves limit.met.question limited.first.asked)) ∙ sym long;
       nodes = tells limited.found limited.are;
       end = (
-        limit.formula,
-        limit.shapes,
+        limit.met,
         limited.first,
-        sym (limit-count task.problem limited.first.question limit.formula limit.shapes limited.first.met),
+        sym (limit-count task.problem limit.met.question limit.met.formula limit.met.shapes limited.first.met),
       );
     }
 

@@ -3,7 +3,8 @@ use Rattle.std.proofs.Common.{◌≡◌, ℕ, suc, ◌<◌, ◌⊎◌, List, [],
 use Rattle.std.proofs.lemmas.List.Elements.{Contains-push_cases}
 use Rattle.px_base.specs.ListLaws.{Contains-cases}
 use Rattle.px_table.specs.declared.entry.Move.{Move}
-use Rattle.px_gaps.specs.Questions.{Question, MeetsLimit}
+use Rattle.px_gaps.specs.Questions.{MeetsLimit}
+use Rattle.px_gaps.specs.declared.question.Question.{Question}
 use Rattle.px_order.proofs.LawProofs.{asked_by_run}
 use Rattle.px_order.specs.Ends as order_ends
 use Rattle.px_order.specs.Places.{contains_place, place_of, push-cases, some-one}

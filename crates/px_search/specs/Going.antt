@@ -6,7 +6,9 @@ use Rattle.px_proof.specs.declared.shape.Tick.{Tick}
 use Rattle.px_table.specs.declared.entry.Move.{Move}
 use Rattle.px_table.specs.declared.node.Node.{Node}
 use Rattle.px_entries.specs.Entries.{IsEntry}
-use Rattle.px_gaps.specs.Questions.{Question, MeetsLimit}
+use Rattle.px_gaps.specs.Questions.{IsMetLimit, MeetsLimit}
+use Rattle.px_gaps.specs.declared.question.MetLimit.{MetLimit}
+use Rattle.px_gaps.specs.declared.question.Question.{Question}
 use Rattle.px_gaps.specs.declared.known.Tried.TheVariants.{Unanswered}
 use Rattle.px_numbers.specs.declared.nodes.NodeKey.{NodeKey}
 use Rattle.px_numbers.specs.Numbers.{Kept, IsKeyOf}
@@ -17,11 +19,10 @@ use Rattle.px_ends.specs.Order.{move_cmp}
 use Rattle.px_search.specs.Steps.{AreStepsOf}
 use Rattle.px_ends.specs.Tasks.{Task, IsAllowed, AsksAt}
 
--- a question of the node meets the limit at the formula, by these shapes
-pub record LimitsNode (task : Task) (node : Node) (formula : List Atom) (shapes : List (List Tick)) : Type 0 where
-  pub question : Question
-  pub asked : AsksAt task node question
-  pub met : MeetsLimit task.problem question formula shapes
+-- the question is one of the node, and meets the limit
+pub record LimitsNode (task : Task) (node : Node) (limit : MetLimit) : Type 0 where
+  pub asked : AsksAt task node limit.question
+  pub met : IsMetLimit task.problem limit
 
 -- the moves of a node, in order
 pub record AreMovesOf (task : Task) (node : Node) (moves : List Move) : Type 0 where
@@ -67,6 +68,6 @@ pub record IsAskedAt (task : Task) (kept : Kept) (key : NodeKey) : Type 0 where
 abbrev pub BeginsAt : Task → Kept → Kept → NodeKey → Begun → Type 0
 BeginsAt task old new key begun = (node : Node) → IsKeyOf old key node → IsBegunOn task new node begun.steps.items begun.is_all
 
--- a question of the node of the pair meets the limit
-abbrev pub LimitsAt : Task → Kept → NodeKey → List Atom → List (List Tick) → Type 0
-LimitsAt task kept key formula shapes = (node : Node) → IsKeyOf kept key node → LimitsNode task node formula shapes
+-- the question is one of the node of the pair, and meets the limit
+abbrev pub LimitsAt : Task → Kept → NodeKey → MetLimit → Type 0
+LimitsAt task kept key limit = (node : Node) → IsKeyOf kept key node → LimitsNode task node limit

@@ -72,7 +72,7 @@ pub record Trying (task : Task) (kept : Kept) (keys : List NodeKey) (origins : L
 abbrev pub IsEnd : Task → SearchErr → Type 0
 IsEnd task Exhausted = IsExhausted task task.problem.weight
 IsEnd task (NodeLimit nodes moves) = IsNodeLimit task task.problem.weight nodes moves
-IsEnd task (ShapeLimit node formula shapes) = IsShapeLimit task task.problem.weight node formula shapes
+IsEnd task (ShapeLimit node limit) = IsShapeLimit task task.problem.weight node limit
 IsEnd task NoMemory = Unit {0}
 
 -- these are the lists that a search has found, and the pairs are their nodes
@@ -96,11 +96,11 @@ pub record IsFull (task : Task) (kept : Kept) (keys : List NodeKey) (origins : L
   pub end : EndsTree task task.problem.weight found (tree_end.More moves)
   pub are : AreFoundBy task kept keys origins (found ++ end.last ∷ [])
 
--- a question that is asked at the node of the pair is the first that meets the limit
+-- the question is asked at the node of the pair, and is the first that meets the limit
 pub record IsLimitedAt (task : Task) (kept : Kept) (keys : List NodeKey) (origins : List Origin) (limit : Limit) : Type 0 where
   pub found : List (List Move)
   pub are : AreFoundBy task kept keys origins found
-  pub first : IsFirstLimit task task.problem.weight found limit.formula limit.shapes
+  pub first : IsFirstLimit task task.problem.weight found limit.met
   pub stands : IsKeyOf kept limit.key (node_of task first.moves)
 
 -- what moves came to, where `goes` is what is known if none of the nodes is solved

@@ -5,8 +5,8 @@ use Rattle.px_terms.specs.Operators.{results_of}
 use Rattle.px_table.specs.declared.entry.Entry.{Entry}
 use Rattle.px_entries.specs.Entries.{IsEntry, effect_of}
 use Rattle.px_entries.specs.Unlimited.{IsNeverLimited}
-use Rattle.px_gaps.specs.Outcomes.{AtLimit}
-use Rattle.px_gaps.specs.declared.ask_err.AskErr.{AskErr}
+use Rattle.px_diff.specs.Outcomes.{AtStop}
+use Rattle.px_diff.specs.declared.move_err.MoveErr.{MoveErr}
 use Rattle.px_numbers.specs.Numbers.{Kept, IsModelAt, IsStackAt, KeepsAll}
 use Rattle.px_ends.specs.Tasks.{Task}
 use Rattle.px_search.specs.Going.{IsBegunOn}
@@ -60,6 +60,6 @@ pub record HaveGrown (task : Task) (old new : Notes) : Type 0 where
   pub right : AreRight task new
 
 -- the fact is true, unless memory ran out
-abbrev pub OnAnswer : {A : Type 0} → Result A AskErr → Type 0 → Type 0
+abbrev pub OnAnswer : {A : Type 0} → Result A MoveErr → Type 0 → Type 0
 OnAnswer (Ok answer) P = P
-OnAnswer (Err error) P = AtLimit error (λ formula shapes. P)
+OnAnswer (Err error) P = AtStop error (λ limit. P)

@@ -4,7 +4,8 @@ use Rattle.px_terms.specs.declared.atom.Atom.{Atom}
 use Rattle.px_proof.specs.declared.shape.Tick.{Tick}
 use Rattle.px_table.specs.declared.entry.Move.{Move}
 use Rattle.px_table.specs.declared.node.Node.{Node}
-use Rattle.px_gaps.specs.Questions.{Question, MeetsLimit}
+use Rattle.px_gaps.specs.Questions.{MeetsLimit}
+use Rattle.px_gaps.specs.declared.question.Question.{Question}
 use Rattle.px_order.specs.Runs.{Comes, IsDone, Reaches}
 use Rattle.px_order.specs.Spaces.{Order}
 use Rattle.px_ends.specs.ByValue.{order_by, space_of}

@@ -2,7 +2,7 @@
 ghost use Rattle.std.specs.Prelude.{◌≡◌, ◌∷◌, [], IfOk};
 ghost use Rattle.px_entries.specs.Entries.{IsEntry, obligations_of};
 ghost use Rattle.px_gaps.specs.Known.{IsKnownOf, IsOpenWith};
-ghost use Rattle.px_gaps.specs.Outcomes.{IfLimit};
+ghost use Rattle.px_diff.specs.Outcomes.{IfStopped};
 ghost use Rattle.px_numbers.specs.Numbers.{IsKeyOf, IsModelAt, KeepsAll};
 ghost use Rattle.px_ends.specs.Tasks.{needs_at, needs_with};
 ghost use Rattle.px_support.specs.Asking.{IsAskable, task_for};
@@ -14,9 +14,9 @@ ghost use Rattle.px_table.specs.declared.node.Node.{Node};
 use crate::notes::Notes;
 use crate::picks::numbered;
 use crate::step::Step;
-use px_diff::relevant;
+use px_diff::{MoveErr, relevant};
 use px_entries::{known_below, known_entry};
-use px_gaps::{AskErr, Known, known_formula};
+use px_gaps::{Known, known_formula};
 use px_numbers::{NodeKey, Numbers, stack_at};
 use px_ops::Model;
 use px_support::Asked;
@@ -40,13 +40,13 @@ pub fn pushes(
     model: &Model,
     stack: &[Entry],
     gaps: &[Atom],
-) -> Result<Vec<Step>, AskErr>
+) -> Result<Vec<Step>, MoveErr>
     requires asked { IsAskable asked.now }
     requires gaps { IsOpenWith asked.now.problem.now (needs_with (task_for asked.now) model.now.atoms stack.now) gaps.now }
     ensures keeps { KeepsAll numbers.old numbers.new }
     ensures steps { IfOk result (λ steps. IsGoneOn (task_for asked.now) numbers.new (record { model = model.now.atoms; stack = stack.now })
         steps.items) }
-    ensures limited { IfLimit result (LimitsNode (task_for asked.now) (record { model = model.now.atoms; stack = stack.now })) }
+    ensures limited { IfStopped result (LimitsNode (task_for asked.now) (record { model = model.now.atoms; stack = stack.now })) }
 {
     match relevant(asked.alloc, asked.problem, gaps, stack, model, asked.tables) {
         Ok(entries) => {
@@ -91,20 +91,20 @@ impl Notes {
     ///
     /// # Errors
     /// `ShapeLimit` where a question of the node meets the limit. `NoMemory` where there is no memory.
-    pub fn all_steps_from(&mut self, asked: &Asked, key: NodeKey) -> Result<Vec<Step>, AskErr>
+    pub fn all_steps_from(&mut self, asked: &Asked, key: NodeKey) -> Result<Vec<Step>, MoveErr>
         requires asked { IsAskable asked.now }
         requires notes { AreRight (task_for asked.now) self.old }
         requires node { IsAskedAt (task_for asked.now) self.old.numbers key }
         ensures notes { OnAnswer result (HaveGrown (task_for asked.now) self.old self.new) }
         ensures steps { IfOk result (λ steps. (node : Node) → IsKeyOf self.old.numbers key node
             → IsGoneOn (task_for asked.now) self.new.numbers node steps.items) }
-        ensures limited { IfLimit result (LimitsAt (task_for asked.now) self.old.numbers key) }
+        ensures limited { IfStopped result (LimitsAt (task_for asked.now) self.old.numbers key) }
     {
         let model = self.numbers.model(asked.alloc, key.model)?;
         let stack = stack_at(asked.alloc, &self.numbers, key.stack)?;
         let known = self.known_at(asked, &model, key)?;
         match known {
-            Known::Limited { formula, shapes } => Err(AskErr::ShapeLimit { formula, shapes }),
+            Known::Limited(limit) => Err(MoveErr::ShapeLimit(limit)),
             Known::Closed => Ok(Vec::new(asked.alloc)),
             Known::Applicable => {
                 let only = only_apply(asked.alloc)?;

@@ -21,7 +21,8 @@ use crate::progress::{Limit, Progress, SearchOutcome};
 use crate::scene::Scene;
 use crate::step::{Origin, Step};
 use crate::tried::try_node;
-use px_gaps::{AskErr, Tried};
+use px_diff::MoveErr;
+use px_gaps::Tried;
 use px_numbers::{FirstNodes, NodeKey, NodeSet, Numbers, node_at};
 use px_support::Asked;
 use px_table::Move;
@@ -32,20 +33,12 @@ use std::alloc::Global;
 fn limit_at(asked: &Asked, numbers: &Numbers, limit: Limit) -> SearchErr
     requires { (node : Node) × IsKeyOf numbers.now limit.key node }
     ensures { (node : Node) → IsKeyOf numbers.now limit.key node
-        → IsShapeLimit (task_for asked.now) asked.now.problem.now.weight node limit.formula limit.shapes
+        → IsShapeLimit (task_for asked.now) asked.now.problem.now.weight node limit.met
         → IsEnd (task_for asked.now) result }
 {
-    let Limit {
-        key,
-        formula,
-        shapes,
-    } = limit;
+    let Limit { key, met } = limit;
     match node_at(asked.alloc, numbers, key) {
-        Ok(node) => SearchErr::ShapeLimit {
-            node,
-            formula,
-            shapes,
-        },
+        Ok(node) => SearchErr::ShapeLimit { node, limit: met },
         Err(_) => SearchErr::NoMemory,
     }
 }
@@ -148,11 +141,7 @@ impl Explored {
                     .go_on(asked, &self.notes.numbers, origin, there)?;
                 Ok(Progress::Unsolved)
             }
-            Tried::Limited { formula, shapes } => Ok(Progress::Limited(Limit {
-                key: there,
-                formula,
-                shapes,
-            })),
+            Tried::Limited(met) => Ok(Progress::Limited(Limit { key: there, met })),
         }
     }
 
@@ -204,8 +193,8 @@ impl Explored {
         let key = self.nodes.node(next);
         let steps = match self.notes.all_steps_from(asked, key) {
             Ok(steps) => steps,
-            Err(AskErr::ShapeLimit { .. }) => unreachable!(),
-            Err(AskErr::NoMemory) => return Err(NoMemory),
+            Err(MoveErr::ShapeLimit(_)) => unreachable!(),
+            Err(MoveErr::NoMemory) => return Err(NoMemory),
         };
         let progress = self.make_all(asked, next, &steps, from)?;
         Ok(progress)
@@ -225,14 +214,8 @@ impl Explored {
         let key = self.nodes.node(next);
         let begun = match self.notes.begun_from(asked, &mut self.scene, key) {
             Ok(begun) => begun,
-            Err(AskErr::ShapeLimit { formula, shapes }) => {
-                return Ok(Progress::Limited(Limit {
-                    key,
-                    formula,
-                    shapes,
-                }));
-            }
-            Err(AskErr::NoMemory) => return Err(NoMemory),
+            Err(MoveErr::ShapeLimit(met)) => return Ok(Progress::Limited(Limit { key, met })),
+            Err(MoveErr::NoMemory) => return Err(NoMemory),
         };
         let progress = self.make_all(asked, next, &begun.steps, 0)?;
         match progress {
@@ -314,11 +297,7 @@ impl Explored {
         match tried {
             Tried::Answered => Ok(Progress::Solved),
             Tried::Unanswered => self.walk_from(asked, start),
-            Tried::Limited { formula, shapes } => Ok(Progress::Limited(Limit {
-                key: start,
-                formula,
-                shapes,
-            })),
+            Tried::Limited(met) => Ok(Progress::Limited(Limit { key: start, met })),
         }
     }
 

@@ -2,10 +2,10 @@
 ghost use Rattle.std.specs.Prelude.{◌≡◌};
 ghost use Rattle.px_search.specs.declared.ends.SearchErr.TheVariants.{NoMemory as OutOfMemory};
 
+use px_gaps::MetLimit;
 use px_numbers::FirstNodes;
-use px_proof::Shape;
 use px_table::{Move, Node, Row};
-use px_terms::{Atom, NoMemory, OpInst, Sequence};
+use px_terms::{NoMemory, OpInst, Sequence};
 use std::alloc::AllocFailed;
 use std::fmt;
 use thiserror::Error;
@@ -41,10 +41,8 @@ pub enum SearchErr {
     ShapeLimit {
         /// Where it was asked.
         node: Node,
-        /// The formula at which the limit is met.
-        formula: Sequence<Atom>,
-        /// The first shapes, as many as the limit.
-        shapes: Sequence<Shape>,
+        /// The question, with the formula at which the limit is met and the first shapes.
+        limit: MetLimit,
     },
     /// There is no memory for the search.
     #[error("out of memory")]

@@ -11,8 +11,8 @@
 //!   of the moves (`MovesRows`). The rows are a support of the steps, and the initial model carries these to the goal (`Supports`,
 //!   `Carries`): `build` of `px_table` makes the plan's table of them.
 //! - Or `Exhausted`, where no list of moves reaches a solved node and all nodes fit the limit (`IsExhausted`); `NodeLimit` with the
-//!   first nodes themselves (`IsNodeLimit`); `ShapeLimit` with the node of a question that meets the limit of shapes, the formula
-//!   and its first shapes (`IsShapeLimit`); or `NoMemory`.
+//!   first nodes themselves (`IsNodeLimit`); `ShapeLimit` with a question that meets the limit of shapes, its node and its first
+//!   shapes (`IsShapeLimit`, `MetLimit` of `px_gaps`); or `NoMemory`.
 //! - Each of these comes exactly where its definition holds, but for `NoMemory`: where a task has one of the first three ends, this
 //!   is the answer, or memory ran out; and where a question that is asked meets the limit, the answer is some such question.
 //! - Which questions are asked is what the definition says (`IsAsked`): those of each node that is picked up to the one from which the

@@ -5,7 +5,7 @@ ghost use Rattle.px_gaps.specs.declared.known.Tried.TheVariants.{Unanswered};
 ghost use Rattle.px_table.specs.declared.entry.Entry.{Entry};
 ghost use Rattle.px_table.specs.declared.node.Node.{Node};
 ghost use Rattle.px_entries.specs.Entries.{IsEntry};
-ghost use Rattle.px_gaps.specs.Outcomes.{IfLimit};
+ghost use Rattle.px_diff.specs.Outcomes.{IfStopped};
 ghost use Rattle.px_numbers.specs.Numbers.{IsKeyOf, IsTopOf, KeepsAll};
 ghost use Rattle.px_support.specs.Asking.{IsAskable, task_for};
 ghost use Rattle.px_search.specs.Asking.{IsTriedAt};
@@ -21,7 +21,8 @@ use crate::notes::{EntryPlace, Notes, Offer};
 use crate::picks::struck;
 use crate::scene::Scene;
 use crate::step::Step;
-use px_gaps::{AskErr, Known, known_formula};
+use px_diff::MoveErr;
+use px_gaps::{Known, known_formula};
 use px_numbers::{Frame, NodeKey, Numbers, stack_at};
 use px_ops::Model;
 use px_support::Asked;
@@ -44,13 +45,13 @@ fn all_pushes(
     model: &Model,
     stack: &[Entry],
     gaps: &[Atom],
-) -> Result<Begun, AskErr>
+) -> Result<Begun, MoveErr>
     requires asked { IsAskable asked.now }
     requires gaps { IsOpenWith asked.now.problem.now (needs_with (task_for asked.now) model.now.atoms stack.now) gaps.now }
     ensures keeps { KeepsAll numbers.old numbers.new }
     ensures steps { IfOk result (λ begun. IsBegunOn (task_for asked.now) numbers.new (record { model = model.now.atoms; stack = stack.now })
         begun.steps.items begun.is_all) }
-    ensures limited { IfLimit result (LimitsNode (task_for asked.now) (record { model = model.now.atoms; stack = stack.now })) }
+    ensures limited { IfStopped result (LimitsNode (task_for asked.now) (record { model = model.now.atoms; stack = stack.now })) }
 {
     match pushes(asked, numbers, model, stack, gaps) {
         Ok(steps) => Ok(Begun {
@@ -71,7 +72,7 @@ impl Notes {
         asked: &Asked,
         scene: &mut Scene,
         key: NodeKey,
-    ) -> Result<Begun, AskErr>
+    ) -> Result<Begun, MoveErr>
         requires asked { IsAskable asked.now }
         requires notes { AreRight (task_for asked.now) self.old }
         requires scene { IsScene (task_for asked.now) self.old.numbers scene.old }
@@ -79,7 +80,7 @@ impl Notes {
         ensures notes { OnAnswer result (HaveGrown (task_for asked.now) self.old self.new) }
         ensures scene { OnAnswer result (IsScene (task_for asked.now) self.new.numbers scene.new) }
         ensures steps { IfOk result (BeginsAt (task_for asked.now) self.old.numbers self.new.numbers key) }
-        ensures limited { IfLimit result (LimitsAt (task_for asked.now) self.old.numbers key) }
+        ensures limited { IfStopped result (LimitsAt (task_for asked.now) self.old.numbers key) }
     {
         let kept = self.kept_steps(asked, key)?;
         if let Some(begun) = kept {
@@ -116,14 +117,14 @@ impl Notes {
     }
 
     /// Returns the first moves of a node of which nothing is kept, in the scene of its model.
-    fn steps_anew(&mut self, asked: &Asked, scene: &Scene, key: NodeKey) -> Result<Begun, AskErr>
+    fn steps_anew(&mut self, asked: &Asked, scene: &Scene, key: NodeKey) -> Result<Begun, MoveErr>
         requires asked { IsAskable asked.now }
         requires notes { AreRight (task_for asked.now) self.old }
         requires scene { IsSceneAt (task_for asked.now) self.old.numbers key.model scene.now }
         requires node { IsAskedAt (task_for asked.now) self.old.numbers key }
         ensures notes { OnAnswer result (HaveGrown (task_for asked.now) self.old self.new) }
         ensures steps { IfOk result (BeginsAt (task_for asked.now) self.old.numbers self.new.numbers key) }
-        ensures limited { IfLimit result (LimitsAt (task_for asked.now) self.old.numbers key) }
+        ensures limited { IfStopped result (LimitsAt (task_for asked.now) self.old.numbers key) }
     {
         match self.numbers.top(key.stack) {
             None => self.goal_steps(asked, scene, key),
@@ -132,7 +133,7 @@ impl Notes {
     }
 
     /// Returns the first moves of a node without a stack, whose goal has no answer.
-    fn goal_steps(&mut self, asked: &Asked, scene: &Scene, key: NodeKey) -> Result<Begun, AskErr>
+    fn goal_steps(&mut self, asked: &Asked, scene: &Scene, key: NodeKey) -> Result<Begun, MoveErr>
         requires asked { IsAskable asked.now }
         requires notes { AreRight (task_for asked.now) self.old }
         requires scene { IsSceneAt (task_for asked.now) self.old.numbers key.model scene.now }
@@ -140,7 +141,7 @@ impl Notes {
             × IsTriedAt (task_for asked.now) node Unanswered }
         ensures notes { OnAnswer result (HaveGrown (task_for asked.now) self.old self.new) }
         ensures steps { IfOk result (BeginsAt (task_for asked.now) self.old.numbers self.new.numbers key) }
-        ensures limited { IfLimit result (LimitsAt (task_for asked.now) self.old.numbers key) }
+        ensures limited { IfStopped result (LimitsAt (task_for asked.now) self.old.numbers key) }
     {
         let known = known_formula(
             asked.alloc,
@@ -150,7 +151,7 @@ impl Notes {
             &scene.model,
         )?;
         match known {
-            Known::Limited { formula, shapes } => Err(AskErr::ShapeLimit { formula, shapes }),
+            Known::Limited(limit) => Err(MoveErr::ShapeLimit(limit)),
             Known::Applicable => unreachable!(),
             Known::Closed => Ok(Begun {
                 steps: Vec::new(asked.alloc),
@@ -167,7 +168,7 @@ impl Notes {
         scene: &Scene,
         key: NodeKey,
         frame: Frame,
-    ) -> Result<Begun, AskErr>
+    ) -> Result<Begun, MoveErr>
         requires asked { IsAskable asked.now }
         requires notes { AreRight (task_for asked.now) self.old }
         requires scene { IsSceneAt (task_for asked.now) self.old.numbers key.model scene.now }
@@ -175,7 +176,7 @@ impl Notes {
             × All (IsEntry asked.now.problem.now asked.now.tables.now) node.stack × IsTopOf self.old.numbers node.stack (Some frame) }
         ensures notes { OnAnswer result (HaveGrown (task_for asked.now) self.old self.new) }
         ensures steps { IfOk result (BeginsAt (task_for asked.now) self.old.numbers self.new.numbers key) }
-        ensures limited { IfLimit result (LimitsAt (task_for asked.now) self.old.numbers key) }
+        ensures limited { IfStopped result (LimitsAt (task_for asked.now) self.old.numbers key) }
     {
         let stack = stack_at(asked.alloc, &self.numbers, key.stack)?;
         let top = self.numbers.entry(frame.entry);
@@ -190,7 +191,7 @@ impl Notes {
             stack: stack.as_slice(),
         };
         match known {
-            Known::Limited { formula, shapes } => Err(AskErr::ShapeLimit { formula, shapes }),
+            Known::Limited(limit) => Err(MoveErr::ShapeLimit(limit)),
             Known::Closed => {
                 let nothing = Vec::new(asked.alloc);
                 let none = self.kept_over(asked, &here, nothing, true)?;
@@ -237,7 +238,7 @@ impl Notes {
         asked: &Asked,
         scene: &Scene,
         gaps: &[Atom],
-    ) -> Result<Begun, AskErr>
+    ) -> Result<Begun, MoveErr>
         requires asked { IsAskable asked.now }
         requires notes { AreRight (task_for asked.now) self.old }
         requires part { IsPartAt (task_for asked.now) self.old.numbers scene.now.part scene.now.model.atoms }
@@ -245,20 +246,20 @@ impl Notes {
         ensures notes { OnAnswer result (HaveGrown (task_for asked.now) self.old self.new) }
         ensures steps { IfOk result (λ begun. IsBegunOn (task_for asked.now) self.new.numbers
             (record { model = scene.now.model.atoms; stack = [] }) begun.steps.items begun.is_all) }
-        ensures limited { IfLimit result (LimitsNode (task_for asked.now) (record { model = scene.now.model.atoms; stack = [] })) }
+        ensures limited { IfStopped result (LimitsNode (task_for asked.now) (record { model = scene.now.model.atoms; stack = [] })) }
     {
         match self.pushes_offered(asked, scene, 0, gaps) {
             Ok(begun) => Ok(begun),
-            Err(AskErr::ShapeLimit { .. }) => {
+            Err(MoveErr::ShapeLimit(_)) => {
                 all_pushes(asked, &mut self.numbers, &scene.model, &[], gaps)
             }
-            Err(AskErr::NoMemory) => Err(AskErr::NoMemory),
+            Err(MoveErr::NoMemory) => Err(MoveErr::NoMemory),
         }
     }
 
     /// Returns the first pushes for the gaps of the top entry. Those over the entry alone are kept. Where a question about these meets the
     /// limit, one about the node's may still not: an entry on its stack isn't asked about.
-    fn pushes_over(&mut self, asked: &Asked, here: &Here, gaps: &[Atom]) -> Result<Begun, AskErr>
+    fn pushes_over(&mut self, asked: &Asked, here: &Here, gaps: &[Atom]) -> Result<Begun, MoveErr>
         requires asked { IsAskable asked.now }
         requires notes { AreRight (task_for asked.now) self.old }
         requires here { IsHere (task_for asked.now) self.old.numbers here.now }
@@ -266,7 +267,7 @@ impl Notes {
         ensures notes { OnAnswer result (HaveGrown (task_for asked.now) self.old self.new) }
         ensures steps { IfOk result (λ begun. IsBegunOn (task_for asked.now) self.new.numbers (node_here here.now) begun.steps.items
             begun.is_all) }
-        ensures limited { IfLimit result (LimitsNode (task_for asked.now) (node_here here.now)) }
+        ensures limited { IfStopped result (LimitsNode (task_for asked.now) (node_here here.now)) }
     {
         let alone = self.numbers.pushed(here.place.entry, 0)?;
         match self.pushes_offered(asked, here.scene, alone, gaps) {
@@ -274,7 +275,7 @@ impl Notes {
                 let over = self.kept_over(asked, here, begun.steps, begun.is_all)?;
                 Ok(over)
             }
-            Err(AskErr::ShapeLimit { .. }) => {
+            Err(MoveErr::ShapeLimit(_)) => {
                 all_pushes(
                     asked,
                     &mut self.numbers,
@@ -283,7 +284,7 @@ impl Notes {
                     gaps,
                 )
             }
-            Err(AskErr::NoMemory) => Err(AskErr::NoMemory),
+            Err(MoveErr::NoMemory) => Err(MoveErr::NoMemory),
         }
     }
 }

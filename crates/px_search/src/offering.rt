@@ -17,8 +17,9 @@ use crate::notes::{Notes, Offer, Want};
 use crate::picks::{numbered, struck};
 use crate::scene::Scene;
 use crate::step::Step;
-use px_diff::{First, relevance_over_models, relevance_over_stacks, relevant, relevant_first};
-use px_gaps::AskErr;
+use px_diff::{
+    First, MoveErr, relevance_over_models, relevance_over_stacks, relevant, relevant_first,
+};
 use px_ops::Model;
 use px_support::Asked;
 use px_terms::{Atom, NoMemory, Sequence};
@@ -51,7 +52,7 @@ fn enough_of(asked: &Asked) -> usize {
 }
 
 /// Returns all entries that may be pushed for one of the atoms over the empty stack, in order.
-fn all_entries_for(asked: &Asked, model: &Model, wanted: &[Atom]) -> Result<First, AskErr>
+fn all_entries_for(asked: &Asked, model: &Model, wanted: &[Atom]) -> Result<First, MoveErr>
     requires asked { IsAskable asked.now }
     ensures first { IfOk result (λ first. AreFirstOffers (task_for asked.now) model.now.atoms wanted.now first.entries.items first.is_all) }
     ensures unlimited { IfOk result (λ first. AreUnlimitedOver asked.now.problem.now asked.now.tables.now wanted.now model.now.atoms []) }
@@ -68,7 +69,7 @@ fn all_entries_for(asked: &Asked, model: &Model, wanted: &[Atom]) -> Result<Firs
 impl Notes {
     /// Returns the first of the entries that may be pushed for one of the atoms over the empty stack, in order: as many as a node may have
     /// room for.
-    fn entries_for(&self, asked: &Asked, model: &Model, wanted: &[Atom]) -> Result<First, AskErr>
+    fn entries_for(&self, asked: &Asked, model: &Model, wanted: &[Atom]) -> Result<First, MoveErr>
         requires asked { IsAskable asked.now }
         requires notes { AreRight (task_for asked.now) self.now }
         requires model { IsAtomSet model.now.atoms }
@@ -98,7 +99,7 @@ impl Notes {
         asked: &Asked,
         model: &Model,
         wanted: &[Atom],
-    ) -> Result<Begun, AskErr>
+    ) -> Result<Begun, MoveErr>
         requires asked { IsAskable asked.now }
         requires notes { AreRight (task_for asked.now) self.old }
         requires model { IsAtomSet model.now.atoms }
@@ -117,7 +118,7 @@ impl Notes {
 
     // Alike: `offer` below, which promises the same and finds only what isn't kept.
     /// Returns the first pushes for the atom, after finding and keeping them.
-    fn offer_anew(&mut self, asked: &Asked, scene: &Scene, want: &Want) -> Result<Begun, AskErr>
+    fn offer_anew(&mut self, asked: &Asked, scene: &Scene, want: &Want) -> Result<Begun, MoveErr>
         requires asked { IsAskable asked.now }
         requires notes { AreRight (task_for asked.now) self.old }
         requires part { IsPartAt (task_for asked.now) self.old.numbers want.now.part scene.now.model.atoms }
@@ -137,12 +138,12 @@ impl Notes {
         relevance_over_models();
         match self.wants.insert(*want, offer) {
             Ok(_) => Ok(begun),
-            Err(_) => Err(AskErr::NoMemory),
+            Err(_) => Err(MoveErr::NoMemory),
         }
     }
 
     /// Returns the first pushes for the atom, as they are kept, or found and then kept.
-    fn offer(&mut self, asked: &Asked, scene: &Scene, want: &Want) -> Result<Begun, AskErr>
+    fn offer(&mut self, asked: &Asked, scene: &Scene, want: &Want) -> Result<Begun, MoveErr>
         requires asked { IsAskable asked.now }
         requires notes { AreRight (task_for asked.now) self.old }
         requires part { IsPartAt (task_for asked.now) self.old.numbers want.now.part scene.now.model.atoms }
@@ -166,7 +167,7 @@ impl Notes {
         asked: &Asked,
         scene: &Scene,
         gaps: &[Atom],
-    ) -> Result<Option<Vec<Step>>, AskErr>
+    ) -> Result<Option<Vec<Step>>, MoveErr>
         requires asked { IsAskable asked.now }
         requires notes { AreRight (task_for asked.now) self.old }
         requires part { IsPartAt (task_for asked.now) self.old.numbers scene.now.part scene.now.model.atoms }
@@ -192,7 +193,7 @@ impl Notes {
     }
 
     /// Returns the first pushes for one of the atoms over the empty stack, in order.
-    fn offered(&mut self, asked: &Asked, scene: &Scene, gaps: &[Atom]) -> Result<Begun, AskErr>
+    fn offered(&mut self, asked: &Asked, scene: &Scene, gaps: &[Atom]) -> Result<Begun, MoveErr>
         requires asked { IsAskable asked.now }
         requires notes { AreRight (task_for asked.now) self.old }
         requires part { IsPartAt (task_for asked.now) self.old.numbers scene.now.part scene.now.model.atoms }
@@ -231,7 +232,7 @@ impl Notes {
         scene: &Scene,
         stack: u32,
         gaps: &[Atom],
-    ) -> Result<Begun, AskErr>
+    ) -> Result<Begun, MoveErr>
         requires asked { IsAskable asked.now }
         requires notes { AreRight (task_for asked.now) self.old }
         requires part { IsPartAt (task_for asked.now) self.old.numbers scene.now.part scene.now.model.atoms }

@@ -2,16 +2,15 @@
 ghost use Rattle.std.specs.Prelude.{◌≡◌, ◌<◌, ◌≤◌, ◌⊎◌, ℕ, List, [], length, All, IfOk, IfErr, IsErrOf, IsTrue};
 ghost use Rattle.px_terms.specs.Limits.{most_formula_variables};
 ghost use Rattle.px_base.specs.Bounds.{u32_max};
-ghost use Rattle.px_terms.specs.declared.atom.Atom.{Atom};
 ghost use Rattle.px_terms.specs.Plans.{Carries};
 ghost use Rattle.px_terms.specs.Sorts.{IsWellSorted};
 ghost use Rattle.px_terms.specs.Validity.{IsValid, IsAtomOf, IsInstanceOf};
-ghost use Rattle.px_proof.specs.declared.shape.Tick.{Tick};
 ghost use Rattle.px_table.specs.declared.entry.Move.{Move};
 ghost use Rattle.px_table.specs.declared.node.Node.{Node};
 ghost use Rattle.px_table.specs.Supports.{Supports};
 ghost use Rattle.px_table.specs.Tables.{AreOfProblem, rows_of};
 ghost use Rattle.px_entries.specs.Learned.{AreLearned};
+ghost use Rattle.px_gaps.specs.declared.question.MetLimit.{MetLimit};
 ghost use Rattle.px_entries.specs.Unlimited.{IsNeverLimited};
 ghost use Rattle.px_ends.specs.ByValue.{IsFound, IsExhausted, IsNodeLimit, IsShapeLimit};
 ghost use Rattle.px_ends.specs.Made.{MovesRows};
@@ -91,9 +90,8 @@ pub fn search(
         → IsExhausted (task_of problem.now tables.now initial.now.atoms goal.now vars) problem.now.weight }
     ensures node_limit { (nodes : List Node) (moves : ℕ) → IsErrOf result (SearchErr.NodeLimit nodes moves)
         → IsNodeLimit (task_of problem.now tables.now initial.now.atoms goal.now vars) problem.now.weight nodes moves }
-    ensures shape_limit { (node : Node) (formula : List Atom) (shapes : List (List Tick))
-        → IsErrOf result (SearchErr.ShapeLimit node formula shapes)
-        → IsShapeLimit (task_of problem.now tables.now initial.now.atoms goal.now vars) problem.now.weight node formula shapes }
+    ensures shape_limit { (node : Node) (limit : MetLimit) → IsErrOf result (SearchErr.ShapeLimit node limit)
+        → IsShapeLimit (task_of problem.now tables.now initial.now.atoms goal.now vars) problem.now.weight node limit }
     ensures always_found { (moves : List Move)
         → IsFound (task_of problem.now tables.now initial.now.atoms goal.now vars) problem.now.weight moves
         → IfOk result (λ plan. plan.moves ≡ moves) × IfErr result (λ e. e ≡ SearchErr.NoMemory) }
@@ -102,9 +100,9 @@ pub fn search(
     ensures always_node_limit { (nodes : List Node) (moves : ℕ)
         → IsNodeLimit (task_of problem.now tables.now initial.now.atoms goal.now vars) problem.now.weight nodes moves
         → IsErrOf result (SearchErr.NodeLimit nodes moves) ⊎ IsErrOf result SearchErr.NoMemory }
-    ensures always_shape_limit { (node : Node) (formula : List Atom) (shapes : List (List Tick))
-        → IsShapeLimit (task_of problem.now tables.now initial.now.atoms goal.now vars) problem.now.weight node formula shapes
-        → ((there : Node) × (kept : List Atom) × (first : List (List Tick)) × IsErrOf result (SearchErr.ShapeLimit there kept first))
+    ensures always_shape_limit { (node : Node) (limit : MetLimit)
+        → IsShapeLimit (task_of problem.now tables.now initial.now.atoms goal.now vars) problem.now.weight node limit
+        → ((there : Node) × (first : MetLimit) × IsErrOf result (SearchErr.ShapeLimit there first))
         ⊎ IsErrOf result SearchErr.NoMemory }
 {
     let asked = Asked {

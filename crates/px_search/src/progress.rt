@@ -1,19 +1,17 @@
 //! What making moves comes to, and what a search comes to.
 
+use px_gaps::MetLimit;
 use px_numbers::NodeKey;
-use px_proof::Shape;
 use px_table::Move;
-use px_terms::{Atom, Sequence};
+use px_terms::Sequence;
 
-/// A question that meets the limit of shapes.
+/// A question that meets the limit of shapes, and where it is asked.
 #[derive(Drop)]
 pub struct Limit {
     /// The node where it is asked.
     pub key: NodeKey,
-    /// The formula at which the limit is met.
-    pub formula: Sequence<Atom>,
-    /// The first shapes, as many as the limit.
-    pub shapes: Sequence<Shape>,
+    /// The question, with the formula at which the limit is met and the first shapes.
+    pub met: MetLimit,
 }
 
 /// What the moves that were made came to.

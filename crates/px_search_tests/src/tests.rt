@@ -55,7 +55,7 @@ fn in_short(alloc: Global, rt: &impl Abort, found: &Result<Found, SearchErr>) ->
         Err(SearchErr::NodeLimit { nodes, moves }) => {
             Answered::Nodes(nodes.count(), facts_of_last(alloc, rt, nodes), *moves)
         }
-        Err(SearchErr::ShapeLimit { shapes, .. }) => Answered::Shapes(shapes.len()),
+        Err(SearchErr::ShapeLimit { limit, .. }) => Answered::Shapes(limit.shapes.len()),
         Err(SearchErr::Exhausted) => Answered::Exhausted,
         Err(SearchErr::NoMemory) => Answered::NoMemory,
     }

@@ -199,7 +199,7 @@ module _ (traces-exist : TracesExist leaves_edit) (duo-traces-exist : DuoTracesE
           )
       by-end (inr (inl exhausted)) = (reply.Exhausted name, (old, (refl, exhausted, refl)))
       by-end (inr (inr (inl limit))) = (reply.NodeLimit name limit.0 limit.1, (old, (refl, limit.2, refl)))
-      by-end (inr (inr (inr limit))) = (reply.ShapeLimit name limit.0 limit.1 limit.2, (old, (refl, limit.3, refl)))
+      by-end (inr (inr (inr limit))) = (reply.ShapeLimit name limit.0 limit.1, (old, (refl, limit.2, refl)))
 
       plan-reply : ¬ ¬ HasReply problem old (command.Plan name goal vars)
       plan-reply never = searches_end task problem.weight (λ end. never (by-end end))

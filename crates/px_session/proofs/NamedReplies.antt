@@ -69,7 +69,7 @@ module _ (problem : Problem) (names : NameLists) (all : AreNamesOfProblem proble
         (same-result given name (length names.results) is.0 below, named-plan count steps new is.1)
     named-search (reply.Exhausted given) new below is = same-result given name (length names.results) is.0 below
     named-search (reply.NodeLimit given nodes moves) new below is = same-result given name (length names.results) is.0 below
-    named-search (reply.ShapeLimit given node formula shapes) new below is = same-result given name (length names.results) is.0 below
+    named-search (reply.ShapeLimit given node limit) new below is = same-result given name (length names.results) is.0 below
     named-search answer new below is = absurd is
 
     named-pursuit : (answer : Reply) (new : SessionState) → name < length names.results

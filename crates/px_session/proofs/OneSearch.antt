@@ -39,15 +39,15 @@ search-one task name old (reply.Plan n c s) (reply.Exhausted m) new later p q =
     absurd (exhausted_with_all.found task task.problem.weight task.problem.weight q.1 p.1.moves p.1.found)
 search-one task name old (reply.Plan n c s) (reply.NodeLimit m nodes d) new later p q =
     absurd (value_ends_are_one.found_or_node_limit task task.problem.weight p.1.moves nodes d p.1.found q.1)
-search-one task name old (reply.Plan n c s) (reply.ShapeLimit m node formula shapes) new later p q =
-    absurd (value_ends_are_one.shape_limit_or_found task task.problem.weight node formula shapes p.1.moves q.1 p.1.found)
+search-one task name old (reply.Plan n c s) (reply.ShapeLimit m node limit) new later p q =
+    absurd (value_ends_are_one.shape_limit_or_found task task.problem.weight node limit p.1.moves q.1 p.1.found)
 search-one task name old (reply.Exhausted n) (reply.Plan m d t) new later p q =
     absurd (exhausted_with_all.found task task.problem.weight task.problem.weight p.1 q.1.moves q.1.found)
 search-one task name old (reply.Exhausted n) (reply.Exhausted m) new later p q = (inl (ap reply.Exhausted (p.0 ∙ sym q.0)), p.2 ∙ sym q.2)
 search-one task name old (reply.Exhausted n) (reply.NodeLimit m nodes d) new later p q =
     absurd (exhausted_with_all.node_limit task task.problem.weight task.problem.weight p.1 nodes d q.1)
-search-one task name old (reply.Exhausted n) (reply.ShapeLimit m node formula shapes) new later p q =
-    absurd (exhausted_with_all.shape_limit task task.problem.weight task.problem.weight p.1 node formula shapes q.1)
+search-one task name old (reply.Exhausted n) (reply.ShapeLimit m node limit) new later p q =
+    absurd (exhausted_with_all.shape_limit task task.problem.weight task.problem.weight p.1 node limit q.1)
 search-one task name old (reply.NodeLimit n nodes c) (reply.Plan m d t) new later p q =
     absurd (value_ends_are_one.found_or_node_limit task task.problem.weight q.1.moves nodes c q.1.found p.1)
 search-one task name old (reply.NodeLimit n nodes c) (reply.Exhausted m) new later p q =
@@ -56,31 +56,30 @@ search-one task name old (reply.NodeLimit n nodes c) (reply.NodeLimit m more d) 
     let same = value_ends_are_one.node_limit task task.problem.weight nodes more c d p.1 q.1 in
     let names : n ≡ m = p.0 ∙ sym q.0 in
     (inl (λ i. reply.NodeLimit (names i) (same.0 i) (same.1 i)), p.2 ∙ sym q.2)
-search-one task name old (reply.NodeLimit n nodes c) (reply.ShapeLimit m node formula shapes) new later p q =
-    absurd (value_ends_are_one.shape_limit_or_node_limit task task.problem.weight node formula shapes nodes c q.1 p.1)
-search-one task name old (reply.ShapeLimit n node formula shapes) (reply.Plan m d t) new later p q =
-    absurd (value_ends_are_one.shape_limit_or_found task task.problem.weight node formula shapes q.1.moves p.1 q.1.found)
-search-one task name old (reply.ShapeLimit n node formula shapes) (reply.Exhausted m) new later p q =
-    absurd (exhausted_with_all.shape_limit task task.problem.weight task.problem.weight q.1 node formula shapes p.1)
-search-one task name old (reply.ShapeLimit n node formula shapes) (reply.NodeLimit m nodes d) new later p q =
-    absurd (value_ends_are_one.shape_limit_or_node_limit task task.problem.weight node formula shapes nodes d p.1 q.1)
-search-one task name old (reply.ShapeLimit n node formula shapes) (reply.ShapeLimit m other others kept) new later p q = (
+search-one task name old (reply.NodeLimit n nodes c) (reply.ShapeLimit m node limit) new later p q =
+    absurd (value_ends_are_one.shape_limit_or_node_limit task task.problem.weight node limit nodes c q.1 p.1)
+search-one task name old (reply.ShapeLimit n node limit) (reply.Plan m d t) new later p q =
+    absurd (value_ends_are_one.shape_limit_or_found task task.problem.weight node limit q.1.moves p.1 q.1.found)
+search-one task name old (reply.ShapeLimit n node limit) (reply.Exhausted m) new later p q =
+    absurd (exhausted_with_all.shape_limit task task.problem.weight task.problem.weight q.1 node limit p.1)
+search-one task name old (reply.ShapeLimit n node limit) (reply.NodeLimit m nodes d) new later p q =
+    absurd (value_ends_are_one.shape_limit_or_node_limit task task.problem.weight node limit nodes d p.1 q.1)
+search-one task name old (reply.ShapeLimit n node limit) (reply.ShapeLimit m other kept) new later p q = (
   inr (inl (record {
     name = n;
     node = node;
     also_node = other;
-    formula = formula;
-    also_formula = others;
-    shapes = shapes;
-    also_shapes = kept;
+    limit = limit;
+    also_limit = kept;
     one_is = refl;
-    other_is = ap (λ x. reply.ShapeLimit x other others kept) (q.0 ∙ sym p.0);
-    as_many = value_ends_are_one.shapes task task.problem.weight node formula shapes p.1 ∙ sym (value_ends_are_one.shapes task task.problem.weight other others kept q.1);
+    other_is = ap (λ x. reply.ShapeLimit x other kept) (q.0 ∙ sym p.0);
+    as_many = value_ends_are_one.shapes task task.problem.weight node limit p.1
+        ∙ sym (value_ends_are_one.shapes task task.problem.weight other kept q.1);
   })),
   p.2 ∙ sym q.2,
 )
 search-one task name old (reply.Plan n c s) other new later p q = absurd q
 search-one task name old (reply.Exhausted n) other new later p q = absurd q
 search-one task name old (reply.NodeLimit n nodes c) other new later p q = absurd q
-search-one task name old (reply.ShapeLimit n node formula shapes) other new later p q = absurd q
+search-one task name old (reply.ShapeLimit n node limit) other new later p q = absurd q
 search-one task name old one other new later p q = absurd p

@@ -6,11 +6,10 @@ use Rattle.std.specs.List.{AllZip}
 use Rattle.std.proofs.lemmas.List.Elements.{All-head, All-tail}
 use Rattle.std.proofs.lemmas.List.Sums.{sum_by-cons}
 use Rattle.px_names.specs.Lists.{NameLists}
-use Rattle.px_terms.specs.declared.atom.Atom.{Atom}
 use Rattle.px_terms.specs.declared.problem.Problem.{Problem}
 use Rattle.px_terms.specs.Validity.{IsValid}
-use Rattle.px_proof.specs.declared.shape.Tick.{Tick}
 use Rattle.px_table.specs.declared.node.Node.{Node}
+use Rattle.px_gaps.specs.declared.question.MetLimit.{MetLimit}
 use Rattle.px_demo.specs.Script.{demo_script}
 use Rattle.px_printer.specs.Texts.{text_line}
 use Rattle.px_printer.specs.declared.pursue_end.PursueEnd.{PursueEnd}
@@ -71,14 +70,12 @@ texts-one names (a ∷ answers) (b ∷ others) same =
 
 -- what doesn't look at the question at a limit is the same of both
 alike : {A : Type 0} (look : Reply → A) (limit : A)
-    → ((name : ℕ) (node : Node) (formula : List Atom) (shapes : List (List Tick))
-    → look (reply.ShapeLimit name node formula shapes) ≡ limit)
+    → ((name : ℕ) (node : Node) (met : MetLimit) → look (reply.ShapeLimit name node met) ≡ limit)
     → (pursuit : (name searches : ℕ) (turns : List Turn) (end : PursueEnd) → look (reply.Pursuit name searches turns end) ≡ limit)
     → (one other : Reply) → SameReply one other → look one ≡ look other
 alike look limit is pursuit one other (inl e) = ap look e
 alike look limit is pursuit one other (inr (inl are)) =
-    ap look are.one_is ∙ is are.name are.node are.formula are.shapes
-    ∙ sym (is are.name are.also_node are.also_formula are.also_shapes) ∙ sym (ap look are.other_is)
+    ap look are.one_is ∙ is are.name are.node are.limit ∙ sym (is are.name are.also_node are.also_limit) ∙ sym (ap look are.other_is)
 alike look limit is pursuit one other (inr (inr are)) =
     ap look are.one_is ∙ pursuit are.name are.searches are.turns are.end
     ∙ sym (pursuit are.name are.searches are.turns are.also_end) ∙ sym (ap look are.other_is)
@@ -102,9 +99,9 @@ counts-one test is answers others same =
 summary-line-one : (rooms seed commands : ℕ) (answers others : List Reply) → AllZip SameReply answers others
     → summary_line rooms seed commands answers ≡ summary_line rooms seed commands others
 summary-line-one rooms seed commands answers others same =
-    let plans = counts-one is_plan (alike is_plan false (λ name node formula shapes. refl) (λ name searches turns end. refl)) answers others same in
-    let steps = sums-one step_count (alike step_count 0 (λ name node formula shapes. refl) (λ name searches turns end. refl)) answers others same in
-    let goals = counts-one reaches_goal (alike reaches_goal false (λ name node formula shapes. refl) (λ name searches turns end. refl)) answers others same in
+    let plans = counts-one is_plan (alike is_plan false (λ name node met. refl) (λ name searches turns end. refl)) answers others same in
+    let steps = sums-one step_count (alike step_count 0 (λ name node met. refl) (λ name searches turns end. refl)) answers others same in
+    let goals = counts-one reaches_goal (alike reaches_goal false (λ name node met. refl) (λ name searches turns end. refl)) answers others same in
     λ i. text_line (codes "demo" ∷ decimal rooms ∷ decimal seed ∷ decimal commands ∷ codes "commands" ∷ decimal (plans i) ∷ codes "plans"
     ∷ decimal (steps i) ∷ codes "steps" ∷ decimal (goals i) ∷ codes "goals" ∷ [])
 

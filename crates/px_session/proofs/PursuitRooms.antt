@@ -103,7 +103,7 @@ module _ (problem : Problem) (valid : IsValid problem) (tables : List Table) (le
   ends-there building number atoms run Exhausted after stands ends = nothing-done building atoms number run after stands ends.1 ends.2
   ends-there building number atoms run (NodeLimit nodes moves) after stands ends =
       nothing-done building atoms number run after stands ends.1 ends.2
-  ends-there building number atoms run (ShapeLimit node formula shapes) after stands ends =
+  ends-there building number atoms run (ShapeLimit node limit) after stands ends =
       nothing-done building atoms number run after stands ends.1 ends.2
 
   pub pursuit-in : (building : RoomState) (atoms : List Atom) (searches : ℕ) (turns : List TurnValue) (end : PursueEnd) (after : List Atom)

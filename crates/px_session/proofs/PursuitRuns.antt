@@ -50,7 +50,7 @@ module _ (problem : Problem) (tables : List Table) (goal : List Atom) (vars : �
     ends-keep number atoms run Goal after ends holds = each number atoms run after ends.0 holds
     ends-keep number atoms run Exhausted after ends holds = subst P (sym ends.2) holds
     ends-keep number atoms run (NodeLimit nodes moves) after ends holds = subst P (sym ends.2) holds
-    ends-keep number atoms run (ShapeLimit node formula shapes) after ends holds = subst P (sym ends.2) holds
+    ends-keep number atoms run (ShapeLimit node limit) after ends holds = subst P (sym ends.2) holds
 
     pub pursuit-keeps : (atoms : List Atom) (searches : ℕ) (turns : List TurnValue) (end : PursueEnd) (after : List Atom)
         → Pursues atoms searches turns end after → P atoms → P after
@@ -73,7 +73,7 @@ module _ (problem : Problem) (tables : List Table) (goal : List Atom) (vars : �
     ends-all number atoms run Goal after ends = each number atoms run after ends.0
     ends-all number atoms run Exhausted after ends = subst (All P) (sym ends.1) (All-nil P)
     ends-all number atoms run (NodeLimit nodes moves) after ends = subst (All P) (sym ends.1) (All-nil P)
-    ends-all number atoms run (ShapeLimit node formula shapes) after ends = subst (All P) (sym ends.1) (All-nil P)
+    ends-all number atoms run (ShapeLimit node limit) after ends = subst (All P) (sym ends.1) (All-nil P)
 
     pursuit-all : (atoms : List Atom) (searches : ℕ) (turns : List TurnValue) (end : PursueEnd) (after : List Atom)
         → Pursues atoms searches turns end after → All P turns

@@ -136,7 +136,7 @@ module _ (traces-exist : TracesExist leaves_edit) (problem : Problem) (valid : I
     by-end (inl found) = let ran = runs-there number some atoms found.0 found.1 in by-run ran ran.ends
     by-end (inr (inl exhausted)) = never (at-once number atoms [] Exhausted atoms (exhausted, refl, refl))
     by-end (inr (inr (inl limit))) = never (at-once number atoms [] (NodeLimit limit.0 limit.1) atoms (limit.2, refl, refl))
-    by-end (inr (inr (inr limit))) = never (at-once number atoms [] (ShapeLimit limit.0 limit.1 limit.2) atoms (limit.3, refl, refl))
+    by-end (inr (inr (inr limit))) = never (at-once number atoms [] (ShapeLimit limit.0 limit.1) atoms (limit.2, refl, refl))
 
   goes-on : (fuel : ℕ) → HasFuel fuel
   goes-on zero number some atoms enough never = absurd (omega (arith, enough))

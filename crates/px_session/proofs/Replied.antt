@@ -44,7 +44,7 @@ module _ (problem : Problem) (old : SessionState) (given : Command) (P : Session
       subst P (sym is.1.stored) (stored name goal vars count steps new by is.1)
   after-search name goal vars by (reply.Exhausted told) new is = unchanged new is.2
   after-search name goal vars by (reply.NodeLimit told nodes moves) new is = unchanged new is.2
-  after-search name goal vars by (reply.ShapeLimit told node formula shapes) new is = unchanged new is.2
+  after-search name goal vars by (reply.ShapeLimit told node limit) new is = unchanged new is.2
   after-search name goal vars by answer new is = absurd is
 
   after-learning : (name source : ℕ) → given ≡ command.Learn name source → (answer : Reply) (new : SessionState)

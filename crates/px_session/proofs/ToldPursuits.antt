@@ -53,7 +53,7 @@ module _ (problem : Problem) (valid : IsValid problem) (old : SessionState) (ses
   ends-traced number some atoms run Goal after ends = (traces-plan number some atoms run after ends.0, ends.1)
   ends-traced number some atoms run Exhausted after ends = ends
   ends-traced number some atoms run (NodeLimit nodes moves) after ends = ends
-  ends-traced number some atoms run (ShapeLimit node formula shapes) after ends = ends
+  ends-traced number some atoms run (ShapeLimit node limit) after ends = ends
 
   searches-traced : (count number : ℕ) → 1 ≤ number → (atoms : List Atom) (before : List TurnValue) (mid : List Atom)
       (last : List TurnValue) (end : PursueEnd) (after : List Atom)

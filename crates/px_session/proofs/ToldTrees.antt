@@ -2,11 +2,10 @@
 use Rattle.std.specs.Prelude.{◌≡◌, ◌<◌, ◌≤◌, ℕ, Option, None, Some, List, [], ◌∷◌, ◌++◌, length, take, slice_get, slice_index_or}
 use Rattle.std.proofs.Common.{refl, sym, ap, ◌∙◌, subst, arith, inl, inr}
 use Rattle.std.proofs.lemmas.List.{length-append, length-take-le}
-use Rattle.px_terms.specs.declared.atom.Atom.{Atom}
-use Rattle.px_proof.specs.declared.shape.Tick.{Tick}
 use Rattle.px_table.specs.declared.entry.Move.{Move}
 use Rattle.px_table.specs.declared.node.Node.{Node}
-use Rattle.px_gaps.specs.Questions.{Question}
+use Rattle.px_gaps.specs.declared.question.MetLimit.{MetLimit}
+use Rattle.px_gaps.specs.declared.question.Question.{Question}
 use Rattle.px_order.specs.Places.{at_index, place-within-list}
 use Rattle.px_ends.proofs.Exclusion.{limit-count}
 use Rattle.px_ends.specs.ByValue.{IsShapeLimit}
@@ -38,7 +37,7 @@ module _ (task : Task) (weight : ℕ) where
   found-few found Solved (moves, end, is) = omega (arith, end.room, ap length is, length-append end.earlier (moves ∷ []))
   found-few found Exhausted (end, is) = omega (arith, end.room, ap length is)
   found-few found (More count) end = omega (arith, end.full)
-  found-few found (ShapeLimit number) (formula, shapes, first, is) = asked-few found first.moves first.question first.asked
+  found-few found (ShapeLimit number) (limit, first, is) = asked-few found first.moves limit.question first.asked
 
   nodes-few : (tree : Tree) → IsTree task weight tree → length tree.nodes ≤ task.nodes
   nodes-few tree is = let few = found-few is.found tree.end is.end in omega (arith, few, is.count)
@@ -61,17 +60,17 @@ module _ (task : Task) (weight : ℕ) where
   -- ---- the end
 
   -- where a question meets the limit of shapes, the tree ends there
-  limited : (found : List (List Move)) (end : TreeEnd) → EndsTree task weight found end → (node : Node) (formula : List Atom)
-      (shapes : List (List Tick)) → IsShapeLimit task weight node formula shapes → (given : ℕ)
-      → EndsAsPlanned end (reply.ShapeLimit given node formula shapes)
-  limited found Solved (moves, end, is) node formula shapes limit given =
-      absurd (end.unlimited limit.moves limit.question limit.asked (formula, shapes, limit.met))
-  limited found Exhausted (end, is) node formula shapes limit given =
-      absurd (end.unlimited limit.moves limit.question limit.asked (formula, shapes, limit.met))
-  limited found (More count) end node formula shapes limit given =
-      absurd (end.unlimited limit.moves limit.question limit.asked (formula, shapes, limit.met))
-  limited found (ShapeLimit number) (atoms, lists, first, is) node formula shapes limit given =
-      is ∙ limit-count task.problem first.question atoms lists first.met ∙ sym (limit-count task.problem limit.question formula shapes limit.met)
+  limited : (found : List (List Move)) (end : TreeEnd) → EndsTree task weight found end → (node : Node) (limit : MetLimit)
+      → IsShapeLimit task weight node limit → (given : ℕ) → EndsAsPlanned end (reply.ShapeLimit given node limit)
+  limited found Solved (moves, end, is) node limit s given =
+      absurd (end.unlimited s.moves limit.question s.asked (limit.formula, limit.shapes, s.met))
+  limited found Exhausted (end, is) node limit s given =
+      absurd (end.unlimited s.moves limit.question s.asked (limit.formula, limit.shapes, s.met))
+  limited found (More count) end node limit s given =
+      absurd (end.unlimited s.moves limit.question s.asked (limit.formula, limit.shapes, s.met))
+  limited found (ShapeLimit number) (met, first, is) node limit s given =
+      is ∙ limit-count task.problem met.question met.formula met.shapes first.met
+      ∙ sym (limit-count task.problem limit.question limit.formula limit.shapes s.met)
 
   -- two searches for one task end alike
   alike : (found lists : List (List Move)) (end other : TreeEnd) (answer : Reply) → EndsTree task weight found end
@@ -89,8 +88,8 @@ module _ (task : Task) (name : ℕ) (old : SessionState) (tree : Tree) (is : IsT
   as-planned (reply.NodeLimit given nodes moves) later tells =
       alike task task.problem.weight is.found tells.1.earlier tree.end (More moves) (reply.NodeLimit given nodes moves) is.end tells.1.limit
       refl
-  as-planned (reply.ShapeLimit given node formula shapes) later tells =
-      limited task task.problem.weight is.found tree.end is.end node formula shapes tells.1 given
+  as-planned (reply.ShapeLimit given node limit) later tells =
+      limited task task.problem.weight is.found tree.end is.end node limit tells.1 given
   as-planned answer later tells = absurd tells
 
 pub told_trees : ToldTrees

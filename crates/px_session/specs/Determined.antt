@@ -8,8 +8,8 @@ use Rattle.px_terms.specs.declared.problem.Problem.{Problem}
 use Rattle.px_terms.specs.AtomSets.{IsAtomSet}
 use Rattle.px_terms.specs.Plans.{Carries}
 use Rattle.px_terms.specs.Validity.{IsAtomOf, IsValid}
-use Rattle.px_proof.specs.declared.shape.Tick.{Tick}
 use Rattle.px_table.specs.declared.node.Node.{Node}
+use Rattle.px_gaps.specs.declared.question.MetLimit.{MetLimit}
 use Rattle.px_table.specs.declared.table.Table.{Table}
 use Rattle.px_table.specs.Limits.{most_tables}
 use Rattle.px_table.specs.Kernels.{KernelsCarry}
@@ -34,13 +34,11 @@ pub record AreLimits (one other : Reply) : Type 0 where
   pub name : ℕ
   pub node : Node
   pub also_node : Node
-  pub formula : List Atom
-  pub also_formula : List Atom
-  pub shapes : List (List Tick)
-  pub also_shapes : List (List Tick)
-  pub one_is : one ≡ reply.ShapeLimit name node formula shapes
-  pub other_is : other ≡ reply.ShapeLimit name also_node also_formula also_shapes
-  pub as_many : length shapes ≡ length also_shapes
+  pub limit : MetLimit
+  pub also_limit : MetLimit
+  pub one_is : one ≡ reply.ShapeLimit name node limit
+  pub other_is : other ≡ reply.ShapeLimit name also_node also_limit
+  pub as_many : length limit.shapes ≡ length also_limit.shapes
 
 -- both say the same of a pursuit, whose last search met the limit of shapes, by equally many shapes, perhaps at different questions
 pub record ArePursuitLimits (one other : Reply) : Type 0 where

@@ -54,8 +54,8 @@ TellsSearch task name old (reply.Plan given count steps) new = (given ≡ name) 
 TellsSearch task name old (reply.Exhausted given) new = (given ≡ name) × IsExhausted task task.problem.weight × (new ≡ old)
 TellsSearch task name old (reply.NodeLimit given nodes moves) new = (given ≡ name)
     × IsNodeLimit task task.problem.weight nodes moves × (new ≡ old)
-TellsSearch task name old (reply.ShapeLimit given node formula shapes) new = (given ≡ name)
-    × IsShapeLimit task task.problem.weight node formula shapes × (new ≡ old)
+TellsSearch task name old (reply.ShapeLimit given node limit) new = (given ≡ name)
+    × IsShapeLimit task task.problem.weight node limit × (new ≡ old)
 TellsSearch task name old answer new = ⊥
 
 -- ---- learn

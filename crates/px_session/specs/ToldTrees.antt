@@ -23,7 +23,7 @@ abbrev pub EndsAsPlanned : TreeEnd → Reply → Type 0
 EndsAsPlanned Solved (reply.Plan given count steps) = Unit {0}
 EndsAsPlanned Exhausted (reply.Exhausted given) = Unit {0}
 EndsAsPlanned (More moves) (reply.NodeLimit given nodes count) = moves ≡ count
-EndsAsPlanned (ShapeLimit number) (reply.ShapeLimit given node formula shapes) = number ≡ length shapes
+EndsAsPlanned (ShapeLimit number) (reply.ShapeLimit given node limit) = number ≡ length limit.shapes
 EndsAsPlanned end answer = ⊥
 
 -- A tree has no more nodes than the command says, and each is found from one before it. Where the command says as many nodes as the problem

@@ -51,18 +51,9 @@ impl State {
             Err(SearchErr::NodeLimit { nodes, moves }) => {
                 Ok(Reply::NodeLimit { name, nodes, moves })
             }
-            Err(
-                SearchErr::ShapeLimit {
-                    node,
-                    formula,
-                    shapes,
-                },
-            ) => Ok(Reply::ShapeLimit {
-                name,
-                node,
-                formula,
-                shapes,
-            }),
+            Err(SearchErr::ShapeLimit { node, limit }) => {
+                Ok(Reply::ShapeLimit { name, node, limit })
+            }
             Err(SearchErr::NoMemory) => Err(NoMemory),
         }
     }

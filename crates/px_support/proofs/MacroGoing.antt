@@ -30,7 +30,7 @@ use Rattle.px_table.specs.Tables.{IsTable, empty_table, rows_of}
 use Rattle.px_entries.proofs.RowSteps.{steps-count, steps-ground}
 use Rattle.px_entries.proofs.RowTurns.{in_turn, row_obligations}
 use Rattle.px_entries.specs.Entries.{IsEntry, effect_of, initial_atoms, obligations_of, row_needs, table_at}
-use Rattle.px_gaps.specs.Needs.{Obligation}
+use Rattle.px_gaps.specs.declared.question.Obligation.{Obligation}
 use Rattle.px_entries.specs.Learned.{AreLearned}
 use Rattle.px_ends.specs.Made.{IsGraft, MacroRows}
 use Rattle.px_support.specs.declared.macros.Learned.{Learned}

@@ -8,8 +8,11 @@ use Rattle.px_proof.specs.declared.shape.Tick.{Tick}
 use Rattle.px_table.specs.declared.entry.Move.{Move}
 use Rattle.px_table.specs.declared.entry.Move.TheVariants.{Apply, Push}
 use Rattle.px_table.specs.declared.node.Node.{Node}
-use Rattle.px_gaps.specs.Needs.{Obligation, IsApplicable}
-use Rattle.px_gaps.specs.Questions.{MeetsLimit, Proving, Question, AsksOf}
+use Rattle.px_gaps.specs.Needs.{IsApplicable}
+use Rattle.px_gaps.specs.Questions.{MeetsLimit, AsksOf}
+use Rattle.px_gaps.specs.declared.question.Obligation.{Obligation}
+use Rattle.px_gaps.specs.declared.question.Question.{Question}
+use Rattle.px_gaps.specs.declared.question.Question.TheVariants.{Proving}
 use Rattle.px_order.specs.Frontier.{reached-append}
 use Rattle.px_ends.proofs.MoveLaws.{order}
 use Rattle.px_ends.specs.ByValue.{space_of}

@@ -10,7 +10,8 @@ use Rattle.px_table.specs.declared.entry.Move.{Move}
 use Rattle.px_table.specs.declared.entry.Move.TheVariants.{Apply, Push}
 use Rattle.px_table.specs.declared.node.Node.{Node}
 use Rattle.px_entries.specs.Entries.{IsEntry}
-use Rattle.px_gaps.specs.Needs.{Obligation, HasAnswer}
+use Rattle.px_gaps.specs.Needs.{HasAnswer}
+use Rattle.px_gaps.specs.declared.question.Obligation.{Obligation}
 use Rattle.px_entries.specs.Learned.{AreLearned}
 use Rattle.px_ends.specs.Tasks.{Task, after, goal_from, needs_at, task_with}
 use Rattle.px_support.specs.declared.asked.Asked.{Asked}

@@ -13,7 +13,7 @@ use Rattle.px_table.specs.Kernels.{steps_under}
 use Rattle.px_table.specs.Prefixes.{IsMacro}
 use Rattle.px_table.specs.Tables.{IsTable, rows_of}
 use Rattle.px_entries.specs.Entries.{row_needs}
-use Rattle.px_gaps.specs.Needs.{Obligation}
+use Rattle.px_gaps.specs.declared.question.Obligation.{Obligation}
 use Rattle.px_ends.specs.Made.{IsGraft, MacroRows}
 use Rattle.px_support.specs.declared.macros.Learned.{Learned}
 use Rattle.px_support.specs.declared.macros.Within.{Within}

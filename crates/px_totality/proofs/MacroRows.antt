@@ -23,7 +23,7 @@ use Rattle.px_table.specs.declared.table.Table.{Table}
 use Rattle.px_table.specs.KernelLaws.{Contains-from_map}
 use Rattle.px_table.specs.Prefixes.{IsMacro}
 use Rattle.px_table.specs.Tables.{IsTable, rows_of}
-use Rattle.px_gaps.specs.Needs.{Obligation}
+use Rattle.px_gaps.specs.declared.question.Obligation.{Obligation}
 use Rattle.px_entries.specs.Entries.{initial_atoms}
 use Rattle.px_entries.proofs.RowTurns.{row_obligations}
 use Rattle.px_ends.specs.Made.{IsGraft, IsPart, MacroRows}

@@ -23,7 +23,7 @@ use Rattle.px_table.specs.declared.entry.Move.TheVariants.{Apply, Push}
 use Rattle.px_table.specs.declared.table.Table.{Table}
 use Rattle.px_table.specs.Supports.{ProvesEachOf, RowsProve}
 use Rattle.px_table.specs.Tables.{rows_of, table_of_rows}
-use Rattle.px_gaps.specs.Needs.{Obligation}
+use Rattle.px_gaps.specs.declared.question.Obligation.{Obligation}
 use Rattle.px_entries.specs.Entries.{IsEntry, effect_of, obligations_of, table_at}
 use Rattle.px_entries.specs.Learned.{AreLearned}
 use Rattle.px_totality.proofs.AnswerRows.{answers-support}

@@ -58,9 +58,8 @@ module _ (task : Task) (weight : ℕ) where
   some-end never =
       let unlimited : IsUnlimited = λ moves question asked met. never (inr (inr (inr (
         node_of task moves,
-        met.0,
-        met.1,
-        record { moves = moves; question = question; node_is = refl; asked = asked; met = met.2 },
+        record { question = question; formula = met.0; shapes = met.1 },
+        record { moves = moves; node_is = refl; asked = asked; met = met.2 },
       )))) in
       stopped-or-finished (space_of task) (order_by task weight) linear (aim_of task) (finite-allowed task)
       (λ found. never (ends-unlimited unlimited found))

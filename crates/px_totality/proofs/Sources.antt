@@ -17,7 +17,7 @@ use Rattle.px_question.specs.Settings.{setting_of}
 use Rattle.px_question.proofs.DecidedLaws.{questions-are_decided}
 use Rattle.px_question.proofs.ListedProofs.{atom_decided}
 use Rattle.px_table.specs.Marks.{step_at}
-use Rattle.px_gaps.specs.Needs.{Obligation}
+use Rattle.px_gaps.specs.declared.question.Obligation.{Obligation}
 use Rattle.px_ends.specs.Made.{IsFirstRow, IsSource, IsSourced}
 use Rattle.px_support.specs.Asking.{IsFindable}
 use Rattle.px_support.proofs.Lists.{step-within}

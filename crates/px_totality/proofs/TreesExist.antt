@@ -7,7 +7,9 @@ use Rattle.px_table.specs.declared.entry.Entry.{Entry}
 use Rattle.px_table.specs.declared.entry.Move.{Move}
 use Rattle.px_table.specs.declared.entry.Move.TheVariants.{Apply, Push}
 use Rattle.px_table.specs.declared.node.Node.{Node}
-use Rattle.px_gaps.specs.Questions.{Question, MeetsLimit}
+use Rattle.px_gaps.specs.Questions.{MeetsLimit}
+use Rattle.px_gaps.specs.declared.question.MetLimit.{MetLimit}
+use Rattle.px_gaps.specs.declared.question.Question.{Question}
 use Rattle.px_order.specs.Beginnings.{can-front}
 use Rattle.px_order.specs.Places.{contains_place, get-front, none-behind, place-within-list, some-one, still_there}
 use Rattle.px_order.specs.RunLaws.{made}
@@ -115,8 +117,7 @@ module _ (task : Task) (weight : ℕ) where
   -- ---- the first question that meets the limit
 
   abbrev HasFirstLimit : Type 0
-  HasFirstLimit =
-      (found : List (List Move)) × (formula : List Atom) × (shapes : List (List Tick)) × IsFirstLimit task weight found formula shapes
+  HasFirstLimit = (found : List (List Move)) × (limit : MetLimit) × IsFirstLimit task weight found limit
 
   none-below : (¬ HasFirstLimit) → (n : ℕ) (found : List (List Move)) (moves : List Move) (question : Question) → length found < n
       → IsAskedAmong task weight found moves question → (formula : List Atom) (shapes : List (List Tick))
@@ -124,11 +125,9 @@ module _ (task : Task) (weight : ℕ) where
   none-below never zero found moves question few asked formula shapes met = omega (arith, few)
   none-below never (suc n) found moves question few asked formula shapes met = never (
     found,
-    formula,
-    shapes,
+    record { question = question; formula = formula; shapes = shapes },
     record {
       moves = moves;
-      question = question;
       asked = asked;
       met = met;
       first = λ fewer others other less. none-below never n fewer others other (omega (arith, few, less));
@@ -158,8 +157,8 @@ module _ (task : Task) (weight : ℕ) where
   by-end never (inr (inl x)) = never (whole-tree x.lists (x.picked, x.over.comes) Exhausted (x, refl))
   by-end never (inr (inr (inl (more, count, l)))) =
       never (tree-of (l.earlier ++ l.limit.last ∷ []) l.limit.stop.begins l.earlier (l.limit.last ∷ []) refl (More count) l.limit)
-  by-end never (inr (inr (inr (node, formula, shapes, s)))) = first-limit s.moves s.question s.asked formula shapes s.met
-      (λ f. never (whole-tree f.0 (begun-among f.0 f.3.moves f.3.question f.3.asked) (ShapeLimit (length f.2)) (f.1, f.2, f.3, refl)))
+  by-end never (inr (inr (inr (node, limit, s)))) = first-limit s.moves limit.question s.asked limit.formula limit.shapes s.met
+      (λ f. never (whole-tree f.0 (begun-among f.0 f.2.moves f.1.question f.2.asked) (ShapeLimit (length f.1.shapes)) (f.1, f.2, refl)))
 
 pub trees_exist : TreesExist
 trees_exist task weight never = searches_end task weight (by-end task weight never)

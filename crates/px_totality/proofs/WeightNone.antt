@@ -4,15 +4,14 @@ use Rattle.std.specs.Bool.{Decides}
 use Rattle.std.specs.Cmp.Lexicographic.{pointwise, pointwise_decides}
 use Rattle.std.proofs.Common.{refl, sym, ap, ◌∙◌, subst, inl, inr, arith}
 use Rattle.std.proofs.lemmas.List.Elements.{Contains-push}
-use Rattle.px_terms.specs.declared.atom.Atom.{Atom}
 use Rattle.px_terms.specs.Order.{atom_eq}
 use Rattle.px_terms.specs.OrderLaws.{atom_eq-decides}
-use Rattle.px_proof.specs.declared.shape.Tick.{Tick}
 use Rattle.px_table.specs.declared.entry.Move.{Move}
 use Rattle.px_table.specs.declared.node.Node.{Node}
 use Rattle.px_table.specs.EntryLaws.{entry_eq-decides}
 use Rattle.px_table.specs.EntryOrder.{entry_eq}
-use Rattle.px_gaps.specs.Questions.{Question}
+use Rattle.px_gaps.specs.declared.question.MetLimit.{MetLimit}
+use Rattle.px_gaps.specs.declared.question.Question.{Question}
 use Rattle.px_order.proofs.LawProofs.{blind_is_breadth}
 use Rattle.px_order.specs.AtZero.{least-gone}
 use Rattle.px_order.specs.Beginnings.{beginnings_agree, one_place}
@@ -130,15 +129,15 @@ module _ (task : Task) where
   abbrev IsUnlimited : Type 0
   IsUnlimited = order_ends.IsUnlimited (space_of task) (order_by task 0) (aim_of task)
 
-  unlimited : ((node : Node) (formula : List Atom) (shapes : List (List Tick)) → ¬ breadth.IsShapeLimit task node formula shapes)
-      → IsUnlimited
-  unlimited none moves question asked met = none (node_of task moves) met.0 met.1
-      (weight_none_is_breadth.shape_limit task (node_of task moves) met.0 met.1
-      (record { moves = moves; question = question; node_is = refl; asked = asked; met = met.2 }))
+  unlimited : ((node : Node) (limit : MetLimit) → ¬ breadth.IsShapeLimit task node limit) → IsUnlimited
+  unlimited none moves question asked met =
+      let limit : MetLimit = record { question = question; formula = met.0; shapes = met.1 } in
+      none (node_of task moves) limit (weight_none_is_breadth.shape_limit task (node_of task moves) limit
+      (record { moves = moves; node_is = refl; asked = asked; met = met.2 }))
 
   found_back : (moves : List Move) → breadth.IsFound task moves → IsFound task 0 moves
   found_back moves f = record {
-    unlimited = unlimited (λ node formula shapes s. ends_are_one.shape_limit_or_found task node formula shapes moves s f);
+    unlimited = unlimited (λ node limit s. ends_are_one.shape_limit_or_found task node limit moves s f);
     earlier = f.earlier;
     stop = stop-back f.earlier moves f.stop;
     room = f.room;
@@ -148,7 +147,7 @@ module _ (task : Task) where
   limit_back nodes moves l = record {
     earlier = l.earlier;
     limit = record {
-      unlimited = unlimited (λ node formula shapes s. ends_are_one.shape_limit_or_node_limit task node formula shapes nodes moves s l);
+      unlimited = unlimited (λ node limit s. ends_are_one.shape_limit_or_node_limit task node limit nodes moves s l);
       last = l.last;
       stop = stop-back l.earlier l.last l.stop;
       full = l.full;
@@ -196,7 +195,7 @@ module _ (task : Task) where
 
     exhausted_back : IsExhausted task 0
     exhausted_back = record {
-      unlimited = unlimited (λ node formula shapes s. ends_are_one.shape_limit_or_exhausted task node formula shapes s x);
+      unlimited = unlimited (λ node limit s. ends_are_one.shape_limit_or_exhausted task node limit s x);
       lists = x.lists;
       picked = down_from (length x.lists);
       over = is-over (space_of task) (order_by task 0) linear same_node x.lists x.whole.beginning
@@ -287,13 +286,11 @@ module _ (task : Task) where
   asked-back r moves question (inl (gone, asks)) = inl (gone-back r moves gone, asks)
   asked-back r moves question (inr (tested, is)) = inr (tried-back r moves tested, (tested.empty, is))
 
-  shapes_back : (node : Node) (formula : List Atom) (shapes : List (List Tick)) → breadth.IsShapeLimit task node formula shapes
-      → ¬ ¬ IsShapeLimit task 0 node formula shapes
-  shapes_back node formula shapes s never = some-run (λ r. never (record {
+  shapes_back : (node : Node) (limit : MetLimit) → breadth.IsShapeLimit task node limit → ¬ ¬ IsShapeLimit task 0 node limit
+  shapes_back node limit s never = some-run (λ r. never (record {
     moves = s.moves;
-    question = s.question;
     node_is = s.node_is;
-    asked = asked-back r s.moves s.question s.asked;
+    asked = asked-back r s.moves limit.question s.asked;
     met = s.met;
   }))
 

@@ -1,9 +1,8 @@
 -- Each search has an end, and a tree.
 use Rattle.std.specs.Prelude.{◌⊎◌, ℕ, List}
-use Rattle.px_terms.specs.declared.atom.Atom.{Atom}
-use Rattle.px_proof.specs.declared.shape.Tick.{Tick}
 use Rattle.px_table.specs.declared.entry.Move.{Move}
 use Rattle.px_table.specs.declared.node.Node.{Node}
+use Rattle.px_gaps.specs.declared.question.MetLimit.{MetLimit}
 use Rattle.px_ends.specs.ByValue.{IsExhausted, IsFound, IsNodeLimit, IsShapeLimit}
 use Rattle.px_ends.specs.Tasks.{Task}
 use Rattle.px_ends.specs.Trees.{IsTree}
@@ -15,7 +14,7 @@ HasEnd task weight =
     ((moves : List Move) × IsFound task weight moves)
     ⊎ (IsExhausted task weight
     ⊎ (((nodes : List Node) × (moves : ℕ) × IsNodeLimit task weight nodes moves)
-    ⊎ ((node : Node) × (formula : List Atom) × (shapes : List (List Tick)) × IsShapeLimit task weight node formula shapes)))
+    ⊎ ((node : Node) × (limit : MetLimit) × IsShapeLimit task weight node limit)))
 
 -- There is no task whose search with some weight has none of the four ends. (A double negation: which one it is takes a search to say.)
 abbrev pub SearchesEnd : Type 0

@@ -1,9 +1,8 @@
 -- With weight 0 a search ends as the search in breadth does.
 use Rattle.std.specs.Prelude.{◌↔◌, ℕ, List}
-use Rattle.px_terms.specs.declared.atom.Atom.{Atom}
-use Rattle.px_proof.specs.declared.shape.Tick.{Tick}
 use Rattle.px_table.specs.declared.entry.Move.{Move}
 use Rattle.px_table.specs.declared.node.Node.{Node}
+use Rattle.px_gaps.specs.declared.question.MetLimit.{MetLimit}
 use Rattle.px_ends.specs.ByValue.{IsExhausted, IsFound, IsNodeLimit, IsShapeLimit}
 use Rattle.px_ends.specs.Ends as breadth
 use Rattle.px_ends.specs.Tasks.{Task}
@@ -14,7 +13,6 @@ pub record WeightNoneIsExactlyBreadth : Type 0 where
   pub found : (task : Task) (moves : List Move) → IsFound task 0 moves ↔ breadth.IsFound task moves
   pub exhausted : (task : Task) → IsExhausted task 0 ↔ breadth.IsExhausted task
   pub node_limit : (task : Task) (nodes : List Node) (moves : ℕ) → IsNodeLimit task 0 nodes moves ↔ breadth.IsNodeLimit task nodes moves
-  pub shape_limit : (task : Task) (node : Node) (formula : List Atom) (shapes : List (List Tick))
-      → IsShapeLimit task 0 node formula shapes → breadth.IsShapeLimit task node formula shapes
-  pub shape_limit_back : (task : Task) (node : Node) (formula : List Atom) (shapes : List (List Tick))
-      → breadth.IsShapeLimit task node formula shapes → ¬ ¬ IsShapeLimit task 0 node formula shapes
+  pub shape_limit : (task : Task) (node : Node) (limit : MetLimit) → IsShapeLimit task 0 node limit → breadth.IsShapeLimit task node limit
+  pub shape_limit_back : (task : Task) (node : Node) (limit : MetLimit) → breadth.IsShapeLimit task node limit
+      → ¬ ¬ IsShapeLimit task 0 node limit

@@ -6,6 +6,7 @@ ghost use Rattle.px_words.specs.Reading.{order_in};
 use crate::numbers::number_within;
 use crate::reading::{read, read_order};
 use px_base::NoMemory;
+use px_demo::{LEAST_ROOMS, MOST_ROOMS, MOST_SEED};
 use std::alloc::Global;
 
 /// What the words order.
@@ -82,7 +83,7 @@ fn lone_order(word: &str) -> Option<Order>
 fn demo_order(rooms: &str, seed: &str) -> Option<Order>
     ensures { result ≡ demo_order rooms.now seed.now }
 {
-    let rooms = number_within(3, 12, rooms)?;
-    let seed = number_within(0, 2_147_483_647, seed)?;
+    let rooms = number_within(LEAST_ROOMS, MOST_ROOMS, rooms)?;
+    let seed = number_within(0, MOST_SEED, seed)?;
     Some(Order::Demo { rooms, seed })
 }

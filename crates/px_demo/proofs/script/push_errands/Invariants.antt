@@ -1,8 +1,9 @@
 -- What the loops of `push_errands` in src/script.rt keep true.
-use Rattle.std.proofs.Common.{◌≡◌, ◌≤◌, ◌<◌, ◌+◌, ◌-◌, ◌++◌}
+use Rattle.std.proofs.Common.{◌≡◌, ◌≤◌, ◌+◌, ◌-◌, ◌++◌}
 use Rattle.std.specs.Prelude.{string_bytes}
 use Rattle.std.specs.List.{flat_map, range_with_len}
 use Rattle.px_demo.specs.Errands.{number_after, room_after}
+use Rattle.px_demo.specs.Limits.{most_seed}
 use Rattle.px_demo.specs.Script.{errand_lines, errands, text_of_lines}
 use Rattle.px_demo.proofs.script.push_errands.Given as goal
 
@@ -13,4 +14,4 @@ invariant-loop-done l =
     (flat_map (λ j. errand_lines j (room_after l.rooms l.seed j)) (range_with_len (l.done + 1) (l.rooms - l.done)))
     ≡ string_bytes l.initial.text ++ text_of_lines (errands l.rooms l.seed))
     × (l.number ≡ number_after l.seed l.done) × (l.room ≡ room_after l.rooms l.seed l.done)
-    × (l.number < 2147483648) × (1 ≤ l.room) × (l.room ≤ l.rooms)
+    × (l.number ≤ most_seed) × (1 ≤ l.room) × (l.room ≤ l.rooms)

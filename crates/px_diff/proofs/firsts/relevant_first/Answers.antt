@@ -1,8 +1,8 @@
 -- Proofs of the goals that `relevant_first` of src/firsts.rt leaves open.
 use Rattle.std.proofs.Common.{[], subst}
-use Rattle.px_gaps.specs.Outcomes.{AtLimit}
+use Rattle.px_diff.specs.Outcomes.{AtStop}
 use Rattle.px_diff.specs.Pushes.{LimitsRelevant}
-use Rattle.px_gaps.specs.declared.ask_err.AskErr.{AskErr}
+use Rattle.px_diff.specs.declared.move_err.MoveErr.{MoveErr}
 use Rattle.px_diff.proofs.FirstLemmas.{never-met}
 use Rattle.px_diff.proofs.firsts.relevant_first.Goals as goal
 
@@ -12,9 +12,8 @@ unreachable-requires c =
     let tables = c.args.tables.now in
     let facts = c.args.model.now.atoms in
     let wanted = c.args.wanted.now in
-    never-met problem tables facts wanted c.in-Err-ShapeLimit.field-0-0 c.in-Err-ShapeLimit.field-0-1 c.requires.never
-    c.atoms-facts.ensures.model.ascending
-    (subst (λ (e : AskErr). AtLimit e (LimitsRelevant problem tables wanted [] facts)) c.in-Err-ShapeLimit.field-0-is
+    never-met problem tables facts wanted c.in-Err-ShapeLimit.field-0-0 c.requires.never c.atoms-facts.ensures.model.ascending
+    (subst (λ (e : MoveErr). AtStop e (LimitsRelevant problem tables wanted [] facts)) c.in-Err-ShapeLimit.field-0-is
     c.in-Err-ShapeLimit.ensures.limited)
 
 pub returns-in-Ok-clause-enough : goal.returns-in-Ok-clause-enough

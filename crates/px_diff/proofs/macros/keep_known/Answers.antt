@@ -55,5 +55,5 @@ returns-in-Ok-Limited-clause-limited c =
     (obligations_of c.args.front.now.request.problem.now c.args.front.now.request.tables.now c.args.front.now.request.model.now.atoms
     c.args.entry)) c.in-Ok-Limited.field-0-is c.in-Ok-Limited.ensures in
     limits_entry c.args.front.now.request.problem.now c.args.front.now.request.tables.now c.args.front.now.request.wanted.now
-    c.args.front.now.request.stack.now c.args.front.now.request.model.now.atoms c.args.entry c.in-Ok-Limited.formula
-    c.in-Ok-Limited.shapes c.requires.relevant known
+    c.args.front.now.request.stack.now c.args.front.now.request.model.now.atoms c.args.entry c.in-Ok-Limited.limit
+    c.requires.relevant known

@@ -63,5 +63,5 @@ returns-in-Ok-Limited-clause-limited c =
     let relevant = said_yes c.is_relevant.result c.is_relevant.ensures c.if-not-is_relevant.false in
     let known =
     subst (IsKnownOf problem (obligations_of problem tables model (Op inst))) c.in-Ok-Limited.field-0-is c.in-Ok-Limited.ensures in
-    limits_entry problem tables c.args.request.now.wanted.now c.args.request.now.stack.now model (Op inst) c.in-Ok-Limited.formula
-    c.in-Ok-Limited.shapes relevant known
+    limits_entry problem tables c.args.request.now.wanted.now c.args.request.now.stack.now model (Op inst) c.in-Ok-Limited.limit
+    relevant known

@@ -1,6 +1,6 @@
 -- Proofs of the goals that `known_row` of src/entry_rows.rt leaves open.
 use Rattle.std.proofs.Common.{subst}
-use Rattle.px_gaps.specs.Needs.{Obligation}
+use Rattle.px_gaps.specs.declared.question.Obligation.{Obligation}
 use Rattle.px_gaps.specs.Known.{IsTriedOf}
 use Rattle.px_gaps.proofs.KnownSteps.{known-applicable, known-proof_limited}
 use Rattle.px_entries.proofs.entry_rows.known_row.Goals as goal
@@ -14,5 +14,5 @@ returns-in-Ok-Answered c =
 pub returns-in-Ok-Limited : goal.returns-in-Ok-Limited
 returns-in-Ok-Limited c =
     let needed : Obligation = record { formula = c.args.formula.now; vars = 0; facts = c.args.facts.now.atoms } in
-    known-proof_limited c.args.problem.now needed c.in-Ok-Limited.formula c.in-Ok-Limited.shapes
+    known-proof_limited c.args.problem.now needed c.in-Ok-Limited.limit
     (subst (IsTriedOf c.args.problem.now needed) c.in-Ok-Limited.field-0-is c.in-Ok-Limited.ensures)

@@ -17,5 +17,4 @@ returns-in-Closed c = subst (λ (k : Known). Joins Closed k Closed) (sym c.in-Cl
 
 pub returns : goal.returns
 returns c =
-    subst (λ (k : Known). Joins Closed k (Limited c.in-Limited.formula c.in-Limited.shapes)) (sym c.in-Limited.is)
-    (joins-later_limit Closed c.in-Limited.formula c.in-Limited.shapes)
+    subst (λ (k : Known). Joins Closed k (Limited c.in-Limited.limit)) (sym c.in-Limited.is) (joins-later_limit Closed c.in-Limited.limit)

@@ -12,5 +12,5 @@ returns-in-Applicable c =
 
 pub returns-in-Limited : goal.returns-in-Limited
 returns-in-Limited c =
-    subst (λ (k : Known). Joins k c.args.second (Limited c.in-Limited.formula c.in-Limited.shapes)) (sym c.in-Limited.is)
-    (joins-limited c.in-Limited.formula c.in-Limited.shapes c.args.second)
+    subst (λ (k : Known). Joins k c.args.second (Limited c.in-Limited.limit)) (sym c.in-Limited.is)
+    (joins-limited c.in-Limited.limit c.args.second)

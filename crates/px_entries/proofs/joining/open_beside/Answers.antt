@@ -28,5 +28,5 @@ returns-in-Closed c = subst (λ (k : Known). Joins (Open c.args.gaps) k Closed) 
 
 pub returns-in-Limited : goal.returns-in-Limited
 returns-in-Limited c =
-    subst (λ (k : Known). Joins (Open c.args.gaps) k (Limited c.in-Limited.formula c.in-Limited.shapes)) (sym c.in-Limited.is)
-    (joins-later_limit (Open c.args.gaps) c.in-Limited.formula c.in-Limited.shapes)
+    subst (λ (k : Known). Joins (Open c.args.gaps) k (Limited c.in-Limited.limit)) (sym c.in-Limited.is)
+    (joins-later_limit (Open c.args.gaps) c.in-Limited.limit)

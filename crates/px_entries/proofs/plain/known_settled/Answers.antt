@@ -2,7 +2,7 @@
 use Rattle.std.proofs.Common.{◌≡◌, ◌∙◌, ◌<◌, [], ◌∷◌, length, ap, sym, subst, arith}
 use Rattle.std.proofs.lemmas.List.{nil_from_length}
 use Rattle.px_prover.proofs.GapDeciding.{empty-test, filled-test}
-use Rattle.px_gaps.specs.Needs.{Obligation}
+use Rattle.px_gaps.specs.declared.question.Obligation.{Obligation}
 use Rattle.px_gaps.specs.Known.{IsOpenWith}
 use Rattle.px_entries.proofs.PlainLaws.{plain-applicable, plain-open}
 use Rattle.px_entries.proofs.plain.known_settled.Goals as goal

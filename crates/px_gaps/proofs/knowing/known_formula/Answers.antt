@@ -4,16 +4,22 @@ use Rattle.std.specs.Prelude.{◌==◌}
 use borrow.Author.Tests.{eqb-true}
 use Rattle.px_base.specs.Answers.{both_answers}
 use Rattle.px_terms.specs.declared.atom.Atom.{Atom}
-use Rattle.px_gaps.specs.Needs.{Obligation}
+use Rattle.px_gaps.specs.declared.question.Obligation.{Obligation}
+use Rattle.px_gaps.specs.declared.question.Question.TheVariants.{FindingGaps}
 use Rattle.px_gaps.specs.Known.{IsOpenWith}
 use Rattle.px_gaps.proofs.KnownSteps.{known-closed, known-limited, known-open}
 use Rattle.px_gaps.proofs.knowing.known_formula.Goals as goal
 
-pub returns-in-Err-ShapeLimit : goal.returns-in-Err-ShapeLimit
-returns-in-Err-ShapeLimit c =
+pub returns-in_ok-asked-in-Err-ShapeLimit : goal.returns-in_ok-asked-in-Err-ShapeLimit
+returns-in_ok-asked-in-Err-ShapeLimit c =
     known-limited c.args.problem.now (record { formula = c.args.formula.now; vars = c.args.vars; facts = c.args.model.now.atoms })
-    c.requires.no_answer c.in-Err-ShapeLimit.formula c.in-Err-ShapeLimit.shapes
-    (rw c.in-Err-ShapeLimit.field-0-is at c.in-Err-ShapeLimit.ensures.limited)
+    c.requires.no_answer
+    (record {
+      question = FindingGaps c.in_ok-asked-in-Err-ShapeLimit.asked;
+      formula = c.in-Err-ShapeLimit.kept;
+      shapes = c.in-Err-ShapeLimit.shapes;
+    })
+    (ap FindingGaps c.in_ok-asked-in-Err-ShapeLimit.ensures) (rw c.in-Err-ShapeLimit.field-0-is at c.in-Err-ShapeLimit.ensures.limited)
 
 -- the test of an empty list, by its length
 no_items : (b : Bool) (count : ℕ) (l : List Atom) → b ≡ (count == 0) → b ≡ true → count ≡ length l → length l ≡ 0

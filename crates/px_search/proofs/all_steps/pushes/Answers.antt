@@ -20,4 +20,4 @@ returns-in-Err-clause-limited c =
     let node : Node = record { model = c.args.model.now.atoms; stack = c.args.stack.now } in
     at_limit (LimitsRelevant task.problem task.tables c.args.gaps.now node.stack node.model)
     (LimitsNode task node) c.in-Err.error c.in-Err.ensures.limited
-    (λ formula shapes limits. limits-open task node c.args.gaps.now c.requires.gaps.exact formula shapes limits)
+    (λ limit limits. limits-open task node c.args.gaps.now c.requires.gaps.exact limit limits)

@@ -9,5 +9,5 @@ pub returns-in-Ok : goal.returns-in-Ok
 returns-in-Ok c =
     λ node stands limit.
     subst
-    (λ (n : Node). IsShapeLimit (task_for c.args.asked.now) c.args.asked.now.problem.now.weight n c.args.limit.formula c.args.limit.shapes)
+    (λ (n : Node). IsShapeLimit (task_for c.args.asked.now) c.args.asked.now.problem.now.weight n c.args.limit.met)
     (sym (c.in-Ok.ensures node stands)) limit

@@ -54,7 +54,7 @@ returns-in-Limited c =
     record {
       outcome = start-limit (task_for c.args.asked.now) c.start_key.new.numbers c.in_ok-start.start c.intern.new.self
           c.args.self.now.origins.items
-          c.in_ok-tried.tried c.in-Limited.formula c.in-Limited.shapes c.in_ok-start.ensures.start
+          c.in_ok-tried.tried c.in-Limited.met c.in_ok-start.ensures.start
           (start-alone (task_for c.args.asked.now) c.start_key.new.numbers c.in_ok-start.start c.args.self.now.nodes c.intern.new.self
           c.in_ok-intern.field-0 given.nodes c.in_ok-intern.ensures.kept) given.origins c.in_ok-tried.ensures c.in-Limited.is
           c.requires.asked.nodes.0;

@@ -1,7 +1,7 @@
 -- Proofs of the goals that `Explored::go_through` of src/best_first.rt leaves open.
 use Rattle.std.proofs.Common.{◌≡◌, ℕ, Bool, List, [], length, sym, ◌∙◌, subst, arith}
-use Rattle.px_gaps.specs.Outcomes.{AtLimit}
-use Rattle.px_gaps.specs.declared.ask_err.AskErr.{AskErr}
+use Rattle.px_diff.specs.Outcomes.{AtStop}
+use Rattle.px_diff.specs.declared.move_err.MoveErr.{MoveErr}
 use Rattle.px_support.specs.Asking.{task_for}
 use Rattle.px_search.specs.Going.{LimitsAt}
 use Rattle.px_search.specs.Looping.{ComesTo, TriesAt}
@@ -28,11 +28,11 @@ returns-in-Err-ShapeLimit-clause-gone c =
     let old = e.notes in
     let new = c.begun_from.new.self in
     let grown : HaveGrown task old new =
-    subst (λ (e : AskErr). AtLimit e (λ formula shapes. HaveGrown task old new)) c.in-Err-ShapeLimit.field-0-is
+    subst (λ (e : MoveErr). AtStop e (λ limit. HaveGrown task old new)) c.in-Err-ShapeLimit.field-0-is
     c.in-Err-ShapeLimit.ensures.notes in
     limit-here task old.numbers new.numbers e.nodes e.origins.items e.picker c.requires.picked.0 c.args.next c.node-key.result
-    c.in-Err-ShapeLimit.formula c.in-Err-ShapeLimit.shapes grown.keeps c.requires.picked.1 c.node-key.ensures
-    (subst (λ (e : AskErr). AtLimit e (LimitsAt task old.numbers c.node-key.result)) c.in-Err-ShapeLimit.field-0-is
+    c.in-Err-ShapeLimit.met grown.keeps c.requires.picked.1 c.node-key.ensures
+    (subst (λ (e : MoveErr). AtStop e (LimitsAt task old.numbers c.node-key.result)) c.in-Err-ShapeLimit.field-0-is
     c.in-Err-ShapeLimit.ensures.limited)
 
 pub returns-in-Err-ShapeLimit-clause-explored : goal.returns-in-Err-ShapeLimit-clause-explored
@@ -42,11 +42,11 @@ returns-in-Err-ShapeLimit-clause-explored c =
     let new = c.begun_from.new.self in
     let scene = c.begun_from.new.scene in
     let grown : HaveGrown task old new =
-    subst (λ (e : AskErr). AtLimit e (λ formula shapes. HaveGrown task old new)) c.in-Err-ShapeLimit.field-0-is
+    subst (λ (e : MoveErr). AtStop e (λ limit. HaveGrown task old new)) c.in-Err-ShapeLimit.field-0-is
     c.in-Err-ShapeLimit.ensures.notes in
     record {
       notes = grown.right;
-      scene = subst (λ (e : AskErr). AtLimit e (λ formula shapes. IsScene task new.numbers scene)) c.in-Err-ShapeLimit.field-0-is
+      scene = subst (λ (e : MoveErr). AtStop e (λ limit. IsScene task new.numbers scene)) c.in-Err-ShapeLimit.field-0-is
           c.in-Err-ShapeLimit.ensures.scene;
     }
 

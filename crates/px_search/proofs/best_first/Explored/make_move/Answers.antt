@@ -151,7 +151,7 @@ returns-in-Limited-clause-made c =
     step-limit task c.after.new.self.numbers c.sound.ensures.once e.nodes c.intern.new.self e.origins.items e.picker r.0 c.args.next
     r.1 r.2 r.3 c.args.step c.in_ok-there.there c.in_ok-place.place st c.in_ok-place.ensures.kept
     (λ h. omega (arith, h, c.if-place-count.false, c.count-count.ensures)) c.push.new.self.items c.in_ok-tried.tried
-    c.in-Limited.formula c.in-Limited.shapes c.in_ok-push.ensures.items (omega (arith, c.if-count-asked.false, c.count-count.ensures))
+    c.in-Limited.met c.in_ok-push.ensures.items (omega (arith, c.if-count-asked.false, c.count-count.ensures))
     c.in_ok-tried.ensures c.in-Limited.is
 
 pub returns-then-place-count-clause-explored : goal.returns-then-place-count-clause-explored

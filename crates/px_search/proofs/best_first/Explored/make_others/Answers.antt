@@ -1,8 +1,8 @@
 -- Proofs of the goals that `Explored::make_others` of src/best_first.rt leaves open.
 use Rattle.std.proofs.Common.{◌≡◌, ◌∷◌, ℕ, Bool, true, List, length, take, refl, subst, arith}
 use Rattle.px_table.specs.declared.node.Node.{Node}
-use Rattle.px_gaps.specs.Outcomes.{AtLimit}
-use Rattle.px_gaps.specs.declared.ask_err.AskErr.{AskErr}
+use Rattle.px_diff.specs.Outcomes.{AtStop}
+use Rattle.px_diff.specs.declared.move_err.MoveErr.{MoveErr}
 use Rattle.px_numbers.specs.Numbers.{IsKeyOf}
 use Rattle.px_support.specs.Asking.{task_for}
 use Rattle.px_search.specs.Going.{LimitsNode}
@@ -34,9 +34,9 @@ unreachable-requires c =
     let e = c.args.self.now in
     let r = c.requires.trying in
     unlimited-here task e.notes.numbers c.all_steps_from.new.self.numbers e.nodes e.origins.items e.picker r.0 c.args.next r.1 r.2
-    c.args.from c.node-key.result r.4 r.3 c.node-key.ensures c.in-Err-ShapeLimit.field-0-0 c.in-Err-ShapeLimit.field-0-1
-    (subst (λ (x : AskErr). AtLimit x (λ formula shapes. (node : Node) → IsKeyOf e.notes.numbers c.node-key.result node
-    → LimitsNode task node formula shapes)) c.in-Err-ShapeLimit.field-0-is c.in-Err-ShapeLimit.ensures.limited)
+    c.args.from c.node-key.result r.4 r.3 c.node-key.ensures c.in-Err-ShapeLimit.field-0-0
+    (subst (λ (x : MoveErr). AtStop x (λ limit. (node : Node) → IsKeyOf e.notes.numbers c.node-key.result node
+    → LimitsNode task node limit)) c.in-Err-ShapeLimit.field-0-is c.in-Err-ShapeLimit.ensures.limited)
 
 pub make_all-requires-clause-trying : goal.make_all-requires-clause-trying
 make_all-requires-clause-trying c =

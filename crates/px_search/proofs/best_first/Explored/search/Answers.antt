@@ -51,4 +51,4 @@ returns-in-Limited-clause-ends c =
     let e = c.explore.new.self in
     let limit = c.in-Limited.limit in
     let l = subst (ComesTo task e (IsGone task e)) c.in-Limited.is c.in_ok-progress.ensures.outcome in
-    c.limit_at.ensures (node_of task l.first.moves) l.stands (limit_of task l.found limit.formula limit.shapes l.first)
+    c.limit_at.ensures (node_of task l.first.moves) l.stands (limit_of task l.found limit.met l.first)

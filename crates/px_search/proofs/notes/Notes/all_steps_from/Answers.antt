@@ -17,7 +17,7 @@ use Rattle.px_search.proofs.notes.Notes.all_steps_from.Goals as goal
 pub returns-in-Limited-clause-limited : goal.returns-in-Limited-clause-limited
 returns-in-Limited-clause-limited c = λ node stands.
     let task = task_for c.args.asked.now in
-    limits-needs task node c.in-Limited.formula c.in-Limited.shapes
+    limits-needs task node c.in-Limited.limit
     (subst (IsKnownOf task.problem (needs_at task node)) c.in-Limited.is (c.in_ok-known.ensures node stands))
 
 pub returns-in-Closed-clause-steps : goal.returns-in-Closed-clause-steps
@@ -77,8 +77,8 @@ returns-clause-limited c =
     let stack = c.as_slice.result.now in
     if_limit (LimitsNode task (record { model = model; stack = stack }))
     (LimitsAt task kept c.args.key) c.pushes.result c.pushes.ensures.limited
-    (λ formula shapes limits node stands. of_node kept c.args.key
-    (λ (m : Node). LimitsNode task m formula shapes) node model stack stands c.in_ok-model.ensures
+    (λ limit limits node stands. of_node kept c.args.key
+    (λ (m : Node). LimitsNode task m limit) node model stack stands c.in_ok-model.ensures
     (c.as_slice.ensures.value ∙ c.in_ok-stack.ensures node.stack stands.stack) limits)
 
 pub returns-clause-notes : goal.returns-clause-notes

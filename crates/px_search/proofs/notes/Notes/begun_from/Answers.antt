@@ -59,4 +59,4 @@ returns-clause-limited c =
     let old = c.args.self.now.numbers in
     let mid = c.show.new.self.numbers in
     if_limit (LimitsAt task mid c.args.key) (LimitsAt task old c.args.key) c.steps_anew.result c.steps_anew.ensures.limited
-    (λ formula shapes is node stands. is node (stands-grows old mid c.args.key node c.in_ok-show.ensures.notes.keeps stands))
+    (λ limit is node stands. is node (stands-grows old mid c.args.key node c.in_ok-show.ensures.notes.keeps stands))

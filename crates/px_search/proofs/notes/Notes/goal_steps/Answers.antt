@@ -35,8 +35,8 @@ returns-in-Limited-clause-limited c =
     let n = c.requires.node in
     let model = c.args.scene.now.model.atoms in
     goal-each c.args.self.now.numbers c.args.key model n.0 n.1 n.2 c.requires.scene.model_at
-    (λ (node : Node). LimitsNode task node c.in-Limited.formula c.in-Limited.shapes)
-    (limits-needs task (record { model = model; stack = [] }) c.in-Limited.formula c.in-Limited.shapes
+    (λ (node : Node). LimitsNode task node c.in-Limited.limit)
+    (limits-needs task (record { model = model; stack = [] }) c.in-Limited.limit
     (subst (IsKnownOf task.problem (goal_from task model ∷ [])) c.in-Limited.is c.in_ok-known.ensures))
 
 pub returns-in-Closed-clause-steps : goal.returns-in-Closed-clause-steps
@@ -75,7 +75,7 @@ returns-in-Open-clause-limited c =
     let n = c.requires.node in
     let model = c.args.scene.now.model.atoms in
     if_limit (LimitsNode task (record { model = model; stack = [] }))
-    (λ formula shapes. (node : Node) → IsKeyOf c.args.self.now.numbers c.args.key node → LimitsNode task node formula shapes)
+    (λ limit. (node : Node) → IsKeyOf c.args.self.now.numbers c.args.key node → LimitsNode task node limit)
     c.pushes_to_goal.result c.pushes_to_goal.ensures.limited
-    (λ formula shapes limits. goal-each c.args.self.now.numbers c.args.key model n.0 n.1 n.2 c.requires.scene.model_at
-    (λ (node : Node). LimitsNode task node formula shapes) limits)
+    (λ limit limits. goal-each c.args.self.now.numbers c.args.key model n.0 n.1 n.2 c.requires.scene.model_at
+    (λ (node : Node). LimitsNode task node limit) limits)

@@ -83,8 +83,8 @@ returns-in-Err-clause-notes c =
     let old = c.args.self.now in
     let mid = c.loop-place.self in
     let new = c.offer.new.self in
-    at_limit (λ formula shapes. HaveGrown task mid new) (λ formula shapes. HaveGrown task old new) c.in-Err.error c.in-Err.ensures.notes
-    (λ formula shapes grown. grown-both task old mid new c.loop-place.invariant.grown grown)
+    at_limit (λ limit. HaveGrown task mid new) (λ limit. HaveGrown task old new) c.in-Err.error c.in-Err.ensures.notes
+    (λ limit grown. grown-both task old mid new c.loop-place.invariant.grown grown)
 
 pub returns-then-not-begun-clause-notes : goal.returns-then-not-begun-clause-notes
 returns-then-not-begun-clause-notes c =

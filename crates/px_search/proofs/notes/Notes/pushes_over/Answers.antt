@@ -1,8 +1,8 @@
 -- Proofs of the goals that `Notes::pushes_over` of src/notes.rt leaves open.
 use Rattle.std.proofs.Common.{◌∷◌, [], List, refl, sym, subst}
 use Rattle.px_table.specs.declared.entry.Entry.{Entry}
-use Rattle.px_gaps.specs.Outcomes.{AtLimit}
-use Rattle.px_gaps.specs.declared.ask_err.AskErr.{AskErr}
+use Rattle.px_diff.specs.Outcomes.{AtStop}
+use Rattle.px_diff.specs.declared.move_err.MoveErr.{MoveErr}
 use Rattle.px_gaps.specs.declared.known.Known.TheVariants.{Open}
 use Rattle.px_support.specs.Asking.{task_for}
 use Rattle.px_search.specs.Going.{IsBegunOn}
@@ -72,7 +72,7 @@ returns-in-Err-ShapeLimit-clause-notes c =
     let new = c.pushes_offered.new.self in
     let kept = c.all_pushes.new.numbers in
     let after : HaveGrown task mid new =
-    subst (λ (e : AskErr). AtLimit e (λ formula shapes. HaveGrown task mid new)) c.in-Err-ShapeLimit.field-0-is
+    subst (λ (e : MoveErr). AtStop e (λ limit. HaveGrown task mid new)) c.in-Err-ShapeLimit.field-0-is
     c.in-Err-ShapeLimit.ensures.notes in
     let grown : HaveGrown task old new =
     grown-both task old mid new (grown-numbers task old c.pushed.new.self c.pushed.ensures.keeps c.requires.notes) after in

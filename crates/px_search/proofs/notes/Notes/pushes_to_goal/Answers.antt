@@ -1,7 +1,7 @@
 -- Proofs of the goals that `Notes::pushes_to_goal` of src/notes.rt leaves open.
 use Rattle.std.proofs.Common.{[], refl, subst}
-use Rattle.px_gaps.specs.Outcomes.{AtLimit}
-use Rattle.px_gaps.specs.declared.ask_err.AskErr.{AskErr}
+use Rattle.px_diff.specs.Outcomes.{AtStop}
+use Rattle.px_diff.specs.declared.move_err.MoveErr.{MoveErr}
 use Rattle.px_support.specs.Asking.{task_for}
 use Rattle.px_search.specs.Notes.{HaveGrown}
 use Rattle.px_search.proofs.NoteLaws.{any_answer, grown-both, grown-numbers}
@@ -20,7 +20,7 @@ returns-in-Err-ShapeLimit-clause-notes c =
     let mid = c.pushes_offered.new.self in
     let kept = c.all_pushes.new.numbers in
     let before : HaveGrown task old mid =
-    subst (λ (e : AskErr). AtLimit e (λ formula shapes. HaveGrown task old mid)) c.in-Err-ShapeLimit.field-0-is
+    subst (λ (e : MoveErr). AtStop e (λ limit. HaveGrown task old mid)) c.in-Err-ShapeLimit.field-0-is
     c.in-Err-ShapeLimit.ensures.notes in
     any_answer c.all_pushes.result (grown-both task old mid (record mid { numbers = kept }) before
     (grown-numbers task mid kept c.all_pushes.ensures.keeps before.right))

@@ -38,10 +38,10 @@ returns-in-Limited-clause-limited c =
           ∙ c.in_ok-stack.ensures n.0.stack n.1.stack;
     } in
     read-each task kept c.args.key c.args.frame model stack r
-    (λ (node : Node). LimitsNode task node c.in-Limited.formula c.in-Limited.shapes)
-    (limits-needs task (record { model = model; stack = stack }) c.in-Limited.formula c.in-Limited.shapes
+    (λ (node : Node). LimitsNode task node c.in-Limited.limit)
+    (limits-needs task (record { model = model; stack = stack }) c.in-Limited.limit
     (read-known task kept c.args.key c.args.frame model stack r c.entry-top.result.now
-    (Limited c.in-Limited.formula c.in-Limited.shapes) c.in_ok-known.known c.entry-top.ensures c.in_ok-known.ensures c.in-Limited.is))
+    (Limited c.in-Limited.limit) c.in_ok-known.known c.entry-top.ensures c.in_ok-known.ensures c.in-Limited.is))
 
 pub kept_over-requires-clause-here : goal.kept_over-requires-clause-here
 kept_over-requires-clause-here c =
@@ -228,5 +228,5 @@ returns-clause-limited c =
     } in
     if_limit (LimitsNode task (record { model = model; stack = stack }))
     (LimitsAt task kept c.args.key) c.pushes_over.result c.pushes_over.ensures.limited
-    (λ formula shapes limits. read-each task kept c.args.key c.args.frame model stack r
-    (λ (node : Node). LimitsNode task node formula shapes) limits)
+    (λ limit limits. read-each task kept c.args.key c.args.frame model stack r
+    (λ (node : Node). LimitsNode task node limit) limits)
