@@ -15,6 +15,7 @@ mod SortedLemmas
 mod WholeLemmas
 mod FirstOrder
 mod FirstLemmas
+mod Reordering
 mod RestOpening
 mod ModelLaws
 mod MacroOpen

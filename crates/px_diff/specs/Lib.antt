@@ -6,6 +6,7 @@ pub mod Macros
 pub mod Models
 pub mod Outcomes
 pub mod Pushes
+pub mod Reordered
 pub mod Requests
 pub mod RowQuestions
 pub mod Stacks

@@ -11,6 +11,7 @@ pub mod Choosing
 pub mod SortedChoices
 mod FormLemmas
 pub mod Describing
+pub mod ClosingLemmas
 mod Parting
 mod PartLemmas
 mod ChoiceLemmas

@@ -1,4 +1,4 @@
-//! Asking the prover, and counting. Apart from this, only [`try_formula`](crate::try_formula) asks it.
+//! Asking the prover, and counting. Apart from this, only [`try_formula`](crate::try_formula) and [`gaps`](crate::gaps) ask it.
 ghost use Rattle.std.specs.Prelude.{◌≡◌, ◌≤◌, ◌<◌, List, map as map_list, IfOk, All};
 ghost use Rattle.px_prover.specs.Limits.{most_gap_variables};
 ghost use Rattle.px_terms.specs.Limits.{most_formula_variables};

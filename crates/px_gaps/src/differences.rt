@@ -12,7 +12,7 @@ ghost use Rattle.px_gaps.specs.Outcomes.{IfLimit};
 
 use crate::ask_err::AskErr;
 use crate::asker::Asker;
-use crate::gap_answer::ask_gaps;
+use crate::gap_answer::ask_closings;
 use crate::missing::missing_by;
 use px_ops::Model;
 use px_terms::{Atom, Problem, Sequence};
@@ -45,7 +45,7 @@ pub fn gaps(
     ensures limited { IfLimit result (MeetsGapLimit (setting_of problem.now model.now.atoms) formula.now vars) }
 {
     let mut asker = Asker::new(alloc);
-    let answer = ask_gaps(&mut asker, problem, formula, vars, model)?;
+    let answer = ask_closings(&mut asker, problem, formula, vars, model)?;
     let missing = missing_by(alloc, problem.objects, &answer.patterns, &answer.provable)?;
     Ok(Sequence::from_slice(alloc, missing.atoms())?.into_vec())
 }

@@ -4,9 +4,9 @@ ghost use Rattle.px_prover.specs.Limits.{most_gap_variables};
 ghost use Rattle.px_question.specs.Gaps.{MeetsGapLimit};
 ghost use Rattle.px_question.specs.Limits.{AreFewGapShapes};
 ghost use Rattle.px_question.specs.Settings.{setting_of};
-ghost use Rattle.px_prover.specs.Patterns.{AreGapPatterns};
+ghost use Rattle.px_prover.specs.Patterns.{AreGapClosings, AreGapPatterns};
 ghost use Rattle.px_terms.specs.Validity.{IsValid, IsAtomOf};
-ghost use Rattle.px_gaps.specs.GapAnswers.{IsGapAnswer};
+ghost use Rattle.px_gaps.specs.GapAnswers.{IsClosingAnswer, IsGapAnswer};
 ghost use Rattle.px_gaps.specs.Outcomes.{IfLimit};
 
 use crate::ask_err::AskErr;
@@ -14,7 +14,7 @@ use crate::asker::Asker;
 use crate::asking::provable_of;
 use crate::forms::forms_of;
 use px_ops::Model;
-use px_prover::{GapErr, GapPattern};
+use px_prover::{GapErr, GapPattern, gap_closings};
 use px_terms::{Atom, Problem, Sequence};
 
 /// What a question of gaps says of a formula.
@@ -75,6 +75,61 @@ pub fn ask_gaps(
     ensures limited { IfLimit result (MeetsGapLimit (setting_of problem.now model.now.atoms) formula.now vars) }
 {
     let patterns = patterns_of(asker, problem, formula, vars, model)?;
+    let forms = forms_of(asker.alloc, &patterns)?;
+    let provable = provable_of(asker, problem, model, &forms)?;
+    Ok(GapAnswer { patterns, provable })
+}
+
+// Alike: `patterns_of`, which asks for the terms, too, and counts the question.
+/// Returns the gap patterns of the formula without their terms.
+fn closings_of(
+    asker: &mut Asker,
+    problem: &Problem,
+    formula: &[Atom],
+    vars: u32,
+    model: &Model,
+) -> Result<Vec<GapPattern>, AskErr>
+    requires problem { IsValid problem.now }
+    requires formula { All (IsAtomOf problem.now vars) formula.now }
+    requires few_variables { vars ≤ most_gap_variables }
+    requires some_object { 0 < vars → 0 < problem.now.objects }
+    ensures closings { IfOk result (λ closings. AreGapClosings (setting_of problem.now model.now.atoms) formula.now vars closings.items) }
+    ensures few { IfOk result (λ closings. AreFewGapShapes (setting_of problem.now model.now.atoms) formula.now vars) }
+    ensures limited { IfLimit result (MeetsGapLimit (setting_of problem.now model.now.atoms) formula.now vars) }
+{
+    match gap_closings(asker.alloc, problem, formula, vars, model) {
+        Ok(closings) => Ok(closings),
+        Err(GapErr::ShapeLimit(shapes)) => {
+            let formula = Sequence::from_slice(asker.alloc, formula)?;
+            let shapes = Sequence::from_vec(shapes);
+            Err(AskErr::ShapeLimit { formula, shapes })
+        }
+        Err(GapErr::NoMemory) => Err(AskErr::NoMemory),
+    }
+}
+
+// Alike: `ask_gaps`, whose answer has the terms of its patterns, too; so its clauses but one are the same.
+/// Asks for the gaps of a formula, whatever the objects for its variables: its patterns without their terms, and which of the atoms that
+/// they close have a proof.
+///
+/// # Errors
+/// Those of [`ask_gaps`].
+pub(crate) fn ask_closings(
+    asker: &mut Asker,
+    problem: &Problem,
+    formula: &[Atom],
+    vars: u32,
+    model: &Model,
+) -> Result<GapAnswer, AskErr>
+    requires problem { IsValid problem.now }
+    requires formula { All (IsAtomOf problem.now vars) formula.now }
+    requires few_variables { vars ≤ most_gap_variables }
+    requires some_object { 0 < vars → 0 < problem.now.objects }
+    ensures answer { IfOk result (λ answer. IsClosingAnswer (setting_of problem.now model.now.atoms) formula.now vars
+        answer.patterns.items answer.provable.atoms) }
+    ensures limited { IfLimit result (MeetsGapLimit (setting_of problem.now model.now.atoms) formula.now vars) }
+{
+    let patterns = closings_of(asker, problem, formula, vars, model)?;
     let forms = forms_of(asker.alloc, &patterns)?;
     let provable = provable_of(asker, problem, model, &forms)?;
     Ok(GapAnswer { patterns, provable })

@@ -35,9 +35,10 @@
 //! that they close have a proof. Atoms that differ only by the names of their variables are asked once (`forms`), with
 //! their variables: where no instance has a proof, that is one question, else one of the variables is bound to each object
 //! in turn (`asking`). Then no gap list is written out. Objects are chosen variable by variable, and a choice is given up as
-//! soon as an atom of the pattern has a proof (`bindings`); atoms that share no variable are tried apart (`apart`). So `gaps` finds the
-//! atoms that a pattern closes together with none that is provable (`missing`), and callers get the objects for the formula's variables
-//! under which a pattern closes no provable atom (`choices`). There objects of another sort than a variable has to have are passed over.
+//! soon as an atom of the pattern has a proof (`bindings`); atoms that share no variable are tried apart (`apart`). So `gaps`, which asks
+//! for the patterns without their terms, finds the atoms that a pattern closes together with none that is provable (`missing`), and
+//! callers get the objects for the formula's variables under which a pattern closes no provable atom (`choices`). There objects of another
+//! sort than a variable has to have are passed over.
 //!
 //! The number of shapes is counted predicate by predicate (`bounds`): an atom is closed by a fact or a gap in at most two ways,
 //! and by each Horn axiom that concludes it in as many ways as the atoms that are then to be proved, if the axiom has no

@@ -3,11 +3,12 @@ pub mod Common
 -- characters and tokens
 pub mod Texts
 pub mod Numbers
-pub mod LineFronts
--- lists of tokens
+pub mod Scans
+-- what is read of a text
 pub mod Walks
 pub mod Parameters
 pub mod RowProofs
 -- lines by their rows
 pub mod Ones
 pub mod Views
+pub mod FormedLines

@@ -1,63 +1,66 @@
 -- The first tokens of a line, one after another.
-use Rattle.std.specs.List.{drop-map}
 use Rattle.std.proofs.lemmas.List.{drop_more}
-use Rattle.px_lines.proofs.Common.{◌≡◌, ℕ, ◌+◌, ◌-◌, take, take_all, length-drop, ◌<◌, ◌≤◌, List, [], ◌∷◌, ◌++◌, map, length, get_or, drop, refl, sym, ap, ◌∙◌, arith, append_assoc, map-append, length-map, Option, None, Some, option_map, option_and_then, Lexeme, Token, lexeme_of, lexemes_of}
+use Rattle.px_lines.proofs.Common.{◌≡◌, ℕ, ◌+◌, ◌<◌, ◌≤◌, List, [], ◌∷◌, ◌++◌, map, length, get_or, drop, refl, sym, ap, ◌∙◌, append_assoc, append-nil, map-append, drop_all, Option, None, Some, option_map, option_and_then, Lexeme, ones_front}
 use Rattle.px_script.specs.Items as items
 use Rattle.px_script.specs.declared.kinds.One.{One}
 use Rattle.px_script.proofs.Rows.{one_of, ones_at}
 use Rattle.px_lines.specs.ItemViews.{said_view}
 use Rattle.px_lines.specs.declared.items.Said.{Said}
+use Rattle.px_lines.proofs.Walks.{in_front}
 
 -- what the rest leads to, by what the first token is
-abbrev after_first : Option items.Item → Option (List items.Item) → Option (List items.Item)
-after_first first rest = option_and_then (λ item. option_map (λ items. item ∷ items) rest) first
+abbrev then_first : Option items.Item → Option (List items.Item × List Lexeme) → Option (List items.Item × List Lexeme)
+then_first first rest = option_and_then (λ item. option_map (λ r. (item ∷ r.0, r.1)) rest) first
 
-none-rest : (first : Option items.Item) → None ≡ after_first first None
-none-rest None = refl
-none-rest (Some item) = refl
+front-none : (found : Option (List items.Item × List Lexeme)) → found ≡ in_front [] found
+front-none None = refl
+front-none (Some r) = refl
 
-too-few : (ones : List One) (lexemes : List Lexeme) → length lexemes < length ones → None ≡ ones_at ones lexemes
-too-few [] lexemes short = absurd (omega (arith, short))
-too-few (o ∷ more) [] short = refl
-too-few (o ∷ more) (x ∷ xs) short =
-    none-rest (one_of o x) ∙ ap (after_first (one_of o x)) (too-few more xs (omega (arith, short)))
+front-more : (got : List items.Item) (x : items.Item) (found : Option (List items.Item × List Lexeme))
+    → in_front got (option_map (λ r. (x ∷ r.0, r.1)) found) ≡ in_front (got ++ x ∷ []) found
+front-more got x None = refl
+front-more got x (Some r) = ap (λ t. Some (t, r.1)) (sym (append_assoc got (x ∷ []) r.0))
 
-pub ones-short : (ones : List One) (tokens : List Token) → length tokens < length ones → None ≡ ones_at ones (lexemes_of tokens)
-ones-short ones tokens short = too-few ones (lexemes_of tokens) (omega (arith, short, length-map tokens lexeme_of))
+-- one token more
+front-step : (o : One) (ones : List One) (x : Lexeme) (xs : List Lexeme)
+    → ones_front (o ∷ ones) (x ∷ xs) ≡ then_first (one_of o x) (ones_front ones xs)
+front-step o ones x xs = each (one_of o x) (ones_at ones xs)
+  where
+    each : (first : Option items.Item) (found : Option (List items.Item))
+        → option_map (λ is. (is, drop (length ones) xs)) (option_and_then (λ item. option_map (λ is. item ∷ is) found) first)
+        ≡ then_first first (option_map (λ is. (is, drop (length ones) xs)) found)
+    each None found = refl
+    each (Some item) None = refl
+    each (Some item) (Some is) = refl
 
-pub ruleset short = (ones-short)
+pub ones-first : (ones : List One) (xs : List Lexeme) → ones_front ones xs ≡ in_front (map said_view []) (ones_front (drop 0 ones) xs)
+ones-first ones xs = front-none (ones_front ones xs)
 
-before-more : (got : List items.Item) (x : items.Item) (found : Option (List items.Item))
-    → option_map (λ more. got ++ more) (option_map (λ more. x ∷ more) found) ≡ option_map (λ more. (got ++ x ∷ []) ++ more) found
-before-more got x None = refl
-before-more got x (Some more) = ap Some (sym (append_assoc got (x ∷ []) more))
+module _ (ones : List One) (all xs : List Lexeme) (i : ℕ) (got : List Said) (below : i < length ones) (d : One)
+    (whole : ones_front ones all ≡ in_front (map said_view got) (ones_front (drop i ones) xs)) where
+  here : ones_front ones all ≡ in_front (map said_view got) (ones_front (get_or ones i d ∷ drop (i + 1) ones) xs)
+  here = whole ∙ ap (λ o. in_front (map said_view got) (ones_front o xs)) (drop_more ones i d below)
 
-module _ (ones : List One) (tokens : List Token) (i : ℕ) (got : List Said) (below : i < length ones) (enough : length ones ≤ length tokens)
-    (d : One) (e : Token) (whole : ones_at ones (lexemes_of tokens)
-    ≡ option_map (λ more. map said_view got ++ more) (ones_at (drop i ones) (lexemes_of (drop i tokens)))) where
-  abbrev rest : Option (List items.Item)
-  rest = ones_at (drop (i + 1) ones) (lexemes_of (drop (i + 1) tokens))
+  -- the text ends too early
+  pub ones-ended : xs ≡ [] → None ≡ ones_front ones all
+  ones-ended is = sym (here ∙ ap (λ t. in_front (map said_view got) (ones_front (get_or ones i d ∷ drop (i + 1) ones) t)) is)
 
-  next : ones_at (drop i ones) (lexemes_of (drop i tokens)) ≡ after_first (one_of (get_or ones i d) (lexeme_of (get_or tokens i e))) rest
-  next = ap (λ o. ones_at o (lexemes_of (drop i tokens))) (drop_more ones i d below)
-      ∙ ap (λ t. ones_at (get_or ones i d ∷ drop (i + 1) ones) (lexemes_of t)) (drop_more tokens i e (omega (arith, below, enough)))
+  module _ (x : Lexeme) (more : List Lexeme) (is : xs ≡ x ∷ more) where
+    step : ones_front ones all ≡ in_front (map said_view got) (then_first (one_of (get_or ones i d) x) (ones_front (drop (i + 1) ones) more))
+    step = here ∙ ap (λ t. in_front (map said_view got) (ones_front (get_or ones i d ∷ drop (i + 1) ones) t)) is
+        ∙ ap (in_front (map said_view got)) (front-step (get_or ones i d) (drop (i + 1) ones) x more)
 
-  pub ones-none : None ≡ one_of (get_or ones i d) (lexeme_of (get_or tokens i e)) → None ≡ ones_at ones (lexemes_of tokens)
-  ones-none none = sym (whole ∙ ap (option_map (λ more. map said_view got ++ more)) (next ∙ ap (λ f. after_first f rest) (sym none)))
+    pub ones-none : None ≡ one_of (get_or ones i d) x → None ≡ ones_front ones all
+    ones-none none = sym (step ∙ ap (λ f. in_front (map said_view got) (then_first f (ones_front (drop (i + 1) ones) more))) (sym none))
 
-  pub ones-more : (x : Said) (new : List Said) → Some (said_view x) ≡ one_of (get_or ones i d) (lexeme_of (get_or tokens i e))
-      → new ≡ got ++ x ∷ [] → ones_at ones (lexemes_of tokens) ≡ option_map (λ more. map said_view new ++ more) rest
-  ones-more x new one is = whole
-      ∙ ap (option_map (λ more. map said_view got ++ more)) (next ∙ ap (λ f. after_first f rest) (sym one))
-      ∙ before-more (map said_view got) (said_view x) rest
-      ∙ ap (λ t. option_map (λ more. t ++ more) rest) (sym (ap (map said_view) is ∙ map-append said_view got (x ∷ [])))
+    pub ones-more : (thing : Said) (new : List Said) → Some (said_view thing) ≡ one_of (get_or ones i d) x → new ≡ got ++ thing ∷ []
+        → ones_front ones all ≡ in_front (map said_view new) (ones_front (drop (i + 1) ones) more)
+    ones-more thing new one new_is = step
+        ∙ ap (λ f. in_front (map said_view got) (then_first f (ones_front (drop (i + 1) ones) more))) (sym one)
+        ∙ front-more (map said_view got) (said_view thing) (ones_front (drop (i + 1) ones) more)
+        ∙ ap (λ t. in_front t (ones_front (drop (i + 1) ones) more)) (sym (ap (map said_view) new_is ∙ map-append said_view got (thing ∷ [])))
 
--- ---- the tokens from a place on
-
-piece-is : (tokens : List Token) (k : ℕ) → take (length tokens - k) (drop k tokens) ≡ drop k tokens
-piece-is tokens k = take_all (length tokens - k) (drop k tokens) (omega (arith, length-drop k tokens))
-
-pub drop-lexemes : (tokens : List Token) (k : ℕ) → lexemes_of (take (length tokens - k) (drop k tokens)) ≡ drop k (lexemes_of tokens)
-drop-lexemes tokens k = ap lexemes_of (piece-is tokens k) ∙ sym (drop-map lexeme_of k tokens)
-
-pub ruleset pieces = (drop-lexemes)
+pub ones-end : (ones : List One) (all xs : List Lexeme) (i : ℕ) (got : List Said) → length ones ≤ i
+    → ones_front ones all ≡ in_front (map said_view got) (ones_front (drop i ones) xs) → Some (map said_view got, xs) ≡ ones_front ones all
+ones-end ones all xs i got past whole = sym (whole ∙ ap (λ o. in_front (map said_view got) (ones_front o xs)) (drop_all i ones past)
+    ∙ ap (λ t. Some (t, xs)) (append-nil (map said_view got)))

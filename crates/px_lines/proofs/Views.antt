@@ -1,5 +1,5 @@
 -- What single tokens say has no atoms and no parameters, and is filled; tests of all that a line's items have.
-use Rattle.px_lines.proofs.Common.{ℕ, Some, None, subst, get_or, Token, lexeme_of, lexemes_of, ◌≡◌, Bool, true, false, List, [], ◌∷◌, ◌++◌, map, refl, ap, sym, ◌∙◌, append-nil, list_all, list_all-append}
+use Rattle.px_lines.proofs.Common.{ℕ, Some, None, subst, ◌≡◌, Bool, true, false, List, [], ◌∷◌, ◌++◌, map, refl, ap, sym, ◌∙◌, append-nil, list_all, list_all-append}
 use Rattle.std.specs.List.{flat_map, list_any}
 use Rattle.std.specs.Prelude.{◌&&◌, ◌||◌}
 use Rattle.std.proofs.lemmas.List.Folds.{list_all-map, list_any-append}
@@ -9,10 +9,6 @@ use Rattle.px_lines.specs.declared.parts.Part.{Part}
 use Rattle.px_lines.specs.ItemViews.{signed_view}
 use Rattle.px_script.specs.Items.{Item, arguments_in, atoms_in, has_parameter, is_filled, atoms_of_part, terms_of_part}
 use Rattle.px_script.proofs.Forms.{there}
-use Rattle.px_script.specs.Declarations.{Declared}
-use Rattle.px_script.specs.Forms.{begins_with_word}
-use Rattle.px_lines.specs.declared.token.Token.TheVariants as token
-use denote.Ref.{Bor}
 use Rattle.px_script.proofs.ReadRows.{has-row, has_word, row-is_word, row-word}
 use Rattle.px_script.proofs.Rows.{is_of, row_of}
 use Rattle.px_script.specs.Limits.{is_word}
@@ -48,12 +44,6 @@ pub known-word : (version : ℕ) (b : Bool) (w : List ℕ) (r : Row) → Some (r
     → is_word version r.word.now ≡ true
 known-word version b w r is known = subst (λ v. is_word version v ≡ true)
     (there (λ t. w ≡ t.word) (row_of b w) (row_view r) (row-word b w) (sym is)) known
-
--- the word of a line that begins with a word is one
-pub head-word : (d : Declared) (tokens : List Token) (t : Token) (w : Bor (List ℕ)) → get_or tokens 0 t ≡ token.Name w
-    → begins_with_word d (lexemes_of tokens) ≡ true → is_word d.version w.now ≡ true
-head-word d [] t w is begins = cc
-head-word d (x ∷ xs) t w is begins = subst (λ (y : Token). begins_with_word d (lexeme_of y ∷ lexemes_of xs) ≡ true) is begins
 
 pub ruleset known_rows = (known-row, known-word)
 

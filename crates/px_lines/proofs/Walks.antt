@@ -1,25 +1,11 @@
--- Lists of tokens, read from left to right: things of one kind to the end of a line, and items in parentheses.
-use Rattle.px_lines.proofs.Common.{◌≡◌, ℕ, zero, suc, ◌+◌, ◌-◌, ◌≤◌, ◌<◌, Bool, true, false, ◌==◌, List, [], ◌∷◌, ◌++◌, map, take, drop, length, refl, sym, ap, ◌∙◌, subst, arith, append_assoc, append-nil, length-append, take_all, Option, None, Some, Result, Ok, Err, IfOk, IfSome, option_map, option_and_then, if◌then◌else◌, map-append, drop-drop, length-drop, length-map, drop_all, Lexeme, sign, ReadsBack, ReadsSpelled, atom-sound, atoms-back, binding-sound, bindings-back, pair-sound, pairs-back, room-edit-sound, room-edits-back, all_within, all_of, atom_at, room_edit_at, binding_at, pair_at, items_after, item_at, items_at, opens, at_end, lexemes_of, lexeme_of, Token, parts-back, part-sound, part_at}
+-- A text, read from left to right: things of one kind to the end of a line, and items in parentheses.
+use Rattle.px_lines.proofs.Common.{◌≡◌, ℕ, zero, suc, ◌+◌, ◌-◌, ◌≤◌, ◌<◌, Bool, true, false, ◌==◌, List, [], ◌∷◌, ◌++◌, map, length, refl, sym, ap, ◌∙◌, subst, arith, append_assoc, append-nil, length-append, Option, None, Some, IfSome, option_map, option_and_then, if◌then◌else◌, map-append, Lexeme, sign, ReadsBack, ReadsSpelled, atom-sound, atoms-back, binding-sound, bindings-back, pair-sound, pairs-back, room-edit-sound, room-edits-back, all_within, all_of, atom_at, room_edit_at, binding_at, pair_at, items_after, item_at, parts-back, part-sound, part_at, names_of, IsUtf8, Follows, if_whole, is_end, is_none, is_whole, lexemes_in, name_in, number_in}
+use Rattle.std.specs.Prelude.{◌&&◌}
+use Rattle.px_script.specs.Lexemes.{name, variable, number}
+use Rattle.px_script.proofs.Parsing.{numbers_of}
 
--- ---- answers
-
--- what is equal for an Ok may be exchanged
-pub ok-same : {T E X : Type 0} (r : Result T E) (view : T → X) (a b : X) → IfOk r (λ t. view t ≡ a) → a ≡ b → IfOk r (λ t. view t ≡ b)
-ok-same (Ok t) view a b h e = h ∙ e
-ok-same (Err x) view a b h e = h
-
--- what is at the end of the line, and what isn't
-pub ended : {A : Type 0} (found : Option A) (after : List Lexeme) → length after ≤ 0
-    → found ≡ option_and_then at_end (option_map (λ a. (a, after)) found)
-ended None after none = refl
-ended (Some a) [] none = refl
-ended (Some a) (x ∷ xs) none = absurd (omega (arith, none))
-
-pub not-ended : {A : Type 0} (found : Option A) (after : List Lexeme) → 0 < length after
-    → None ≡ option_and_then at_end (option_map (λ a. (a, after)) found)
-not-ended None after more = refl
-not-ended (Some a) [] more = absurd (omega (arith, more))
-not-ended (Some a) (x ∷ xs) more = refl
+pub some-same : {A : Type 0} (a b : A) → Some a ≡ Some b → a ≡ b
+some-same a b e = subst (λ o. IfSome o (λ x. a ≡ x)) e refl
 
 -- ---- things of one kind
 
@@ -91,48 +77,82 @@ module _ {A : Type 0} (one : List Lexeme → Option (A × List Lexeme)) (advance
       ap (after_one (all_within one (length xs))) (sym e)
       ∙ ap (option_map (λ more. a ∷ more)) (fuel (length xs) (length after) after (omega (arith, fewer)) (omega arith))
 
-  all-none : (xs : List Lexeme) → 0 < length xs → None ≡ one xs → None ≡ all_of one xs
+  all-none : (x : Lexeme) (xs : List Lexeme) → None ≡ one (x ∷ xs) → None ≡ all_of one (x ∷ xs)
   unfolding all_within
-  all-none [] some e = absurd (omega (arith, some))
-  all-none (x ∷ xs) some e = ap (after_one (all_within one (length xs))) e
+  all-none x xs e = ap (after_one (all_within one (length xs))) e
 
--- The tokens up to a place are these things: all are these and what the rest are.
-pub record AreReadTo {T A : Type 0} (view : T → A) (one : List Lexeme → Option (A × List Lexeme)) (tokens : List Token) (at : ℕ)
-    (got : List T) : Type 0 where
-  pub whole : all_of one (lexemes_of tokens) ≡ before (map view got) (all_of one (lexemes_of (drop at tokens)))
-  pub within : at ≤ length tokens
+  -- nothing more is read: nothing follows, or what follows is no such thing
+  nothing-more : (xs : List Lexeme) (b : Bool) → None ≡ one xs → (is_none xs && b) ≡ true → (b ≡ true) × (all_of one xs ≡ Some [])
+  nothing-more [] b e ends = (ends, all-ended 0)
+  nothing-more (x ∷ xs) b e ends = cc
 
-module _ {T A : Type 0} {view : T → A} {one : List Lexeme → Option (A × List Lexeme)} (advances : Advances one) {tokens : List Token}
-    {at : ℕ} {got : List T} (read : AreReadTo view one tokens at got) where
-  abbrev piece : List Token
-  piece = take (length tokens - at) (drop at tokens)
+  no-thing : (xs : List Lexeme) (b : Bool) → None ≡ one xs → (is_none xs && b) ≡ false
+      → (got : List A) → None ≡ (if b then before got (all_of one xs) else None)
+  no-thing [] true e ends got = cc
+  no-thing (x ∷ xs) true e ends got = ap (before got) (all-none x xs e)
+  no-thing xs false e ends got = refl
 
-  piece-is : piece ≡ drop at tokens
-  piece-is = take_all (length tokens - at) (drop at tokens) (omega (arith, length-drop at tokens))
+-- The text up to the rest is these things: all are these and what the rest are.
+pub record AreReadTo {T A : Type 0} (view : T → A) (one : List Lexeme → Option (A × List Lexeme)) (text rest : List ℕ) (got : List T)
+    : Type 0 where
+  pub whole : all_of one (lexemes_in text) ≡ before (map view got) (all_of one (lexemes_in rest))
+  pub follows : Follows text rest
 
-  pub things-more : at < length tokens → (thing : T) (count : ℕ) → Some (view thing, lexemes_of (drop count piece)) ≡ one (lexemes_of piece)
-      → (0 < count) × (count ≤ length piece) → (new : List T) → new ≡ got ++ thing ∷ [] → AreReadTo view one tokens (at + count) new
-  things-more below thing count e within new is =
-      let rest : Some (view thing, lexemes_of (drop (at + count) tokens)) ≡ one (lexemes_of (drop at tokens)) =
-      ap (λ t. Some (view thing, lexemes_of t)) (sym (drop-drop count at tokens))
-      ∙ ap (λ t. Some (view thing, lexemes_of (drop count t))) (sym piece-is) ∙ e ∙ ap (λ t. one (lexemes_of t)) piece-is in record {
-        whole = read.whole ∙ ap (before (map view got)) (all-first one advances (lexemes_of (drop at tokens)) (view thing)
-            (lexemes_of (drop (at + count) tokens)) rest)
-            ∙ before-more (map view got) (view thing) (all_of one (lexemes_of (drop (at + count) tokens)))
-            ∙ ap (λ t. before t (all_of one (lexemes_of (drop (at + count) tokens))))
-            (sym (ap (map view) is ∙ map-append view got (thing ∷ [])));
-        within = omega (arith, within.1, ap length piece-is, length-drop at tokens, below);
-      }
+before-none : {A : Type 0} (found : Option (List A)) → found ≡ before [] found
+before-none None = refl
+before-none (Some things) = refl
 
-  pub things-none : at < length tokens → None ≡ one (lexemes_of piece) → None ≡ all_of one (lexemes_of tokens)
-  things-none below e = let long : 0 < length (lexemes_of (drop at tokens)) = omega
-      (arith, length-map (drop at tokens) lexeme_of, length-drop at tokens, below) in
-      ap (before (map view got)) (all-none one advances (lexemes_of (drop at tokens)) long (e ∙ ap (λ t. one (lexemes_of t)) piece-is))
-      ∙ sym read.whole
+pub things-first : {T A : Type 0} (view : T → A) (one : List Lexeme → Option (A × List Lexeme)) (text : List ℕ) → IsUtf8 text
+    → AreReadTo view one text text []
+things-first view one text is_text = record { whole = before-none (all_of one (lexemes_in text)); follows = (is_text, refl) }
 
-  pub things-end : length tokens ≤ at → Some (map view got) ≡ all_of one (lexemes_of tokens)
-  things-end ended = sym (read.whole ∙ ap (λ t. before (map view got) (all_of one (lexemes_of t))) (drop_all at tokens ended)
-      ∙ ap (before (map view got)) (all-ended one advances 0) ∙ ap Some (append-nil (map view got)))
+module _ {T A : Type 0} {view : T → A} {one : List Lexeme → Option (A × List Lexeme)} (advances : Advances one) {text rest : List ℕ}
+    {got : List T} (read : AreReadTo view one text rest got) where
+  pub things-more : (thing : T) (after : List ℕ) → Some (view thing, lexemes_in after) ≡ one (lexemes_in rest) → Follows rest after
+      → (new : List T) → new ≡ got ++ thing ∷ [] → AreReadTo view one text after new
+  things-more thing after e follows new is = record {
+    whole = read.whole ∙ ap (before (map view got)) (all-first one advances (lexemes_in rest) (view thing) (lexemes_in after) e)
+        ∙ before-more (map view got) (view thing) (all_of one (lexemes_in after))
+        ∙ ap (λ t. before t (all_of one (lexemes_in after))) (sym (ap (map view) is ∙ map-append view got (thing ∷ [])));
+    follows = (follows.0, follows.1 ∙ read.follows.1);
+  }
+
+  pub things-fewer : (thing : T) (after : List ℕ) → Some (view thing, lexemes_in after) ≡ one (lexemes_in rest)
+      → length (lexemes_in after) < length (lexemes_in rest)
+  things-fewer thing after e = advances (lexemes_in rest) (view thing, lexemes_in after) (sym e)
+
+  module _ (none : None ≡ one (lexemes_in rest)) where
+    pub things-none : is_end rest ≡ false → None ≡ if_whole text (all_of one (lexemes_in text))
+    things-none ends = rw (← read.follows.1, read.whole) (no-thing one advances (lexemes_in rest) (is_whole rest) none ends (map view got))
+
+    pub things-end : is_end rest ≡ true → Some (map view got) ≡ if_whole text (all_of one (lexemes_in text))
+    things-end ends = let both = nothing-more one advances (lexemes_in rest) (is_whole rest) none ends in
+        rw (← read.follows.1, both.0, read.whole, both.1) (ap Some (sym (append-nil (map view got))))
+
+pub map-same : {A : Type 0} (xs : List A) → map (λ x. x) xs ≡ xs
+map-same [] = refl
+map-same (x ∷ xs) = ap (λ t. x ∷ t) (map-same xs)
+
+-- names and numbers are things of one kind
+pub name-advances : Advances name_in
+name-advances (name n ∷ xs) front e = let is : xs ≡ front.1 = ap (λ f. f.1) (some-same _ _ e) in rw (← is) (omega arith)
+name-advances _ front e = cc
+
+pub number-advances : Advances number_in
+number-advances (number n ∷ xs) front e = let is : xs ≡ front.1 = ap (λ f. f.1) (some-same _ _ e) in rw (← is) (omega arith)
+number-advances _ front e = cc
+
+pub names-are : (xs : List Lexeme) → all_of name_in xs ≡ names_of xs
+unfolding all_within
+names-are [] = refl
+names-are (name n ∷ xs) = ap (option_map (λ more. n ∷ more)) (names-are xs)
+names-are _ = refl
+
+pub numbers-are : (xs : List Lexeme) → all_of number_in xs ≡ numbers_of xs
+unfolding all_within
+numbers-are [] = refl
+numbers-are (number n ∷ xs) = ap (option_map (λ more. n ∷ more)) (numbers-are xs)
+numbers-are _ = refl
 
 -- ---- items
 
@@ -179,7 +199,16 @@ module _ {A : Type 0} (item : Lexeme → Option A) (all rest : List Lexeme) (got
   pub items-none : None ≡ item_at item rest → None ≡ items_after item all
   items-none at = sym (whole ∙ ap (in_front got) (items_step item rest ∙ ap (option_and_then (after_item item)) (sym at)))
 
-pub items-opened : {A : Type 0} (item : Lexeme → Option A) (lexemes : List Lexeme) → opens lexemes ≡ true
-    → items_at item lexemes ≡ items_after item (drop 1 lexemes)
-items-opened item (sign s ∷ rest) e = rw e refl
-items-opened item _ e = cc
+-- an item and its sign are two lexemes
+pub item-shorter : {A : Type 0} (item : Lexeme → Option A) (xs : List Lexeme) (step : A × ℕ × List Lexeme) → Some step ≡ item_at item xs
+    → length step.2 < length xs
+item-shorter item [] step e = cc
+item-shorter item (x ∷ []) step e = cc
+item-shorter item (x ∷ sign s ∷ rest) step e = by_item (item x) e
+  where
+    by_item : (found : Option _) → Some step ≡ option_map (λ a. (a, s, rest)) found → length step.2 < length (x ∷ sign s ∷ rest)
+    by_item None e = cc
+    by_item (Some a) e = rw (ap (λ t. t.2) (some-same _ _ e)) (omega arith)
+item-shorter item (x ∷ name n ∷ rest) step e = cc
+item-shorter item (x ∷ variable n ∷ rest) step e = cc
+item-shorter item (x ∷ number n ∷ rest) step e = cc

@@ -1,12 +1,9 @@
--- What the definitions see of tokens and of what they say.
+-- What the definitions see of what tokens say.
 use Rattle.std.specs.Option.{option_map}
-use Rattle.std.specs.Prelude.{ℕ, Bool, List, [], ◌∷◌, ◌++◌, map, drop, Option, Vec}
+use Rattle.std.specs.Prelude.{ℕ, Bool, List, [], ◌∷◌, ◌++◌, map, Option, Vec}
 use Rattle.std.specs.List.{list_any}
 use Rattle.std.specs.declared.alloc.Global.{Global}
-use Rattle.px_script.specs.Lexemes.{Lexeme}
 use Rattle.px_script.specs.Items as items
-use Rattle.px_lines.specs.Tokens.{lexeme_of}
-use Rattle.px_lines.specs.declared.token.Token.{Token}
 use Rattle.px_lines.specs.declared.items.Argument.{Argument}
 use Rattle.px_lines.specs.declared.items.Argument.TheVariants as argument
 use Rattle.px_lines.specs.declared.items.SignedAtom.{SignedAtom}
@@ -20,9 +17,6 @@ use Rattle.px_lines.specs.declared.items.Rest.TheVariants as rest
 use Rattle.px_lines.specs.declared.parts.Part.{Part}
 use Rattle.px_lines.specs.declared.parts.Part.TheVariants as part
 use denote.Ref.{Bor}
-
-abbrev pub lexemes_of : List Token → List Lexeme
-lexemes_of tokens = map lexeme_of tokens
 
 abbrev pub text_of : Bor (List ℕ) → List ℕ
 text_of s = s.now
@@ -97,10 +91,6 @@ atom_varies atom = list_any (λ a. items.is_variable (argument_view a)) atom.arg
 -- a list, where there is one
 abbrev pub list_view : {X Y : Type 0} → (X → Y) → Option (Vec X Global) → Option (List Y)
 list_view view found = option_map (λ v. map view v.items) found
-
--- what was read of the tokens and the place after it, as what it is and the lexemes that follow
-abbrev pub front_view : {X Y : Type 0} → (X → Y) → List Token → Option (X × ℕ) → Option (Y × List Lexeme)
-front_view view tokens found = option_map (λ p. (view p.0, lexemes_of (drop p.1 tokens))) found
 
 abbrev pub items_view : {X Y : Type 0} → (X → Y) → Vec X Global → List Y
 items_view view items = map view items.items

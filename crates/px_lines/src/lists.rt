@@ -1,10 +1,10 @@
-//! Lists of tokens: names or numbers to the end of a line, and items between parentheses.
-ghost use Rattle.std.specs.Prelude.{◌≡◌, ◌≤◌, ◌<◌, ◌+◌, drop, length, IfOk, IfSome, IsTrue, map};
+//! Lists: names or numbers to the end of a line, and items between parentheses.
+ghost use Rattle.std.specs.Prelude.{◌≡◌, IfOk, map};
 ghost use Rattle.px_script.proofs.Parsing.{names_of, numbers_of};
-ghost use Rattle.px_lines.specs.Common.{at_end, option_and_then, option_map, argument_of, names_among, names_at, item_at, items_after, items_at, opens, lexeme_of, lexemes_of, argument_view, text_of, list_view, front_view, items_view};
+ghost use Rattle.px_lines.specs.Common.{at_end, option_and_then, option_map, argument_of, names_among, names_at, item_at, items_after, items_at, lexeme_of, lexemes_in, if_whole, Fronts, ItemFronts, argument_view, text_of, list_view, items_view};
 
 use crate::items::Argument;
-use crate::token::Token;
+use crate::token::{Token, after_sign, ends, name, next, number, sign};
 use px_base::NoMemory;
 use std::alloc::Global;
 
@@ -20,75 +20,65 @@ fn argument_of(token: Token<'_>) -> Option<Argument<'_>>
     }
 }
 
-// Alike: `names_among`, which takes arguments in place of tokens.
-/// Returns the names that the tokens are, to the last.
-pub fn names<'a>(alloc: Global, tokens: &[Token<'a>]) -> Result<Option<Vec<&'a str>>, NoMemory>
-    ensures { IfOk result (λ found. list_view text_of found ≡ names_of (lexemes_of tokens.now)) }
+// Alike: `numbers`, which takes numbers in place of names.
+/// Returns the names that a text is.
+pub fn names<'a>(alloc: Global, text: &'a str) -> Result<Option<Vec<&'a str>>, NoMemory>
+    ensures { IfOk result (λ found. list_view text_of found ≡ if_whole text.now (names_of (lexemes_in text.now))) }
 {
     let mut names = Vec::new(alloc);
-    for token in tokens {
-        let Token::Name(name) = *token else {
-            return Ok(None);
-        };
+    let mut rest = text;
+    'things: while let Some((name, after)) = name(rest) {
         names.push(name)?;
+        rest = after;
     }
-    Ok(Some(names))
+    if ends(rest) {
+        Ok(Some(names))
+    } else {
+        Ok(None)
+    }
 }
 
-// Alike: `names`, which takes names in place of numbers.
-/// Returns the numbers that the tokens are, to the last.
-pub fn numbers(alloc: Global, tokens: &[Token<'_>]) -> Result<Option<Vec<u32>>, NoMemory>
-    ensures { IfOk result (λ found. option_map (λ v. v.items) found ≡ numbers_of (lexemes_of tokens.now)) }
+/// Returns the numbers that a text is.
+pub fn numbers(alloc: Global, text: &str) -> Result<Option<Vec<u32>>, NoMemory>
+    ensures { IfOk result (λ found. option_map (λ v. v.items) found ≡ if_whole text.now (numbers_of (lexemes_in text.now))) }
 {
     let mut numbers = Vec::new(alloc);
-    for token in tokens {
-        let Token::Number(number) = *token else {
-            return Ok(None);
-        };
+    let mut rest = text;
+    'things: while let Some((number, after)) = number(rest) {
         numbers.push(number)?;
+        rest = after;
     }
-    Ok(Some(numbers))
-}
-
-/// Returns an argument in front, and the sign after it.
-fn argument_and_sign<'a>(tokens: &[Token<'a>]) -> Option<(Argument<'a>, char)>
-    ensures item { option_map (λ p. (argument_view p.0, p.1, lexemes_of (drop 2 tokens.now))) result
-        ≡ item_at argument_of (lexemes_of tokens.now) }
-    ensures two { IfSome result (λ p. 2 ≤ length tokens.now) }
-{
-    match tokens {
-        [item, Token::Sign(sign), ..] => Some((argument_of(*item)?, *sign)),
-        _ => None,
+    if ends(rest) {
+        Ok(Some(numbers))
+    } else {
+        Ok(None)
     }
 }
 
-fn argument_at<'a>(tokens: &[Token<'a>], at: usize) -> Option<(Argument<'a>, char)>
-    requires { at ≤ length tokens.now }
-    ensures item { option_map (λ p. (argument_view p.0, p.1, lexemes_of (drop (at + 2) tokens.now))) result
-        ≡ item_at argument_of (lexemes_of (drop at tokens.now)) }
-    ensures two { IfSome result (λ p. at + 2 ≤ length tokens.now) }
+/// Returns an argument in front, the sign after it, and what follows.
+fn argument_and_sign(text: &str) -> Option<(Argument<'_>, char, &str)>
+    ensures { ItemFronts argument_view text.now (item_at argument_of (lexemes_in text.now)) result }
 {
-    argument_and_sign(&tokens[at..])
+    let (token, rest) = next(text)?;
+    let argument = argument_of(token)?;
+    let (sign, rest) = sign(rest)?;
+    Some((argument, sign, rest))
 }
 
-/// Returns the arguments from a place on, between commas and up to a closing parenthesis, and the place after it.
+/// Returns the arguments in front, between commas and up to a closing parenthesis, and what follows it.
 pub fn arguments_after<'a>(
     alloc: Global,
-    tokens: &[Token<'a>],
-    start: usize,
-) -> Result<Option<(Vec<Argument<'a>>, usize)>, NoMemory>
-    requires { start ≤ length tokens.now }
-    ensures found { IfOk result (λ found. front_view (items_view argument_view) tokens.now found
-        ≡ items_after argument_of (lexemes_of (drop start tokens.now))) }
-    ensures within { IfOk result (λ found. IfSome found (λ p. (start ≤ p.1) × (p.1 ≤ length tokens.now))) }
+    text: &'a str,
+) -> Result<Option<(Vec<Argument<'a>>, &'a str)>, NoMemory>
+    ensures { IfOk result (Fronts (items_view argument_view) text.now (items_after argument_of (lexemes_in text.now))) }
 {
     let mut arguments = Vec::new(alloc);
-    let mut at = start;
-    while let Some((argument, sign)) = argument_at(tokens, at) {
+    let mut rest = text;
+    while let Some((argument, sign, after)) = argument_and_sign(rest) {
         arguments.push(argument)?;
-        at += 2;
+        rest = after;
         if sign == ')' {
-            return Ok(Some((arguments, at)));
+            return Ok(Some((arguments, rest)));
         }
         if sign != ',' {
             return Ok(None);
@@ -97,37 +87,35 @@ pub fn arguments_after<'a>(
     Ok(None)
 }
 
-/// Returns the arguments in parentheses in front, or no arguments, and how many tokens they take.
+/// Returns the arguments in parentheses in front, or no arguments, and what follows them.
 pub fn arguments<'a>(
     alloc: Global,
-    tokens: &[Token<'a>],
-) -> Result<Option<(Vec<Argument<'a>>, usize)>, NoMemory>
-    ensures found { IfOk result (λ found. front_view (items_view argument_view) tokens.now found
-        ≡ items_at argument_of (lexemes_of tokens.now)) }
-    ensures within { IfOk result (λ found. IfSome found (λ p. p.1 ≤ length tokens.now)) }
+    text: &'a str,
+) -> Result<Option<(Vec<Argument<'a>>, &'a str)>, NoMemory>
+    ensures { IfOk result (Fronts (items_view argument_view) text.now (items_at argument_of (lexemes_in text.now))) }
 {
-    if opens(tokens) {
-        arguments_after(alloc, tokens, 1)
-    } else {
-        Ok(Some((Vec::new(alloc), 0)))
+    match after_sign(text, '(') {
+        Some(rest) => arguments_after(alloc, rest),
+        None => Ok(Some((Vec::new(alloc), text))),
     }
 }
 
-/// Returns the arguments in parentheses, or no arguments, where the line ends after them.
+/// Returns the arguments in parentheses, or no arguments, where the text ends after them.
 pub fn listed_arguments<'a>(
     alloc: Global,
-    tokens: &[Token<'a>],
+    text: &'a str,
 ) -> Result<Option<Vec<Argument<'a>>>, NoMemory>
     ensures { IfOk result (λ found. list_view argument_view found
-        ≡ option_and_then at_end (items_at argument_of (lexemes_of tokens.now))) }
+        ≡ if_whole text.now (option_and_then at_end (items_at argument_of (lexemes_in text.now)))) }
 {
-    let Some((arguments, count)) = arguments(alloc, tokens)? else {
+    let Some((arguments, rest)) = arguments(alloc, text)? else {
         return Ok(None);
     };
-    if count < tokens.len() {
-        return Ok(None);
+    if ends(rest) {
+        Ok(Some(arguments))
+    } else {
+        Ok(None)
     }
-    Ok(Some(arguments))
 }
 
 /// Returns the names that arguments are, where they are all names.
@@ -147,25 +135,13 @@ fn names_among<'a>(
     Ok(Some(names))
 }
 
-/// Returns the names in parentheses, or no names, where the line ends after them.
-pub fn listed_names<'a>(
-    alloc: Global,
-    tokens: &[Token<'a>],
-) -> Result<Option<Vec<&'a str>>, NoMemory>
-    ensures { IfOk result (λ found. list_view text_of found ≡ option_and_then at_end (names_at (lexemes_of tokens.now))) }
+/// Returns the names in parentheses, or no names, where the text ends after them.
+pub fn listed_names<'a>(alloc: Global, text: &'a str) -> Result<Option<Vec<&'a str>>, NoMemory>
+    ensures { IfOk result (λ found. list_view text_of found
+        ≡ if_whole text.now (option_and_then at_end (names_at (lexemes_in text.now)))) }
 {
-    let Some((arguments, count)) = arguments(alloc, tokens)? else {
+    let Some(arguments) = listed_arguments(alloc, text)? else {
         return Ok(None);
     };
-    if count < tokens.len() {
-        return Ok(None);
-    }
     names_among(alloc, &arguments)
-}
-
-fn opens(tokens: &[Token<'_>]) -> bool
-    ensures opens { result ≡ opens (lexemes_of tokens.now) }
-    ensures some { IsTrue result → 0 < length tokens.now }
-{
-    matches!(tokens, [Token::Sign('('), ..])
 }

@@ -1,13 +1,13 @@
 //! The proofs of one row of a table, as they are written: what each begins with, one after another.
-ghost use Rattle.std.specs.Prelude.{◌≡◌, ◌≤◌, ◌<◌, ◌+◌, ◌^◌, length, map, IfOk, IfSome};
+ghost use Rattle.std.specs.Prelude.{◌≡◌, ◌<◌, ◌^◌, map, IfOk};
 ghost use Rattle.px_script.specs.Items.{are_proofs, atoms_of_part, owed, terms_of_part};
 ghost use Rattle.px_script.proofs.Parsing.{ancestor_at, axiom_at, fact_at, part_at, part_for, terms_after, terms_at};
-ghost use Rattle.px_lines.specs.Common.{all_of, argument_view, front_view, items_view, lexemes_of, list_view, part_view, signed_view};
+ghost use Rattle.px_lines.specs.Common.{Fronts, all_of, argument_view, if_whole, items_view, lexemes_in, list_view, part_view, signed_view};
 
 use crate::items::{Argument, SignedAtom};
 use crate::lists::arguments_after;
 use crate::series::atom;
-use crate::token::Token;
+use crate::token::{after_sign, ends, name, number};
 use px_base::NoMemory;
 use std::alloc::Global;
 
@@ -50,101 +50,101 @@ pub fn are_whole(parts: &[Part<'_>]) -> bool
     owed == 0
 }
 
-/// Returns the terms in parentheses in front, and how many tokens they take.
-fn terms<'a>(
-    alloc: Global,
-    tokens: &[Token<'a>],
-) -> Result<Option<(Vec<Argument<'a>>, usize)>, NoMemory>
-    ensures found { IfOk result (λ found. front_view (items_view argument_view) tokens.now found ≡ terms_at (lexemes_of tokens.now)) }
-    ensures within { IfOk result (λ found. IfSome found (λ p. p.1 ≤ length tokens.now)) }
+/// Returns the terms in parentheses in front, and what follows them.
+fn terms<'a>(alloc: Global, text: &'a str) -> Result<Option<(Vec<Argument<'a>>, &'a str)>, NoMemory>
+    ensures { IfOk result (Fronts (items_view argument_view) text.now (terms_at (lexemes_in text.now))) }
 {
-    match tokens {
-        [Token::Sign('('), Token::Sign(')'), ..] => Ok(Some((Vec::new(alloc), 2))),
-        [Token::Sign('('), ..] => arguments_after(alloc, tokens, 1),
-        _ => Ok(None),
+    let Some(rest) = after_sign(text, '(') else {
+        return Ok(None);
+    };
+    match after_sign(rest, ')') {
+        Some(after) => Ok(Some((Vec::new(alloc), after))),
+        None => arguments_after(alloc, rest),
     }
 }
 
-/// Returns the fact that the tokens after `f` are, and how many tokens both take.
-fn fact<'a>(alloc: Global, tokens: &[Token<'a>]) -> Result<Option<(Part<'a>, usize)>, NoMemory>
-    ensures found { IfOk result (λ found. front_view part_view tokens.now found ≡ fact_at (lexemes_of tokens.now)) }
-    ensures within { IfOk result (λ found. IfSome found (λ p. p.1 ≤ length tokens.now)) }
+/// Returns the fact after `f`, and what follows it.
+fn fact<'a>(alloc: Global, text: &'a str) -> Result<Option<(Part<'a>, &'a str)>, NoMemory>
+    ensures { IfOk result (Fronts part_view text.now (fact_at (lexemes_in text.now))) }
 {
-    let [Token::Number(column), Token::Number(index), after @ ..] = tokens else {
+    let Some((column, rest)) = number(text) else {
         return Ok(None);
     };
-    match atom(alloc, after)? {
-        Some((atom, count)) => Ok(Some((Part::Fact(*column, *index, atom), count + 2))),
+    let Some((index, rest)) = number(rest) else {
+        return Ok(None);
+    };
+    match atom(alloc, rest)? {
+        Some((atom, rest)) => Ok(Some((Part::Fact(column, index, atom), rest))),
         None => Ok(None),
     }
 }
 
-/// Returns the step of an axiom that the tokens after `s` are, and how many tokens it takes.
-fn axiom<'a>(alloc: Global, tokens: &[Token<'a>]) -> Result<Option<(Part<'a>, usize)>, NoMemory>
-    ensures found { IfOk result (λ found. front_view part_view tokens.now found ≡ axiom_at (lexemes_of tokens.now)) }
-    ensures within { IfOk result (λ found. IfSome found (λ p. p.1 ≤ length tokens.now)) }
+/// Returns the ancestor after `a`, and what follows it.
+fn ancestor(text: &str) -> Option<(Part<'_>, &str)>
+    ensures { Fronts part_view text.now (ancestor_at (lexemes_in text.now)) result }
 {
-    let [
-        Token::Number(number),
-        Token::Number(place),
-        Token::Number(proofs),
-        after @ ..,
-    ] = tokens
-    else {
+    let (number, rest) = number(text)?;
+    Some((Part::Ancestor(number), rest))
+}
+
+/// Returns the step of an axiom after `s`, and what follows it.
+fn axiom<'a>(alloc: Global, text: &'a str) -> Result<Option<(Part<'a>, &'a str)>, NoMemory>
+    ensures { IfOk result (Fronts part_view text.now (axiom_at (lexemes_in text.now))) }
+{
+    let Some((axiom, rest)) = number(text) else {
         return Ok(None);
     };
-    match terms(alloc, after)? {
-        Some((terms, count)) => Ok(Some((Part::Axiom(*number, *place, *proofs, terms), count + 3))),
+    let Some((place, rest)) = number(rest) else {
+        return Ok(None);
+    };
+    let Some((proofs, rest)) = number(rest) else {
+        return Ok(None);
+    };
+    match terms(alloc, rest)? {
+        Some((terms, rest)) => Ok(Some((Part::Axiom(axiom, place, proofs, terms), rest))),
         None => Ok(None),
     }
 }
 
-/// Returns the part of this word that the tokens after it are, and how many tokens these are.
+/// Returns the part of this word, and what follows it.
 fn part_for<'a>(
     alloc: Global,
     word: &str,
-    tokens: &[Token<'a>],
-) -> Result<Option<(Part<'a>, usize)>, NoMemory>
-    ensures found { IfOk result (λ found. front_view part_view tokens.now found ≡ part_for word.now (lexemes_of tokens.now)) }
-    ensures within { IfOk result (λ found. IfSome found (λ p. p.1 ≤ length tokens.now)) }
+    text: &'a str,
+) -> Result<Option<(Part<'a>, &'a str)>, NoMemory>
+    ensures { IfOk result (Fronts part_view text.now (part_for word.now (lexemes_in text.now))) }
 {
     match word {
-        "f" => fact(alloc, tokens),
-        "a" => match tokens {
-            [Token::Number(number), ..] => Ok(Some((Part::Ancestor(*number), 1))),
-            _ => Ok(None),
-        },
-        "s" => axiom(alloc, tokens),
+        "f" => fact(alloc, text),
+        "a" => Ok(ancestor(text)),
+        "s" => axiom(alloc, text),
         _ => Ok(None),
     }
 }
 
-/// Returns the part in front, and how many tokens it takes.
-fn next_part<'a>(alloc: Global, tokens: &[Token<'a>]) -> Result<Option<(Part<'a>, usize)>, NoMemory>
-    ensures found { IfOk result (λ found. front_view part_view tokens.now found ≡ part_at (lexemes_of tokens.now)) }
-    ensures within { IfOk result (λ found. IfSome found (λ p. (0 < p.1) × (p.1 ≤ length tokens.now))) }
+/// Returns the part in front, and what follows it.
+fn next_part<'a>(alloc: Global, text: &'a str) -> Result<Option<(Part<'a>, &'a str)>, NoMemory>
+    ensures { IfOk result (Fronts part_view text.now (part_at (lexemes_in text.now))) }
 {
-    let [Token::Name(word), after @ ..] = tokens else {
-        return Ok(None);
-    };
-    match part_for(alloc, word, after)? {
-        Some((part, count)) => Ok(Some((part, count + 1))),
+    match name(text) {
+        Some((word, rest)) => part_for(alloc, word, rest),
         None => Ok(None),
     }
 }
 
-/// Returns the parts of the proofs that the tokens are, to the last.
-pub fn proofs<'a>(alloc: Global, tokens: &[Token<'a>]) -> Result<Option<Vec<Part<'a>>>, NoMemory>
-    ensures { IfOk result (λ found. list_view part_view found ≡ all_of part_at (lexemes_of tokens.now)) }
+/// Returns the parts of the proofs that a text is.
+pub fn proofs<'a>(alloc: Global, text: &'a str) -> Result<Option<Vec<Part<'a>>>, NoMemory>
+    ensures { IfOk result (λ found. list_view part_view found ≡ if_whole text.now (all_of part_at (lexemes_in text.now))) }
 {
     let mut parts = Vec::new(alloc);
-    let mut at = 0;
-    'things: while at < tokens.len() {
-        let Some((part, count)) = next_part(alloc, &tokens[at..])? else {
-            return Ok(None);
-        };
+    let mut rest = text;
+    'things: while let Some((part, after)) = next_part(alloc, rest)? {
         parts.push(part)?;
-        at += count;
+        rest = after;
     }
-    Ok(Some(parts))
+    if ends(rest) {
+        Ok(Some(parts))
+    } else {
+        Ok(None)
+    }
 }

@@ -1,12 +1,13 @@
-//! The line that tokens are, by the row of its word.
-ghost use Rattle.std.specs.Prelude.{◌≡◌, ◌≤◌, ◌++◌, true, length, map, IfOk, IfSome};
+//! The line that a text is, by the row of its word.
+ghost use Rattle.std.specs.Prelude.{◌≡◌, ◌++◌, ◌∷◌, ℕ, List, true, length, map, IfOk, IfSome};
 ghost use Rattle.std.specs.List.{flat_map, list_all, list_any};
-ghost use Rattle.px_script.proofs.Rows.{chosen, formed_line, last_at, line_at, one_of, ones_at, row_items};
+ghost use Rattle.px_script.proofs.Rows.{chosen, formed_line, last_at, line_at, one_of, row_items};
+ghost use Rattle.px_script.specs.Lexemes.{Lexeme, Lexes, name as name_lexeme};
 ghost use Rattle.px_script.specs.Declarations.{Declared, has_building};
-ghost use Rattle.px_script.specs.Forms.{begins_with_word, is_formed, is_signed, line_atoms};
+ghost use Rattle.px_script.specs.Forms.{is_formed, is_signed, line_atoms};
 ghost use Rattle.px_script.specs.Items.{atoms_of_part, has_parameter, is_filled};
 ghost use Rattle.px_script.specs.Limits.{is_word};
-ghost use Rattle.px_lines.specs.Common.{argument_view, said_items, lexeme_of, lexemes_of, list_view, option_map, part_view, parts_view, rest_arguments, rest_atoms, rest_parts, rest_view, said_view, signed_view};
+ghost use Rattle.px_lines.specs.Common.{Fronts, IsLexed, argument_view, chars, if_whole, items_view, lexeme_of, lexemes_in, ones_front, option_map, part_view, parts_view, rest_arguments, rest_atoms, rest_parts, rest_view, said_view, signed_view};
 ghost use Rattle.px_lines.specs.LineViews.{IsShaped, line_view, row_view};
 
 use crate::items::{Argument, Rest, Said, SignedAtom};
@@ -14,7 +15,7 @@ use crate::lists::{listed_arguments, listed_names, names, numbers};
 use crate::parts::{Part, proofs};
 use crate::rows::{Row, row_for};
 use crate::series::{atoms, bindings, pairs, room_edits};
-use crate::token::Token;
+use crate::token::{Token, ends, next};
 use px_base::NoMemory;
 use px_script::{Choice, Last, Manner, One};
 use std::alloc::Global;
@@ -59,124 +60,123 @@ fn one_item<'a>(one: One, token: Token<'a>) -> Option<Said<'a>>
     }
 }
 
-/// Returns what the first tokens say, one token each.
-#[tactic(auto, using(crate::proofs::Ones::short))]
+/// Returns what the first tokens say, one token each, and what follows them.
 fn one_items<'a>(
     alloc: Global,
     ones: &[One],
-    tokens: &[Token<'a>],
-) -> Result<Option<Vec<Said<'a>>>, NoMemory>
-    ensures found { IfOk result (λ found. list_view said_view found ≡ ones_at ones.now (lexemes_of tokens.now)) }
-    ensures within { IfOk result (λ found. IfSome found (λ items. length ones.now ≤ length tokens.now)) }
-    ensures as_many { IfOk result (λ found. IfSome found (λ items. length items.items ≡ length ones.now)) }
+    text: &'a str,
+) -> Result<Option<(Vec<Said<'a>>, &'a str)>, NoMemory>
+    ensures found { IfOk result (Fronts (items_view said_view) text.now (ones_front ones.now (lexemes_in text.now))) }
+    ensures as_many { IfOk result (λ found. IfSome found (λ front. length front.0.items ≡ length ones.now)) }
 {
-    if tokens.len() < ones.len() {
-        return Ok(None);
-    }
     let mut items = Vec::new(alloc);
-    for (place, one) in ones.iter().enumerate() {
-        let Some(item) = one_item(*one, tokens[place]) else {
+    let mut rest = text;
+    for one in ones {
+        let Some((token, after)) = next(rest) else {
+            return Ok(None);
+        };
+        let Some(item) = one_item(*one, token) else {
             return Ok(None);
         };
         items.push(item)?;
+        rest = after;
     }
-    Ok(Some(items))
+    Ok(Some((items, rest)))
 }
 
-/// Returns what the tokens to the end of a line say.
-fn last_item<'a>(
-    alloc: Global,
-    last: Last,
-    tokens: &[Token<'a>],
-) -> Result<Option<Rest<'a>>, NoMemory>
-    ensures { IfOk result (λ found. option_map rest_view found ≡ last_at last (lexemes_of tokens.now)) }
+/// Returns what the text to the end of a line says.
+fn last_item<'a>(alloc: Global, last: Last, text: &'a str) -> Result<Option<Rest<'a>>, NoMemory>
+    ensures { IfOk result (λ found. option_map rest_view found ≡ if_whole text.now (last_at last (lexemes_in text.now))) }
 {
     match last {
-        Last::Nothing => Ok(nothing(tokens)),
-        Last::New(kind) => Ok(names(alloc, tokens)?.map(|names| Rest::Declared(kind, names))),
+        Last::Nothing => Ok(nothing(text)),
+        Last::New(kind) => Ok(names(alloc, text)?.map(|names| Rest::Declared(kind, names))),
         Last::Listed(kind) => {
-            Ok(listed_names(alloc, tokens)?.map(|names| Rest::Listed(kind, names)))
+            Ok(listed_names(alloc, text)?.map(|names| Rest::Listed(kind, names)))
         }
-        Last::Known(kind) => Ok(names(alloc, tokens)?.map(|names| Rest::Wanted(kind, names))),
-        Last::Numbers => Ok(numbers(alloc, tokens)?.map(|numbers| Rest::Numbers(numbers))),
-        Last::Atoms => Ok(atoms(alloc, tokens)?.map(|atoms| Rest::Atoms(atoms))),
-        Last::Bindings => Ok(bindings(alloc, tokens)?.map(|bindings| Rest::Bindings(bindings))),
-        Last::Pairs => Ok(pairs(alloc, tokens)?.map(|pairs| Rest::Pairs(pairs))),
+        Last::Known(kind) => Ok(names(alloc, text)?.map(|names| Rest::Wanted(kind, names))),
+        Last::Numbers => Ok(numbers(alloc, text)?.map(|numbers| Rest::Numbers(numbers))),
+        Last::Atoms => Ok(atoms(alloc, text)?.map(|atoms| Rest::Atoms(atoms))),
+        Last::Bindings => Ok(bindings(alloc, text)?.map(|bindings| Rest::Bindings(bindings))),
+        Last::Pairs => Ok(pairs(alloc, text)?.map(|pairs| Rest::Pairs(pairs))),
         Last::Arguments => {
-            Ok(listed_arguments(alloc, tokens)?.map(|arguments| Rest::Arguments(arguments)))
+            Ok(listed_arguments(alloc, text)?.map(|arguments| Rest::Arguments(arguments)))
         }
-        Last::Proofs => Ok(proofs(alloc, tokens)?.map(|parts| Rest::Proofs(parts))),
-        Last::RoomEdits => Ok(room_edits(alloc, tokens)?.map(|edits| Rest::RoomEdits(edits))),
+        Last::Proofs => Ok(proofs(alloc, text)?.map(|parts| Rest::Proofs(parts))),
+        Last::RoomEdits => Ok(room_edits(alloc, text)?.map(|edits| Rest::RoomEdits(edits))),
     }
 }
 
-fn nothing<'a>(tokens: &[Token<'_>]) -> Option<Rest<'a>>
-    ensures { option_map rest_view result ≡ last_at Last.Nothing (lexemes_of tokens.now) }
+fn nothing<'a>(text: &str) -> Option<Rest<'a>>
+    ensures { option_map rest_view result ≡ if_whole text.now (last_at Last.Nothing (lexemes_in text.now)) }
 {
-    match tokens {
-        [] => Some(Rest::Nothing),
-        _ => None,
+    if ends(text) {
+        Some(Rest::Nothing)
+    } else {
+        None
     }
 }
 
-/// Returns what the tokens after a word say, by its row.
-#[tactic(auto, using(crate::proofs::Ones::pieces))]
+/// Returns what the text after a word says, by its row.
 fn parts<'a>(
     alloc: Global,
     row: &Row,
-    tokens: &[Token<'a>],
+    text: &'a str,
 ) -> Result<Option<(Vec<Said<'a>>, Rest<'a>)>, NoMemory>
-    ensures found { IfOk result (λ found. option_map parts_view found ≡ row_items (row_view row.now) (lexemes_of tokens.now)) }
+    ensures found { IfOk result (λ found. option_map parts_view found
+        ≡ if_whole text.now (row_items (row_view row.now) (lexemes_in text.now))) }
     ensures as_many { IfOk result (λ found. IfSome found (λ parts. length parts.0.items ≡ length row.now.ones.now)) }
 {
-    let Some(ones) = one_items(alloc, row.ones, tokens)? else {
+    let Some((ones, rest)) = one_items(alloc, row.ones, text)? else {
         return Ok(None);
     };
-    match last_item(alloc, row.last, &tokens[row.ones.len()..])? {
+    match last_item(alloc, row.last, rest)? {
         Some(last) => Ok(Some((ones, last))),
         None => Ok(None),
     }
 }
 
-/// Returns the line that the tokens are, in a script with or without a building so far.
+/// Returns the line that a word and a text are, in a script with or without a building so far.
 #[tactic(auto, using(crate::proofs::Views::known_rows))]
 fn whole_line<'a>(
     alloc: Global,
     with_building: bool,
-    tokens: &[Token<'a>],
+    word: &str,
+    text: &'a str,
 ) -> Result<Option<Line<'a>>, NoMemory>
-    ensures found { IfOk result (λ found. option_map line_view found ≡ line_at with_building (lexemes_of tokens.now)) }
+    ensures found { IfOk result (λ found. option_map line_view found
+        ≡ if_whole text.now (line_at with_building (name_lexeme word.now ∷ lexemes_in text.now))) }
     ensures shaped { IfOk result (λ found. IfSome found (λ line. IsShaped with_building line)) }
-    ensures word { (d : Declared) → begins_with_word d (lexemes_of tokens.now) ≡ true
-        → IfOk result (λ found. IfSome found (λ line. is_word d.version line.row.word.now ≡ true)) }
+    ensures word { (version : ℕ) → is_word version word.now ≡ true
+        → IfOk result (λ found. IfSome found (λ line. is_word version line.row.word.now ≡ true)) }
 {
-    let [Token::Name(word), rest @ ..] = tokens else {
-        return Ok(None);
-    };
     let Some(row) = row_for(with_building, word) else {
         return Ok(None);
     };
-    match parts(alloc, &row, rest)? {
+    match parts(alloc, &row, text)? {
         Some((ones, last)) => Ok(Some(Line { row, ones, last })),
         None => Ok(None),
     }
 }
 
-/// Returns the line in its form that the tokens are, which begin with a word of the script's version, in a script with or without a
-/// building so far.
+/// Returns the line in its form that a word of the script's version and the text after it are, in a script with or without a building
+/// so far. There is none where a character of the text begins no token.
 ///
 /// # Errors
 /// `NoMemory` where there is no memory for it.
 pub fn formed_line<'a>(
     alloc: Global,
     with_building: bool,
-    tokens: &[Token<'a>],
+    word: &str,
+    text: &'a str,
 ) -> Result<Option<Line<'a>>, NoMemory>
-    ensures found { (d : Declared) → has_building d ≡ with_building → begins_with_word d (lexemes_of tokens.now) ≡ true
-        → IfOk result (λ found. option_map line_view found ≡ formed_line d (lexemes_of tokens.now)) }
+    ensures found { (d : Declared) (lexemes : List Lexeme) → has_building d ≡ with_building → is_word d.version word.now ≡ true
+        → Lexes (chars text.now) lexemes
+        → IfOk result (λ found. option_map line_view found ≡ formed_line d (name_lexeme word.now ∷ lexemes)) }
+    ensures lexed { IfOk result (λ found. IfSome found (λ line. IsLexed (chars text.now))) }
     ensures shaped { IfOk result (λ found. IfSome found (λ line. IsShaped with_building line)) }
 {
-    let Some(line) = whole_line(alloc, with_building, tokens)? else {
+    let Some(line) = whole_line(alloc, with_building, word, text)? else {
         return Ok(None);
     };
     if line.is_formed(with_building) {

@@ -262,6 +262,8 @@ pub fn row_for(with_building: bool, word: &str) -> Option<Row>
     ensures { option_map row_view result ≡ row_of with_building word.now }
 {
     match word {
+        // first, since most lines of a long script are facts
+        "fact" => Some(plain("fact", Place::Domain, &NONE, Last::Atoms)),
         "script" => Some(plain("script", Place::First, &NUMBER, Last::Nothing)),
         "object" => Some(plain("object", Place::Domain, &NONE, Last::New(Named::Object))),
         "predicate" => Some(plain("predicate", Place::Domain, &PREDICATE, Last::Nothing)),
@@ -297,7 +299,6 @@ pub fn row_for(with_building: bool, word: &str) -> Option<Row>
             Last::Nothing,
         )),
         "end" => Some(plain("end", Place::Closes, &NONE, Last::Nothing)),
-        "fact" => Some(plain("fact", Place::Domain, &NONE, Last::Atoms)),
         "height" => Some(plain("height", Place::Setting, &NUMBER, Last::Nothing)),
         "nodes" => Some(plain("nodes", Place::Setting, &NUMBER, Last::Nothing)),
         "shapes" => Some(plain("shapes", Place::Setting, &NUMBER, Last::Nothing)),

@@ -1,10 +1,11 @@
 //! What is written one after another to the end of a line: atoms, edits and bindings.
-ghost use Rattle.std.specs.Prelude.{◌≡◌, ◌≤◌, ◌<◌, length, IfOk, IfSome};
-ghost use Rattle.px_lines.specs.Common.{option_map, all_of, atom_at, atom_after, sign_of, room_edit_at, room_edit_for, binding_at, open_of, pair_at, parameter_of, lexemes_of, signed_view, room_edit_view, binding_view, list_view, front_view};
+ghost use Rattle.std.specs.Prelude.{◌≡◌, ◌∷◌, IfOk};
+ghost use Rattle.px_lines.specs.Common.{option_map, all_of, atom_at, atom_after, sign_of, room_edit_at, room_edit_for, binding_at, open_of, pair_at, parameter_of, lexemes_in, if_whole, Fronts, signed_view, room_edit_view, binding_view, list_view};
+ghost use Rattle.px_script.specs.Lexemes.{name as name_lexeme, sign as sign_lexeme};
 
 use crate::items::{SignedAtom, WrittenBinding, WrittenRoomEdit};
 use crate::lists::arguments;
-use crate::token::Token;
+use crate::token::{Token, after_sign, ends, name, next, number};
 use px_base::NoMemory;
 use px_script::{LAST_PARAMETER, Sign};
 use std::alloc::Global;
@@ -21,19 +22,16 @@ fn sign_of(character: char) -> Option<Sign>
     }
 }
 
-/// Returns the atom in front, after its sign, and how many tokens it takes.
-fn atom_after<'a>(
+/// Returns the atom of a sign and a predicate, and what follows it.
+fn atom_of<'a>(
     alloc: Global,
     sign: Sign,
-    tokens: &[Token<'a>],
-) -> Result<Option<(SignedAtom<'a>, usize)>, NoMemory>
-    ensures found { IfOk result (λ found. front_view signed_view tokens.now found ≡ atom_after sign (lexemes_of tokens.now)) }
-    ensures within { IfOk result (λ found. IfSome found (λ p. (0 < p.1) × (p.1 ≤ length tokens.now))) }
+    predicate: &'a str,
+    text: &'a str,
+) -> Result<Option<(SignedAtom<'a>, &'a str)>, NoMemory>
+    ensures { IfOk result (Fronts signed_view text.now (atom_after sign (name_lexeme predicate.now ∷ lexemes_in text.now))) }
 {
-    let [Token::Name(predicate), after @ ..] = tokens else {
-        return Ok(None);
-    };
-    let Some((arguments, count)) = arguments(alloc, after)? else {
+    let Some((arguments, rest)) = arguments(alloc, text)? else {
         return Ok(None);
     };
     let atom = SignedAtom {
@@ -41,25 +39,33 @@ fn atom_after<'a>(
         predicate,
         arguments,
     };
-    Ok(Some((atom, count + 1)))
+    Ok(Some((atom, rest)))
 }
 
-/// Returns the atom in front, with a sign or without, and how many tokens both take.
-pub fn atom<'a>(
-    alloc: Global,
-    tokens: &[Token<'a>],
-) -> Result<Option<(SignedAtom<'a>, usize)>, NoMemory>
-    ensures found { IfOk result (λ found. front_view signed_view tokens.now found ≡ atom_at (lexemes_of tokens.now)) }
-    ensures within { IfOk result (λ found. IfSome found (λ p. (0 < p.1) × (p.1 ≤ length tokens.now))) }
+/// Returns the atom in front, with a sign or without, and what follows it.
+pub fn atom<'a>(alloc: Global, text: &'a str) -> Result<Option<(SignedAtom<'a>, &'a str)>, NoMemory>
+    ensures { IfOk result (Fronts signed_view text.now (atom_at (lexemes_in text.now))) }
 {
-    let [Token::Sign(character), after @ ..] = tokens else {
-        return atom_after(alloc, Sign::Bare, tokens);
-    };
-    let Some(sign) = sign_of(*character) else {
+    match next(text) {
+        Some((Token::Name(predicate), rest)) => atom_of(alloc, Sign::Bare, predicate, rest),
+        Some((Token::Sign(character), rest)) => signed_atom(alloc, character, rest),
+        _ => Ok(None),
+    }
+}
+
+/// Returns the atom after a sign, and what follows it.
+fn signed_atom<'a>(
+    alloc: Global,
+    character: char,
+    text: &'a str,
+) -> Result<Option<(SignedAtom<'a>, &'a str)>, NoMemory>
+    ensures { IfOk result (Fronts signed_view text.now (atom_at (sign_lexeme character ∷ lexemes_in text.now))) }
+{
+    let Some(sign) = sign_of(character) else {
         return Ok(None);
     };
-    match atom_after(alloc, sign, after)? {
-        Some((atom, count)) => Ok(Some((atom, count + 1))),
+    match name(text) {
+        Some((predicate, rest)) => atom_of(alloc, sign, predicate, rest),
         None => Ok(None),
     }
 }
@@ -75,39 +81,35 @@ pub fn open_of(word: &str) -> Option<bool>
     }
 }
 
-/// Returns the edit of a building that a word and the name after it begin, and how many more tokens it takes.
+/// Returns the edit of a building that a word and the name after it begin, and what follows it.
 fn room_edit_for<'a>(
     word: &str,
-    name: &'a str,
-    after: &[Token<'a>],
-) -> Option<(WrittenRoomEdit<'a>, usize)>
-    ensures found { front_view room_edit_view after.now result ≡ room_edit_for word.now name.now (lexemes_of after.now) }
-    ensures within { IfSome result (λ p. p.1 ≤ length after.now) }
+    thing: &'a str,
+    text: &'a str,
+) -> Option<(WrittenRoomEdit<'a>, &'a str)>
+    ensures { Fronts room_edit_view text.now (room_edit_for word.now thing.now (lexemes_in text.now)) result }
 {
     match word {
-        "robot" => Some((WrittenRoomEdit::RobotTo(name), 0)),
-        "box" => match after {
-            [Token::Name(room), ..] => Some((WrittenRoomEdit::BoxTo(name, room), 1)),
-            _ => None,
-        },
-        "door" => match after {
-            [Token::Name(state), ..] => Some((WrittenRoomEdit::DoorTo(name, open_of(state)?), 1)),
-            _ => None,
-        },
+        "robot" => Some((WrittenRoomEdit::RobotTo(thing), text)),
+        "box" => {
+            let (room, rest) = name(text)?;
+            Some((WrittenRoomEdit::BoxTo(thing, room), rest))
+        }
+        "door" => {
+            let (state, rest) = name(text)?;
+            Some((WrittenRoomEdit::DoorTo(thing, open_of(state)?), rest))
+        }
         _ => None,
     }
 }
 
-/// Returns the edit of a building in front, and how many tokens it takes.
-fn room_edit<'a>(tokens: &[Token<'a>]) -> Option<(WrittenRoomEdit<'a>, usize)>
-    ensures found { front_view room_edit_view tokens.now result ≡ room_edit_at (lexemes_of tokens.now) }
-    ensures within { IfSome result (λ p. (0 < p.1) × (p.1 ≤ length tokens.now)) }
+/// Returns the edit of a building in front, and what follows it.
+fn room_edit(text: &str) -> Option<(WrittenRoomEdit<'_>, &str)>
+    ensures { Fronts room_edit_view text.now (room_edit_at (lexemes_in text.now)) result }
 {
-    let [Token::Name(word), Token::Name(name), after @ ..] = tokens else {
-        return None;
-    };
-    let (edit, count) = room_edit_for(word, name, after)?;
-    Some((edit, count + 2))
+    let (word, rest) = name(text)?;
+    let (thing, rest) = name(rest)?;
+    room_edit_for(word, thing, rest)
 }
 
 /// Returns the number of a parameter by its name, which is the letter p and the number from 1 to [`LAST_PARAMETER`].
@@ -124,106 +126,97 @@ fn parameter_of(name: &str) -> Option<u32>
     }
 }
 
-/// Returns the binding in front, and how many tokens it takes.
-fn binding<'a>(tokens: &[Token<'a>]) -> Option<(WrittenBinding<'a>, usize)>
-    ensures found { front_view binding_view tokens.now result ≡ binding_at (lexemes_of tokens.now) }
-    ensures within { IfSome result (λ p. (0 < p.1) × (p.1 ≤ length tokens.now)) }
+/// Returns the binding in front, and what follows it.
+fn binding(text: &str) -> Option<(WrittenBinding<'_>, &str)>
+    ensures { Fronts binding_view text.now (binding_at (lexemes_in text.now)) result }
 {
-    let [Token::Name(name), Token::Sign('='), Token::Name(object), ..] = tokens else {
-        return None;
-    };
-    let parameter = parameter_of(name)?;
-    Some((WrittenBinding { parameter, object }, 3))
+    let (parameter, rest) = name(text)?;
+    let (object, rest) = name(after_sign(rest, '=')?)?;
+    let parameter = parameter_of(parameter)?;
+    Some((WrittenBinding { parameter, object }, rest))
 }
 
-/// Returns the pair of numbers in front, and how many tokens it takes.
-fn pair(tokens: &[Token<'_>]) -> Option<((u32, u32), usize)>
-    ensures found { front_view (λ pair. pair) tokens.now result ≡ pair_at (lexemes_of tokens.now) }
-    ensures within { IfSome result (λ p. (0 < p.1) × (p.1 ≤ length tokens.now)) }
+/// Returns the pair of numbers in front, and what follows it.
+fn pair(text: &str) -> Option<((u32, u32), &str)>
+    ensures { Fronts (λ pair. pair) text.now (pair_at (lexemes_in text.now)) result }
 {
-    let [
-        Token::Number(one),
-        Token::Sign('='),
-        Token::Number(other),
-        ..
-    ] = tokens
-    else {
-        return None;
-    };
-    Some(((*one, *other), 3))
+    let (one, rest) = number(text)?;
+    let (other, rest) = number(after_sign(rest, '=')?)?;
+    Some(((one, other), rest))
 }
 
 // Alike: the four functions below, one for each kind of thing, since each reads another type of things.
 
-/// Returns the atoms that the tokens are, to the last.
-pub fn atoms<'a>(
-    alloc: Global,
-    tokens: &[Token<'a>],
-) -> Result<Option<Vec<SignedAtom<'a>>>, NoMemory>
-    ensures { IfOk result (λ found. list_view signed_view found ≡ all_of atom_at (lexemes_of tokens.now)) }
+/// Returns the atoms that a text is.
+pub fn atoms<'a>(alloc: Global, text: &'a str) -> Result<Option<Vec<SignedAtom<'a>>>, NoMemory>
+    ensures { IfOk result (λ found. list_view signed_view found ≡ if_whole text.now (all_of atom_at (lexemes_in text.now))) }
 {
     let mut atoms = Vec::new(alloc);
-    let mut at = 0;
-    'things: while at < tokens.len() {
-        let Some((atom, count)) = atom(alloc, &tokens[at..])? else {
-            return Ok(None);
-        };
+    let mut rest = text;
+    'things: while let Some((atom, after)) = atom(alloc, rest)? {
         atoms.push(atom)?;
-        at += count;
+        rest = after;
     }
-    Ok(Some(atoms))
+    if ends(rest) {
+        Ok(Some(atoms))
+    } else {
+        Ok(None)
+    }
 }
 
-/// Returns the edits of a building that the tokens are, to the last.
+/// Returns the edits of a building that a text is.
 pub fn room_edits<'a>(
     alloc: Global,
-    tokens: &[Token<'a>],
+    text: &'a str,
 ) -> Result<Option<Vec<WrittenRoomEdit<'a>>>, NoMemory>
-    ensures { IfOk result (λ found. list_view room_edit_view found ≡ all_of room_edit_at (lexemes_of tokens.now)) }
+    ensures { IfOk result (λ found. list_view room_edit_view found ≡ if_whole text.now (all_of room_edit_at (lexemes_in text.now))) }
 {
     let mut edits = Vec::new(alloc);
-    let mut at = 0;
-    'things: while at < tokens.len() {
-        let Some((edit, count)) = room_edit(&tokens[at..]) else {
-            return Ok(None);
-        };
+    let mut rest = text;
+    'things: while let Some((edit, after)) = room_edit(rest) {
         edits.push(edit)?;
-        at += count;
+        rest = after;
     }
-    Ok(Some(edits))
+    if ends(rest) {
+        Ok(Some(edits))
+    } else {
+        Ok(None)
+    }
 }
 
-/// Returns the bindings that the tokens are, to the last.
+/// Returns the bindings that a text is.
 pub fn bindings<'a>(
     alloc: Global,
-    tokens: &[Token<'a>],
+    text: &'a str,
 ) -> Result<Option<Vec<WrittenBinding<'a>>>, NoMemory>
-    ensures { IfOk result (λ found. list_view binding_view found ≡ all_of binding_at (lexemes_of tokens.now)) }
+    ensures { IfOk result (λ found. list_view binding_view found ≡ if_whole text.now (all_of binding_at (lexemes_in text.now))) }
 {
     let mut bindings = Vec::new(alloc);
-    let mut at = 0;
-    'things: while at < tokens.len() {
-        let Some((binding, count)) = binding(&tokens[at..]) else {
-            return Ok(None);
-        };
+    let mut rest = text;
+    'things: while let Some((binding, after)) = binding(rest) {
         bindings.push(binding)?;
-        at += count;
+        rest = after;
     }
-    Ok(Some(bindings))
+    if ends(rest) {
+        Ok(Some(bindings))
+    } else {
+        Ok(None)
+    }
 }
 
-/// Returns the pairs of numbers that the tokens are, to the last.
-pub fn pairs(alloc: Global, tokens: &[Token<'_>]) -> Result<Option<Vec<(u32, u32)>>, NoMemory>
-    ensures { IfOk result (λ found. list_view (λ pair. pair) found ≡ all_of pair_at (lexemes_of tokens.now)) }
+/// Returns the pairs of numbers that a text is.
+pub fn pairs(alloc: Global, text: &str) -> Result<Option<Vec<(u32, u32)>>, NoMemory>
+    ensures { IfOk result (λ found. list_view (λ pair. pair) found ≡ if_whole text.now (all_of pair_at (lexemes_in text.now))) }
 {
     let mut pairs = Vec::new(alloc);
-    let mut at = 0;
-    'things: while at < tokens.len() {
-        let Some((pair, count)) = pair(&tokens[at..]) else {
-            return Ok(None);
-        };
+    let mut rest = text;
+    'things: while let Some((pair, after)) = pair(rest) {
         pairs.push(pair)?;
-        at += count;
+        rest = after;
     }
-    Ok(Some(pairs))
+    if ends(rest) {
+        Ok(Some(pairs))
+    } else {
+        Ok(None)
+    }
 }

@@ -1,13 +1,11 @@
 //! The tokens of a line.
-ghost use Rattle.std.specs.Prelude.{◌≡◌, ◌<◌, ◌++◌, List, true, length, map, IfOk, MatchOption};
+ghost use Rattle.std.specs.Prelude.{◌≡◌, ◌<◌, ◌++◌, List, true, length, MatchBool};
 ghost use Rattle.std.specs.Char.{is_ascii_digit};
 ghost use Rattle.px_script.specs.Lexemes.{Lexeme, Lexes, is_sign, number_value, goes_on};
 ghost use Rattle.px_script.proofs.Scanning.{front_while, after_while, first, first_at, first_number, first_variable};
-ghost use Rattle.px_lines.specs.Common.{IsUtf8, chars, all_ascii_digits, lexeme_of, is_of, Skips, Scans, NameAt};
+ghost use Rattle.px_lines.specs.Common.{IsUtf8, chars, all_ascii_digits, is_of, text_of, Skips, Scans, NameAt, IsLexed, IsNext, Fronts, Follow, is_end, lexemes_in, name_in, number_in, sign_in, rest_after};
 
-use px_base::NoMemory;
 use px_names::{split_first, starts_name};
-use std::alloc::Global;
 
 /// A token of a line.
 #[derive(Clone, Copy)]
@@ -22,40 +20,94 @@ pub enum Token<'a> {
     Sign(char),
 }
 
+/// A character begins no token.
 #[derive(Clone, Copy)]
-struct BadToken;
+pub struct BadToken;
 
-/// Returns the tokens of a line, or `None` where a character begins no token.
-///
-/// # Errors
-/// `NoMemory` where there is no memory for them.
-pub fn tokens<'a>(alloc: Global, line: &'a str) -> Result<Option<Vec<Token<'a>>>, NoMemory>
-    ensures { IfOk result (λ found. MatchOption found ((all : List Lexeme) → ¬ Lexes (chars line.now) all)
-        (λ tokens. Lexes (chars line.now) (map lexeme_of tokens.items))) }
+/// Returns whether a text is tokens: no character begins none. Does not allocate.
+pub fn are_tokens(text: &str) -> bool
+    ensures { MatchBool result (IsLexed (chars text.now)) ((all : List Lexeme) → ¬ Lexes (chars text.now) all) }
 {
-    let mut tokens = Vec::new(alloc);
-    let mut rest = line;
+    let mut rest = text;
     loop {
         match first_token(rest) {
-            Ok(Some((token, after))) => {
-                tokens.push(token)?;
-                rest = after;
-            }
-            Ok(None) => return Ok(Some(tokens)),
-            Err(_) => return Ok(None),
+            Ok(Some((_, after))) => rest = after,
+            Ok(None) => return true,
+            Err(_) => return false,
         }
     }
 }
 
-// Returns the first token of a line, and what follows it.
-fn first_token(line: &str) -> Result<Option<(Token<'_>, &str)>, BadToken>
-    ensures { Scans result (first (chars line.now)) }
+/// Returns the first token of a text, and what follows it. Does not allocate.
+///
+/// # Errors
+/// `BadToken` where the first character after blanks begins no token.
+pub fn first_token(text: &str) -> Result<Option<(Token<'_>, &str)>, BadToken>
+    ensures { Scans result (first (chars text.now)) }
 {
-    let (_, text) = split_while(line, Class::Blank);
+    let (_, text) = split_while(text, Class::Blank);
     token_at(text)
 }
 
-// Returns the token at the front of a text.
+/// Returns the first token of a text, and what follows it.
+pub fn next(text: &str) -> Option<(Token<'_>, &str)>
+    ensures { IsNext text.now result }
+{
+    match first_token(text) {
+        Ok(front) => front,
+        Err(_) => None,
+    }
+}
+
+/// Returns the name in front, and what follows it.
+pub fn name(text: &str) -> Option<(&str, &str)>
+    ensures { Fronts text_of text.now (name_in (lexemes_in text.now)) result }
+{
+    let (token, rest) = next(text)?;
+    match token {
+        Token::Name(name) => Some((name, rest)),
+        _ => None,
+    }
+}
+
+/// Returns the number in front, and what follows it.
+pub fn number(text: &str) -> Option<(u32, &str)>
+    ensures { Fronts (λ number. number) text.now (number_in (lexemes_in text.now)) result }
+{
+    let (token, rest) = next(text)?;
+    match token {
+        Token::Number(number) => Some((number, rest)),
+        _ => None,
+    }
+}
+
+/// Returns the sign in front, and what follows it.
+pub fn sign(text: &str) -> Option<(char, &str)>
+    ensures { Fronts (λ sign. sign) text.now (sign_in (lexemes_in text.now)) result }
+{
+    let (token, rest) = next(text)?;
+    match token {
+        Token::Sign(sign) => Some((sign, rest)),
+        _ => None,
+    }
+}
+
+/// Returns what follows this sign.
+pub fn after_sign(text: &str, wanted: char) -> Option<&str>
+    ensures { Follow text.now (rest_after wanted (lexemes_in text.now)) result }
+{
+    let (sign, rest) = sign(text)?;
+    if sign == wanted { Some(rest) } else { None }
+}
+
+/// Returns whether no token and no bad character follows.
+pub fn ends(text: &str) -> bool
+    ensures { result ≡ is_end text.now }
+{
+    matches!(first_token(text), Ok(None))
+}
+
+/// Returns the token at the front of a text.
 fn token_at(text: &str) -> Result<Option<(Token<'_>, &str)>, BadToken>
     ensures { Scans result (first_at (chars text.now)) }
 {
@@ -84,7 +136,7 @@ fn is_sign(ch: char) -> bool
     matches!(ch, '(' | ')' | ',' | '~' | '$' | '+' | '-' | '=')
 }
 
-// Returns the name at the front of a text.
+/// Returns the name at the front of a text.
 fn name_at(text: &str) -> Option<(&str, &str)>
     ensures { NameAt (chars text.now) result }
 {
@@ -96,7 +148,7 @@ fn name_at(text: &str) -> Option<(&str, &str)>
     }
 }
 
-// Returns the variable whose question mark stands before a text.
+/// Returns the variable whose question mark stands before a text.
 fn variable_at(text: &str) -> Result<Option<(Token<'_>, &str)>, BadToken>
     ensures { Scans result (first_variable (chars text.now)) }
 {
@@ -106,7 +158,7 @@ fn variable_at(text: &str) -> Result<Option<(Token<'_>, &str)>, BadToken>
     }
 }
 
-// Returns the number at the front of a text, which no name may follow.
+/// Returns the number at the front of a text, which no name may follow.
 #[tactic(auto, using(crate::proofs::Numbers::digits))]
 fn number_at(text: &str) -> Result<Option<(Token<'_>, &str)>, BadToken>
     requires { 0 < length (front_while is_ascii_digit (chars text.now)) }
@@ -120,14 +172,14 @@ fn number_at(text: &str) -> Result<Option<(Token<'_>, &str)>, BadToken>
     }
 }
 
-// Returns whether a name could go on with this text.
+/// Returns whether a name could go on with this text.
 fn goes_on(text: &str) -> bool
     ensures { result ≡ goes_on (chars text.now) }
 {
     matches!(split_first(text), Some((first, _)) if unicode_ident::is_xid_continue(first))
 }
 
-// Returns the number that digits stand for, up to 32 bits.
+/// Returns the number that digits stand for, up to 32 bits.
 #[tactic(auto, using(crate::proofs::Numbers::digits))]
 fn number_value(digits: &str) -> u32
     requires some { 0 < length (chars digits.now) }
@@ -156,7 +208,7 @@ impl Class {
     }
 }
 
-// Returns what follows the longest front that is of a class.
+/// Returns what follows the longest front that is of a class.
 fn skip_while(text: &str, class: Class) -> &str
     ensures { Skips (is_of class) text.now result.now }
 {
@@ -170,7 +222,7 @@ fn skip_while(text: &str, class: Class) -> &str
     rest
 }
 
-// Returns the longest front of a text that is of a class, and what follows it.
+/// Returns the longest front of a text that is of a class, and what follows it.
 fn split_while(text: &str, class: Class) -> (&str, &str)
     ensures whole { text.now ≡ result.0.now ++ result.1.now }
     ensures front { chars result.0.now ≡ front_while (is_of class) (chars text.now) }

@@ -1,8 +1,13 @@
 //! Questions with gaps, whose walk visits unfinished lists only.
-ghost use Rattle.std.specs.Prelude.{◌≡◌, true};
-ghost use Rattle.px_prover.specs.Passed.{IsSmall};
+ghost use Rattle.std.specs.Prelude.{◌≡◌, ◌++◌, ◌∷◌, [], true};
+ghost use Rattle.px_proof.specs.declared.shape.Tick.{Tick as TickValue};
+ghost use Rattle.px_proof_walk.specs.Order.{IsAfter};
+ghost use Rattle.px_prover.specs.GapAsking.{gap_setting, IsGoingOnIn};
+ghost use Rattle.px_prover.specs.Passed.{AreSmall, IsSmall};
+ghost use Rattle.px_prover.specs.Standing.{ticks_in, IsStanding};
 
 use crate::question::ProofQuestion;
+use crate::walking::are_two_open;
 use px_base::NoMemory;
 use px_proof::Tick;
 use px_proof_state::ProofState;
@@ -16,6 +21,8 @@ pub(crate) struct GapQuestion<'a> {
     pub formula: &'a [Atom],
     pub vars: u32,
     pub facts: &'a [Atom],
+    /// Whether the terms of patterns are asked for, and not their atoms alone.
+    pub with_terms: bool,
 }
 
 impl<'a> GapQuestion<'a> {
@@ -54,6 +61,32 @@ pub(crate) fn sized(tick: Tick) -> Tick
     }
 }
 
+/// Returns the tick after which a place is tried at first. Facts and ancestors close it for good, so where no other place is open, they
+/// leave none open.
+fn least_after(_question: &GapQuestion, state: &ProofState) -> Option<Tick>
+    requires { IsStanding true (gap_setting _question.now) _question.now.formula.now _question.now.vars state.now }
+    ensures small { AreSmall result }
+    ensures rest { (u : TickValue) → IsGoingOnIn _question.now (ticks_in state.now.choices ++ u ∷ []) → IsAfter result u }
+{
+    if are_two_open(state) {
+        return None;
+    }
+    Some(Tick::Anc(u32::MAX))
+}
+
+/// Returns the tick after which a place is tried, where this one was tried last.
+fn start_after(question: &GapQuestion, state: &ProofState, last: Option<Tick>) -> Option<Tick>
+    requires { IsStanding true (gap_setting question.now) question.now.formula.now question.now.vars state.now }
+    ensures small { AreSmall result }
+    ensures rest { (u : TickValue) → IsAfter last u → IsGoingOnIn question.now (ticks_in state.now.choices ++ u ∷ []) → IsAfter result u }
+    ensures later { (u : TickValue) → IsAfter result u → IsAfter last u }
+{
+    match last {
+        None => least_after(question, state),
+        Some(tick) => Some(sized(tick)),
+    }
+}
+
 impl<'a> Walk<GapQuestion<'a>> for ProofState {
     ghost use Rattle.std.specs.Prelude.{true};
     ghost use Rattle.px_prover.specs.GapAsking.{gap_setting, IsGoingOnIn};
@@ -81,7 +114,7 @@ impl<'a> Walk<GapQuestion<'a>> for ProofState {
         last: Option<Tick>,
     ) -> Result<bool, NoMemory> {
         let loose = question.loose();
-        let mut after = last;
+        let mut after = start_after(question, self, last);
         while self.try_after(&loose, after)? {
             if self.first() > 0 {
                 return Ok(true);

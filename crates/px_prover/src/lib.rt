@@ -41,13 +41,17 @@
 //! list comes about like this. No clause says how many patterns there are, or in which order. [`patterns_are_lists`] is a law for
 //! callers: the instances of the patterns, ascending, each once, are the gap lists (`AreGapLists` of `px_question`).
 //!
+//! [`gap_closings`] has the same conditions and errors, and returns the patterns without their terms: the atoms that gaps close together,
+//! whatever the objects for the formula's variables. Where many lists close the same atoms, it takes far less memory.
+//!
 //! Facts with objects outside the problem are passed over. What these words mean is said in `px_question`: trees without
 //! variables, one for each atom, and nothing of how they are found. Each answer is exact: it comes only where its meaning
 //! holds, and the answers of a call exclude each other.
 //!
 //! Internally places are closed from left to right, over variables whose bindings are undone (`px_proof_state`), in the order
 //! of the shapes (`px_proof_walk`). [`prove`] stops at the first finished list. `gap_patterns` visits the unfinished ones, and at
-//! each gathers a pattern for each list that one more closing finishes; equal patterns are kept once. Where there are more than
+//! each gathers a pattern for each list that one more closing finishes; equal patterns are kept once. A walk over unfinished lists
+//! passes over facts and ancestors where one place alone is open, since they leave none open. Where there are more than
 //! a few, a walk that gathers nothing tells first whether they are too many. `gap_lists` puts all objects in the place of their
 //! variables.
 //!
@@ -77,5 +81,5 @@ pub use limits::MOST_GAP_VARIABLES;
 pub use listing::gap_lists;
 pub use outcome::{Answer, GapErr, ProveErr};
 pub use pattern::GapPattern;
-pub use patterns::gap_patterns;
+pub use patterns::{gap_closings, gap_patterns};
 pub use px_question::GapList;

@@ -1,5 +1,5 @@
 //! Gap patterns: gap lists with variables, one for each finished list of loose gap proofs.
-ghost use Rattle.std.specs.Prelude.{◌≡◌, ◌↔◌, ◌<◌, ◌≤◌, true, [], IfOk, length, All, Contains};
+ghost use Rattle.std.specs.Prelude.{◌≡◌, ◌↔◌, ◌⊎◌, ◌<◌, ◌≤◌, cond, true, [], IfOk, length, All, Contains, IsTrue};
 ghost use Rattle.px_prover.specs.Limits.{most_gap_variables};
 ghost use Rattle.px_question.specs.Limits.{AreFewGapShapes, IsGapLimited};
 ghost use Rattle.px_question.specs.Settings.{setting_of};
@@ -10,7 +10,7 @@ ghost use Rattle.px_prover.specs.Asked.{IsAsked};
 ghost use Rattle.px_prover.specs.GapAsking.{gap_setting};
 ghost use Rattle.px_prover.specs.Outcomes.{IfGapLimit};
 ghost use Rattle.px_prover.specs.declared.pattern.GapPattern.{GapPattern as PatternValue};
-ghost use Rattle.px_prover.specs.Patterns.{AreGapPatterns, GathersPatternsOf, IsPatternBy, ends_of, place_of, renamed};
+ghost use Rattle.px_prover.specs.Patterns.{AreGapClosings, AreGapPatterns, AreKeptPatterns, GathersKeptOf, IsPatternBy, ends_of, place_of, renamed};
 ghost use Rattle.px_terms.specs.Substitution.{variables_from};
 ghost use Rattle.px_prover.specs.Standing.{ticks_in, IsStanding};
 
@@ -26,6 +26,9 @@ use px_proof_state::ProofState;
 use px_proof_walk::{Gather, Walk, walk_to_end};
 use px_terms::{Atom, Problem, Term};
 use std::alloc::Global;
+
+/// Equal patterns are looked for where more than so many have come.
+const MANY_PATTERNS: usize = 1024;
 
 /// Up to how many lists patterns are gathered at once. Where there are more, a walk first tells whether they are too many.
 const FEW_LISTS: u32 = 64;
@@ -73,7 +76,14 @@ fn renamed_ends(
     Ok(ends)
 }
 
-/// Returns the pattern of a finished list whose bindings have these ends.
+/// Returns how many terms of a pattern are kept.
+fn kept_terms(with_terms: bool, vars: u32) -> u32
+    ensures { result ≡ cond with_terms vars 0 }
+{
+    if with_terms { vars } else { 0 }
+}
+
+/// Returns the pattern of a finished list whose bindings have these ends, with terms for the first `vars` variables.
 fn pattern_by(
     alloc: Global,
     vars: u32,
@@ -103,6 +113,29 @@ fn pattern_by(
 #[derive(Drop)]
 struct Patterns {
     found: Vec<GapPattern>,
+    /// How many may be there until equal ones are looked for.
+    room: usize,
+}
+
+/// Returns whether the pattern is equal to the last one.
+fn is_last(found: &[GapPattern], pattern: &GapPattern) -> bool
+    ensures { IsTrue result → Contains found.now pattern.now }
+{
+    match found.last() {
+        Some(last) => last == pattern,
+        None => false,
+    }
+}
+
+/// Appends the pattern, unless it is equal to the last one.
+fn keep(found: &mut Vec<GapPattern>, pattern: GapPattern) -> Result<(), NoMemory>
+    ensures { IfOk result (λ _. (p : PatternValue) → Contains found.new.items p ↔ (Contains found.old.items p ⊎ (pattern ≡ p))) }
+{
+    if is_last(found, &pattern) {
+        return Ok(());
+    }
+    push(found, pattern)?;
+    Ok(())
 }
 
 /// Gathers the pattern of a state in which no place is open.
@@ -113,7 +146,7 @@ fn gather_finished(
 ) -> Result<(), NoMemory>
     requires stands { IsStanding true (gap_setting question.now) question.now.formula.now question.now.vars state.now }
     requires finished { state.now.first ≡ 0 }
-    ensures { IfOk result (λ _. GathersPatternsOf question.now (ticks_in state.now.choices) found.old.items found.new.items) }
+    ensures { IfOk result (λ _. GathersKeptOf question.now (ticks_in state.now.choices) found.old.items found.new.items) }
 {
     let alloc = *state.allocator();
     let ends = roots_of(alloc, state.bind())?;
@@ -122,8 +155,9 @@ fn gather_finished(
     let missing = atoms.as_slice();
     let variables = free_of(alloc, roots, question.vars, missing)?;
     let free = variables.as_slice();
-    let pattern = pattern_by(alloc, question.vars, roots, missing, free)?;
-    push(found, pattern)?;
+    let terms = kept_terms(question.with_terms, question.vars);
+    let pattern = pattern_by(alloc, terms, roots, missing, free)?;
+    keep(found, pattern)?;
     Ok(())
 }
 
@@ -134,7 +168,7 @@ fn gather_here(
     state: &ProofState,
 ) -> Result<(), NoMemory>
     requires { IsStanding true (gap_setting question.now) question.now.formula.now question.now.vars state.now }
-    ensures { IfOk result (λ _. GathersPatternsOf question.now (ticks_in state.now.choices) found.old.items found.new.items) }
+    ensures { IfOk result (λ _. GathersKeptOf question.now (ticks_in state.now.choices) found.old.items found.new.items) }
 {
     if state.first() > 0 {
         return Ok(());
@@ -142,11 +176,30 @@ fn gather_here(
     gather_finished(found, question, state)
 }
 
+/// Leaves each pattern once, in order.
+fn unite(patterns: &mut Vec<GapPattern>)
+    ensures { (pattern : PatternValue) → Contains patterns.new.items pattern ↔ Contains patterns.old.items pattern }
+{
+    patterns.sort_unstable();
+    patterns.dedup();
+}
+
+/// Leaves each pattern once where there is no more room, and returns how many may be there until the next time.
+fn prune(patterns: &mut Vec<GapPattern>, room: usize) -> usize
+    ensures { (pattern : PatternValue) → Contains patterns.new.items pattern ↔ Contains patterns.old.items pattern }
+{
+    if patterns.len() < room {
+        return room;
+    }
+    unite(patterns);
+    patterns.len().saturating_mul(2).max(MANY_PATTERNS)
+}
+
 impl<'a> Gather<GapQuestion<'a>, ProofState> for Patterns {
     ghost use Rattle.px_prover.specs.GapAsking.{gap_setting};
-    ghost use Rattle.px_prover.specs.Patterns.{ArePatternsOf};
+    ghost use Rattle.px_prover.specs.Patterns.{AreKeptOf};
 
-    ghost gathered = { λ q g seen. ArePatternsOf (gap_setting q) q.formula.now q.vars seen g.found.items };
+    ghost gathered = { λ q g seen. AreKeptOf q.with_terms (gap_setting q) q.formula.now q.vars seen g.found.items };
 
     fn gather(
         &mut self,
@@ -166,18 +219,19 @@ impl<'a> Gather<GapQuestion<'a>, ProofState> for Patterns {
                 Some(tick) => last = Some(sized(tick)),
             }
         }
+        self.room = prune(&mut self.found, self.room);
         Ok(())
     }
 }
 
-/// Returns the pattern of the formula without atoms: its variables, and no gap.
-fn without_atoms(alloc: Global, vars: u32) -> Result<GapPattern, NoMemory>
+/// Returns the pattern of the formula without atoms: the first `count` of its variables, and no gap.
+fn without_atoms(alloc: Global, vars: u32, count: u32) -> Result<GapPattern, NoMemory>
     ensures vars_are { IfOk result (λ pattern. pattern.vars ≡ vars) }
-    ensures terms_are { IfOk result (λ pattern. pattern.terms ≡ variables_from 0 vars) }
+    ensures terms_are { IfOk result (λ pattern. pattern.terms ≡ variables_from 0 count) }
     ensures atoms_are { IfOk result (λ pattern. pattern.atoms ≡ []) }
 {
     let mut terms = Vec::new(alloc);
-    for variable in 0..vars {
+    for variable in 0..count {
         push(&mut terms, Term::Var(variable))?;
     }
     Ok(GapPattern {
@@ -187,28 +241,20 @@ fn without_atoms(alloc: Global, vars: u32) -> Result<GapPattern, NoMemory>
     })
 }
 
-/// Returns the patterns, each once.
-fn distinct(mut patterns: Vec<GapPattern>) -> Vec<GapPattern>
-    ensures { (pattern : PatternValue) → Contains result.items pattern ↔ Contains patterns.items pattern }
-{
-    patterns.sort_unstable();
-    patterns.dedup();
-    patterns
-}
-
 /// Returns the patterns of the question, unless as many unfinished lists as `limit` exist.
 fn gathered(alloc: Global, question: &GapQuestion, limit: u32) -> Result<Vec<GapPattern>, GapErr>
     requires asked { IsAsked question.now }
     requires some { 0 < limit }
     requires within { limit ≤ question.now.problem.now.shapes }
-    ensures patterns { IfOk result (λ patterns. AreGapPatterns (gap_setting question.now) question.now.formula.now question.now.vars
-        patterns.items) }
+    ensures patterns { IfOk result (λ patterns. AreKeptPatterns question.now.with_terms (gap_setting question.now)
+        question.now.formula.now question.now.vars patterns.items) }
     ensures few { IfOk result (λ patterns. AreFewGapShapes (gap_setting question.now) question.now.formula.now question.now.vars) }
     ensures limited { limit ≡ question.now.problem.now.shapes
         → IfGapLimit result (IsGapLimited (gap_setting question.now) question.now.formula.now question.now.vars) }
 {
     let mut patterns = Patterns {
         found: Vec::new(alloc),
+        room: MANY_PATTERNS,
     };
     let height = question.problem.height;
     let mut state = match ProofState::new(alloc, question.formula, question.vars, height) {
@@ -216,10 +262,67 @@ fn gathered(alloc: Global, question: &GapQuestion, limit: u32) -> Result<Vec<Gap
         Err(NoMemory) => return Err(GapErr::NoMemory),
     };
     match walk_to_end(alloc, question, &mut state, &mut patterns, limit) {
-        Ok(None) => Ok(distinct(patterns.found)),
+        Ok(None) => {
+            let mut found = patterns.found;
+            unite(&mut found);
+            Ok(found)
+        }
         Ok(Some(shapes)) => Err(GapErr::ShapeLimit(shapes)),
         Err(NoMemory) => Err(GapErr::NoMemory),
     }
+}
+
+/// Returns the patterns of the formula, with their terms or without them.
+fn kept_patterns(
+    alloc: Global,
+    problem: &Problem,
+    formula: &[Atom],
+    vars: u32,
+    model: &Model,
+    with_terms: bool,
+) -> Result<Vec<GapPattern>, GapErr>
+    requires problem { IsValid problem.now }
+    requires formula { All (IsAtomOf problem.now vars) formula.now }
+    requires few_variables { vars ≤ most_gap_variables }
+    requires some_object { 0 < vars → 0 < problem.now.objects }
+    ensures patterns { IfOk result (λ patterns. AreKeptPatterns with_terms (setting_of problem.now model.now.atoms) formula.now vars
+        patterns.items) }
+    ensures few { IfOk result (λ patterns. AreFewGapShapes (setting_of problem.now model.now.atoms) formula.now vars) }
+    ensures limited { IfGapLimit result (IsGapLimited (setting_of problem.now model.now.atoms) formula.now vars) }
+{
+    let facts = model.atoms();
+    if formula.is_empty() {
+        let pattern = match without_atoms(alloc, vars, kept_terms(with_terms, vars)) {
+            Ok(pattern) => pattern,
+            Err(NoMemory) => return Err(GapErr::NoMemory),
+        };
+        let mut found = Vec::new(alloc);
+        return match push(&mut found, pattern) {
+            Ok(()) => Ok(found),
+            Err(NoMemory) => Err(GapErr::NoMemory),
+        };
+    }
+    let question = GapQuestion {
+        problem,
+        formula,
+        vars,
+        facts,
+        with_terms,
+    };
+    if problem.shapes <= FEW_LISTS {
+        return gathered(alloc, &question, problem.shapes);
+    }
+    match gathered(alloc, &question, FEW_LISTS) {
+        Ok(patterns) => return Ok(patterns),
+        Err(GapErr::ShapeLimit(_)) => {}
+        Err(GapErr::NoMemory) => return Err(GapErr::NoMemory),
+    }
+    match shapes_at_limit(alloc, &question) {
+        Ok(Some(shapes)) => return Err(GapErr::ShapeLimit(shapes)),
+        Ok(None) => {}
+        Err(NoMemory) => return Err(GapErr::NoMemory),
+    }
+    gathered(alloc, &question, problem.shapes)
 }
 
 /// Returns the gap lists of the formula as patterns: whatever objects of the problem are chosen for a pattern's variables, its
@@ -243,36 +346,29 @@ pub fn gap_patterns(
     ensures few { IfOk result (λ patterns. AreFewGapShapes (setting_of problem.now model.now.atoms) formula.now vars) }
     ensures limited { IfGapLimit result (IsGapLimited (setting_of problem.now model.now.atoms) formula.now vars) }
 {
-    let facts = model.atoms();
-    if formula.is_empty() {
-        let pattern = match without_atoms(alloc, vars) {
-            Ok(pattern) => pattern,
-            Err(NoMemory) => return Err(GapErr::NoMemory),
-        };
-        let mut found = Vec::new(alloc);
-        return match push(&mut found, pattern) {
-            Ok(()) => Ok(found),
-            Err(NoMemory) => Err(GapErr::NoMemory),
-        };
-    }
-    let question = GapQuestion {
-        problem,
-        formula,
-        vars,
-        facts,
-    };
-    if problem.shapes <= FEW_LISTS {
-        return gathered(alloc, &question, problem.shapes);
-    }
-    match gathered(alloc, &question, FEW_LISTS) {
-        Ok(patterns) => return Ok(patterns),
-        Err(GapErr::ShapeLimit(_)) => {}
-        Err(GapErr::NoMemory) => return Err(GapErr::NoMemory),
-    }
-    match shapes_at_limit(alloc, &question) {
-        Ok(Some(shapes)) => return Err(GapErr::ShapeLimit(shapes)),
-        Ok(None) => {}
-        Err(NoMemory) => return Err(GapErr::NoMemory),
-    }
-    gathered(alloc, &question, problem.shapes)
+    kept_patterns(alloc, problem, formula, vars, model, true)
+}
+
+// Alike: `gap_patterns`, of which this leaves out the terms; so its clauses but one are the same.
+/// Returns the patterns of [`gap_patterns`] without their terms: the atoms that are closed by gaps together, whatever the objects for the
+/// formula's variables. Equal ones are kept once while they come, so it takes memory by the different ones.
+///
+/// # Errors
+/// `ShapeLimit` if at least as many shapes of unfinished lists exist as the problem allows, and `NoMemory`.
+pub fn gap_closings(
+    alloc: Global,
+    problem: &Problem,
+    formula: &[Atom],
+    vars: u32,
+    model: &Model,
+) -> Result<Vec<GapPattern>, GapErr>
+    requires problem { IsValid problem.now }
+    requires formula { All (IsAtomOf problem.now vars) formula.now }
+    requires few_variables { vars ≤ most_gap_variables }
+    requires some_object { 0 < vars → 0 < problem.now.objects }
+    ensures closings { IfOk result (λ closings. AreGapClosings (setting_of problem.now model.now.atoms) formula.now vars closings.items) }
+    ensures few { IfOk result (λ patterns. AreFewGapShapes (setting_of problem.now model.now.atoms) formula.now vars) }
+    ensures limited { IfGapLimit result (IsGapLimited (setting_of problem.now model.now.atoms) formula.now vars) }
+{
+    kept_patterns(alloc, problem, formula, vars, model, false)
 }

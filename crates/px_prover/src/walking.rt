@@ -1,5 +1,5 @@
 //! The prover's state as a walk over unfinished lists.
-ghost use Rattle.std.specs.Prelude.{◌≡◌, ◌<◌, ◌≤◌, ◌-◌, ◌++◌, take, length, map as map_list, IsTrue};
+ghost use Rattle.std.specs.Prelude.{◌≡◌, ◌<◌, ◌≤◌, ◌-◌, ◌++◌, take, length, map as map_list, MatchBool};
 ghost use Rattle.px_proof_state.specs.Arena.{goals_at, AreOlder};
 ghost use Rattle.px_proof_state.specs.declared.open.Choice.{Choice as ChoiceValue};
 ghost use Rattle.px_proof_walk.specs.Trail.{tick_or_none};
@@ -30,7 +30,8 @@ fn open_places(state: &ProofState) -> usize
 pub(crate) fn are_two_open(state: &ProofState) -> bool
     requires arena { AreOlder state.now.goals }
     requires within { state.now.first ≤ length state.now.goals }
-    ensures { IsTrue result → 1 < length (goals_at state.now.goals state.now.first) }
+    ensures { MatchBool result (1 < length (goals_at state.now.goals state.now.first))
+        (length (goals_at state.now.goals state.now.first) ≤ 1) }
 {
     let place = state.first();
     if place == 0 {

@@ -2,10 +2,9 @@
 pub use Rattle.px_script.proofs.Common.{eqb-true, ◌≡◌, ◌∙◌, map, sym, ap, length, arith, [], refl, ◌++◌, ◌∷◌, List, take, ℕ, drop, true, subst, ◌≤◌, ◌<◌, ◌+◌, inr, get_or, Bool, inl, ◌≢◌, None, Some, Option, ◌==◌, slice_index, IfSome, count_by, ScriptValue, content_of, Declared, nothing_declared, OpenBlock, after_line, is_formed, Lexeme, lines_of, PassAll, IsScript, Stage, line_of, Statement, Line, Atom, Problem, length-map, bytes_eq-Decides, AllByRecursion, option_map, bytes_eq, IsUtf8, IsOfStage, Thing, IsInRange, first_state, rendering, coded}
 pub use Rattle.px_effects.specs.FreshNames.{IsNameLexeme}
 pub use Rattle.px_causes.specs.EarlyFaults.{stage_view}
-pub use Rattle.px_reader.specs.LineReads.{LinesFail, characters_of, HasFirstFault, IsRead, IsLineRefused, LineEnds, HasFault, refusal_told}
+pub use Rattle.px_reader.specs.LineReads.{LinesFail, lines_in, HasFirstFault, IsRead, IsLineRefused, LineEnds, HasFault, refusal_told}
 pub use Rattle.px_script.specs.ReadScripts.{content}
 pub use Rattle.px_so_far.specs.SoFarViews.{declared_of, open_block_view}
-pub use Rattle.px_lines.specs.ItemViews.{lexemes_of}
 pub use Rattle.px_statements.specs.StatementViews.{statement_view}
 pub use Rattle.px_script.proofs.Rows.{parse}
 pub use Rattle.px_script.proofs.States.{AreInRange}

@@ -1,6 +1,11 @@
 -- Lines without what ends them, and what reading a line shows.
 use Rattle.px_reader.proofs.Common.{AllByRecursion, IsNameLexeme, all_scalars, spelling, subst, ◌≡◌, ◌≢◌, ℕ, ◌+◌, ◌-◌, ◌<◌, Bool, true, List, [], ◌∷◌, ◌++◌, take, drop, length, get_or, refl, sym, ap, ◌∙◌, inl, inr, arith, Option, None, Some, Result, Ok, Err, IfOk, slice_index, ◌==◌, bytes_eq, eqb-true, take-append-drop, take_more, take_all, bytes_eq-Decides, Lexeme, Lexes, mark, without_mark, without_return, Statement, Line, line_of, Forms, begins_with_word, is_formed, Declared, coded, Stage, Fails, parse-sound, parse-complete, by_test, parse, HasFault, LineEnds, HasCharAt, after_line, MatchOption}
-use Rattle.std.specs.Prelude.{encode_utf8}
+use Rattle.px_lines.proofs.Scans.{whole-lexed, not-lexed as not-lexed-text}
+use Rattle.px_lines.specs.Tokens.{is_whole, lexemes_in}
+use Rattle.px_script.proofs.Lexing.{Begins-same, Begins-not-ignored}
+use Rattle.px_script.specs.Lexemes.{Begins, name, variable, number, sign}
+use Rattle.std.specs.Str.{chars}
+use Rattle.std.specs.Prelude.{encode_utf8, false}
 use Rattle.px_base.specs.declared.no_memory.NoMemory.{NoMemory}
 use Rattle.px_causes.specs.declared.line_fault.LineFault.{LineFault}
 use Rattle.std.specs.Option.{option_and_then}
@@ -47,6 +52,14 @@ module _ (d : Declared) (lexemes : List Lexeme) where
   same-line l s is made = (there (λ l. IsLineOf (has_building d) lexemes l × (is_formed d l ≡ true)) (formed_line d lexemes) l
       (formed-sound d lexemes) (sym is)).0.1 s (sym made)
 
+-- whether a line begins with a word is told by its first lexeme
+pub same-word : (d : Declared) (first : Lexeme) (others : List Lexeme) → begins_with_word d (first ∷ []) ≡ true
+    → begins_with_word d (first ∷ others) ≡ true
+same-word d (name w) others is = is
+same-word d (variable w) others is = cc
+same-word d (number n) others is = cc
+same-word d (sign s) others is = cc
+
 -- A line has these lexemes, which the parser was given.
 module _ (stage : Stage) (d : Declared) (line : List ℕ) where
   form : (lexemes : List Lexeme) (s : Statement) → Some s ≡ parse d lexemes → Forms d lexemes s
@@ -71,3 +84,24 @@ module _ (stage : Stage) (d : Declared) (line : List ℕ) where
       → Fails stage d line (coded 2)
   fails-form [] lexes word e = cc
   fails-form (x ∷ xs) lexes word e = inr (x ∷ xs, lexes, inr (inl (word, λ s forms. let p = parse-complete d (x ∷ xs) s forms in cc, refl)))
+
+  -- the first lexeme of the line, and the characters that follow it
+  module _ (first : Lexeme) (rest : List ℕ) (begins : Begins line first rest) where
+    -- a character of the line begins no lexeme
+    pub not-lexed : ((all : List Lexeme) → ¬ Lexes rest all) → (all : List Lexeme) → ¬ Lexes line all
+    not-lexed never [] is = Begins-not-ignored line first rest begins is
+    not-lexed never (x ∷ xs) is = never xs (subst (λ t. Lexes t xs) (sym (Begins-same line first x rest is.0 begins is.1).1) is.2)
+
+    pub fails-bad : ((all : List Lexeme) → ¬ Lexes rest all) → Fails stage d line (coded 2)
+    fails-bad never = inl (not-lexed never, refl)
+
+    pub fails-word : (others : List Lexeme) → Lexes rest others → begins_with_word d (first ∷ others) ≡ false → Fails stage d line (coded 3)
+    fails-word others is no_word = inr (first ∷ others, (rest, begins, is), inl (no_word, refl))
+
+  -- no line in its form is read of what follows, whose characters are lexemes or not
+  pub fails-unread : (first : Lexeme) (text : List ℕ) → Begins line first (chars text) → begins_with_word d (first ∷ []) ≡ true
+      → ((others : List Lexeme) → Lexes (chars text) others → None ≡ parse d (first ∷ others)) → Fails stage d line (coded 2)
+  fails-unread first text begins word none = by_test (is_whole text)
+      (λ whole. let is = whole-lexed text whole in
+      fails-form (first ∷ lexemes_in text) (chars text, begins, is) (same-word d first (lexemes_in text) word) (none (lexemes_in text) is))
+      (λ bad. fails-bad first (chars text) begins (not-lexed-text text bad))

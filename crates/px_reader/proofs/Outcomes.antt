@@ -1,7 +1,6 @@
 -- What reading a text, and bytes, ends with.
-use Rattle.px_reader.proofs.Common.{◌≡◌, ℕ, ◌+◌, ◌≤◌, List, [], ◌∷◌, map, take, length, refl, sym, ap, ◌∙◌, subst, inr, arith, Some, Result, Ok, Err, IfOk, IfErr, count_by, ◌==◌, IsErrAnd, slice_split, IsUtf8, bytes_eq, chars, length-map, length-drop, map-map, count_by-le-length, ScriptValue, Declared, OpenBlock, Refusal, mark, without_mark, without_return, lines_of, Stage, PassAll, FailsIn, IsScript, FirstFault, ReadsOneWay, by_test, of-stage, characters_of, LinesFail, HasFirstFault, IsRead, IsLineRefused, content, refusal_told, Bor, IsOfStage, nothing_declared}
+use Rattle.px_reader.proofs.Common.{◌≡◌, ℕ, ◌+◌, ◌≤◌, List, [], ◌∷◌, take, length, refl, sym, ap, ◌∙◌, subst, inr, arith, Some, Result, Ok, Err, IfOk, IfErr, IsErrAnd, IsUtf8, bytes_eq, length-drop, ScriptValue, Declared, OpenBlock, Refusal, mark, without_mark, lines_of, Stage, PassAll, FailsIn, IsScript, FirstFault, ReadsOneWay, by_test, of-stage, LinesFail, HasFirstFault, IsRead, IsLineRefused, content, refusal_told, IsOfStage, nothing_declared}
 use Rattle.px_reader.specs.LineReads.{AreScript}
-use Rattle.std.proofs.lemmas.List.Splits.{length-slice_split}
 use Rattle.px_script.proofs.Law.{reads-one-way}
 use Rattle.px_script.specs.declared.script.Script.{Script}
 use Rattle.px_reader.specs.declared.refused.ScriptErr.{ScriptErr}
@@ -34,22 +33,8 @@ left-open stage n d [] last block same opened = (block, ap (λ e. e.block) (sym 
 left-open stage n d (line ∷ lines) last block passes opened
     = inr (passes.0, passes.1, left-open stage (n + 1) passes.0 lines last block passes.2 opened)
 
--- the lines of a text by its parts
-pub parts-lines : (parts : List (Bor (List ℕ))) (text : List ℕ)
-    → map (λ part. part.now) parts ≡ slice_split (λ b. b == 10) (without_mark text) → characters_of parts ≡ lines_of text
-parts-lines parts text is = sym (map-map (λ line. chars (without_return line)) (λ part. part.now) parts)
-    ∙ ap (map (λ line. chars (without_return line))) is
-
-unmarked-short : (text : List ℕ) → length (without_mark text) ≤ length text
+pub unmarked-short : (text : List ℕ) → length (without_mark text) ≤ length text
 unmarked-short text = by_test (bytes_eq (take 3 text) mark) (λ e. rw (e, length-drop) omega arith) (λ e. rw e omega arith)
-
--- there is at most one line more than there are bytes
-pub few-parts : (parts : List (Bor (List ℕ))) (text : List ℕ)
-    → map (λ part. part.now) parts ≡ slice_split (λ b. b == 10) (without_mark text) → length parts ≤ length text + 1
-few-parts parts text is =
-    let lengths : length parts ≡ count_by (λ b. b == 10) (without_mark text) + 1 = sym (length-map parts (λ part. part.now))
-    ∙ ap length is ∙ length-slice_split (λ b. b == 10) (without_mark text) in
-    omega (arith, lengths, count_by-le-length (λ b. b == 10) (without_mark text), unmarked-short text)
 
 pub err-carried : {A : Type 0} (r : Result A ScriptErr) (P : ScriptErr → Type 0) (x : ScriptErr) → IsErrAnd r (λ e. e ≡ x) → P x → IfErr r P
 err-carried (Ok a) P x is p = tt

@@ -4,7 +4,8 @@ use Rattle.px_script.specs.Declarations.{Declared, nothing_declared}
 use Rattle.px_script.specs.Stages.{Stage}
 use Rattle.px_script.specs.Statements.{Statement}
 use Rattle.std.specs.Option.{option_map}
-use Rattle.std.specs.Prelude.{◌≡◌, ℕ, List, map, None, Some, Option, Ok, Err, Result, MatchResult}
+use Rattle.std.specs.Prelude.{◌≡◌, ◌==◌, ℕ, List, map, None, Some, Option, Ok, Err, Result, MatchResult}
+use Rattle.std.specs.List.{slice_split}
 use Rattle.std.specs.Str.{chars}
 use Rattle.px_script.specs.Faults.{Refusal, fault_at}
 use Rattle.px_script.specs.Lines.{without_return}
@@ -16,7 +17,6 @@ use Rattle.px_reader.specs.declared.refused.ScriptErr.TheVariants as script
 use Rattle.px_script.specs.ReadScripts.{content}
 use Rattle.px_script.specs.declared.script.Script.{Script}
 use Rattle.px_causes.specs.FaultViews.{refusal_of}
-use denote.Ref.{Bor}
 
 -- this is the first fault of a statement, if it has one
 abbrev pub HasFault : Stage → Declared → Statement → Option LineFault → Type 0
@@ -27,9 +27,9 @@ abbrev pub LineEnds : Stage → ℕ → Declared → List ℕ → Declared → O
 LineEnds stage n d characters after None = Passes stage n d characters after
 LineEnds stage n d characters after (Some fault) = Fails stage d characters (refusal_of fault)
 
--- the characters of lines without what ends them
-abbrev pub characters_of : List (Bor (List ℕ)) → List (List ℕ)
-characters_of lines = map (λ l. chars (without_return l.now)) lines
+-- the characters of the lines of a text without what ends them
+abbrev pub lines_in : List ℕ → List (List ℕ)
+lines_in text = map (λ line. chars (without_return line)) (slice_split (λ b. b == 10) text)
 
 abbrev pub refusal_told : Refused → Refusal
 refusal_told refused = record { code = refused.code; limit = refused.limit }

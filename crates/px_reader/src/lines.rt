@@ -1,5 +1,5 @@
 //! The next line, and what all lines are once the last is read.
-ghost use Rattle.std.specs.Prelude.{◌≡◌, ◌<◌, ◌&&◌, true, length, IfOk, IfSome, MatchOption};
+ghost use Rattle.std.specs.Prelude.{◌≡◌, ◌<◌, ◌&&◌, ◌∷◌, List, true, false, length, IfOk, IfSome, MatchOption};
 ghost use Rattle.px_base.specs.Bounds.{u32_max};
 ghost use Rattle.px_rooms.specs.States.{IsBuilding, first_state, rendering};
 ghost use Rattle.px_script.specs.Faults.{over};
@@ -7,12 +7,15 @@ ghost use Rattle.px_script.specs.Ranges.{IsInRange};
 ghost use Rattle.px_script.specs.declared.limits.Limit.TheVariants as limit;
 ghost use Rattle.px_lines.specs.LineViews.{line_view};
 ghost use Rattle.px_so_far.specs.Problems.{HasProblem};
-ghost use Rattle.px_reader.specs.Common.{AllByRecursion, IsNameLexeme, spelling, after_line, option_map, chars, content_of, facts_of, begins_with_word, is_formed, line_of, AreInRange, HasFault, LineEnds, content, stage_view, declared_of, lexemes_of, statement_view};
+ghost use Rattle.px_reader.specs.Common.{AllByRecursion, IsNameLexeme, spelling, after_line, option_map, chars, content_of, facts_of, begins_with_word, is_formed, line_of, AreInRange, HasFault, LineEnds, content, stage_view, declared_of, statement_view};
+ghost use Rattle.px_script.specs.Lexemes.{Lexeme, name};
+ghost use Rattle.px_script.specs.Limits.{is_word};
+ghost use Rattle.px_lines.specs.Tokens.{lexeme_of};
 
 use px_base::{NoMemory, Sequence};
 use px_causes::{LineFault, PassedLimit, fault, has_too_many_facts};
 use px_effects::declare;
-use px_lines::{Line, Token, formed_line, is_word, tokens};
+use px_lines::{Line, Token, are_tokens, first_token, formed_line, is_word};
 use px_names::Names;
 use px_ops::Model;
 use px_rooms::{Building, RoomErr, RoomWorld};
@@ -23,11 +26,16 @@ use px_world::Thing;
 use std::alloc::Global;
 use std::mem;
 
-/// Returns whether the first token is a word that may begin a line.
-fn begins_with_word(so_far: &SoFar, tokens: &[Token<'_>]) -> bool
-    ensures { result ≡ begins_with_word (declared_of so_far.now) (lexemes_of tokens.now) }
+/// Returns the word that a first token is, where it may begin a line.
+fn word_of<'a>(so_far: &SoFar, first: Token<'a>) -> Option<&'a str>
+    ensures { MatchOption result
+        ((others : List Lexeme) → begins_with_word (declared_of so_far.now) (lexeme_of first.entry ∷ others) ≡ false)
+        (λ word. (lexeme_of first.entry ≡ name word.now) × (is_word (declared_of so_far.now).version word.now ≡ true)) }
 {
-    matches!(tokens, [Token::Name(name), ..] if is_word(so_far.version, name))
+    match first {
+        Token::Name(word) if is_word(so_far.version, word) => Some(word),
+        _ => None,
+    }
 }
 
 /// Reads the next line, and returns its fault, if it has one. A line without a token has none, and leaves all as it is.
@@ -43,17 +51,20 @@ pub fn read_line(
     requires { AreInRange (declared_of so_far.old) }
     ensures { IfOk result (LineEnds (stage_view stage.now) number (declared_of so_far.old) (chars line.now) (declared_of so_far.new)) }
 {
-    let Some(tokens) = tokens(so_far.alloc, line)? else {
+    let Ok(front) = first_token(line) else {
         return Ok(Some(LineFault::BadToken));
     };
-    if tokens.is_empty() {
+    let Some((first, rest)) = front else {
         return Ok(None);
-    }
-    if !begins_with_word(so_far, &tokens) {
-        return Ok(Some(LineFault::UnknownWord));
-    }
+    };
+    let Some(word) = word_of(so_far, first) else {
+        if are_tokens(rest) {
+            return Ok(Some(LineFault::UnknownWord));
+        }
+        return Ok(Some(LineFault::BadToken));
+    };
     let with_building = so_far.has_building();
-    let Some(formed) = formed_line(so_far.alloc, with_building, &tokens)? else {
+    let Some(formed) = formed_line(so_far.alloc, with_building, word, rest)? else {
         return Ok(Some(LineFault::BadToken));
     };
     match statement(with_building, &formed) {

@@ -1,17 +1,17 @@
 //! Reads all lines of an input.
-ghost use Rattle.std.specs.Prelude.{◌≡◌, ℕ, ◌<◌, ◌≤◌, ◌+◌, ◌==◌, None, IfOk, IfErr, OnOk, length, map, count_by};
+ghost use Rattle.std.specs.Prelude.{◌≡◌, ℕ, ◌<◌, ◌+◌, ◌==◌, None, IfOk, IfErr, OnOk, length, count_by};
 ghost use Rattle.px_base.specs.Bounds.{u32_max};
 ghost use Rattle.px_script.specs.Lines.{without_mark, without_return};
 ghost use Rattle.px_script.specs.Ranges.{IsOfStage};
 ghost use Rattle.px_script.specs.Scripts.{PassAll, IsScript, FirstFault};
-ghost use Rattle.px_reader.specs.Common.{slice_split, AreScript, ScriptValue, nothing_declared, Refusal, stage_now, characters_of, stage_view, LinesFail, HasFirstFault, IsRead, IsLineRefused, content, told, declared_of};
+ghost use Rattle.px_reader.specs.Common.{AreScript, ScriptValue, nothing_declared, Refusal, stage_now, lines_in, stage_view, LinesFail, HasFirstFault, IsRead, IsLineRefused, content, told, declared_of};
 
 use crate::lines::{finish, read_line};
 use crate::refused::{Refused, ScriptErr};
 use px_causes::LineFault;
 use px_script::Script;
 use px_so_far::SoFar;
-use std::alloc::{AllocError, Global};
+use std::alloc::Global;
 use std::str;
 
 /// The words that are built: all that are described.
@@ -55,13 +55,6 @@ const STAGE: [&str; 37] = [
     "tree",
 ];
 
-/// Returns the parts of a text between line feeds.
-fn parts<'a>(alloc: Global, text: &'a str) -> Result<Vec<&'a str>, AllocError>
-    ensures { IfOk result (λ parts. map (λ part. part.now) parts.items ≡ slice_split (λ b. b == 10) text.now) }
-{
-    text.split('\n').collect(alloc)
-}
-
 /// Returns the text without a byte order mark in front.
 fn without_mark(text: &str) -> &str
     ensures { result.now ≡ without_mark text.now }
@@ -89,14 +82,16 @@ fn refused(line: u32, fault: LineFault) -> ScriptErr
     ScriptErr::Refused(Refused { line, code, limit })
 }
 
-fn read_each(stage: &[&str], so_far: &mut SoFar, lines: &[&str]) -> Result<(), ScriptErr>
+/// Reads the lines of a text in turn.
+fn read_each(stage: &[&str], so_far: &mut SoFar, text: &str) -> Result<(), ScriptErr>
     requires start { declared_of so_far.old ≡ nothing_declared }
-    requires few { length lines.now ≤ u32_max }
-    ensures passes { OnOk result (PassAll (stage_view stage.now) 1 nothing_declared (characters_of lines.now) (declared_of so_far.new)) }
-    ensures fails { IfErr result (LinesFail (stage_view stage.now) (characters_of lines.now)) }
+    requires few { length text.now < u32_max }
+    ensures passes { OnOk result (PassAll (stage_view stage.now) 1 nothing_declared (lines_in text.now) (declared_of so_far.new)) }
+    ensures fails { IfErr result (LinesFail (stage_view stage.now) (lines_in text.now)) }
 {
-    for (index, line) in lines.iter().enumerate() {
-        let number = index as u32 + 1;
+    let mut number = 0;
+    for line in text.split('\n') {
+        number += 1;
         match read_line(so_far, stage, number, without_return(line)) {
             Ok(None) => {}
             Ok(Some(fault)) => return Err(refused(number, fault)),
@@ -106,29 +101,29 @@ fn read_each(stage: &[&str], so_far: &mut SoFar, lines: &[&str]) -> Result<(), S
     Ok(())
 }
 
-/// Reads all lines, after which no block may be open.
-fn read_closed(stage: &[&str], so_far: &mut SoFar, lines: &[&str]) -> Result<(), ScriptErr>
+/// Reads all lines of a text, after which no block may be open.
+fn read_closed(stage: &[&str], so_far: &mut SoFar, text: &str) -> Result<(), ScriptErr>
     requires start { declared_of so_far.old ≡ nothing_declared }
-    requires few { length lines.now ≤ u32_max }
-    ensures passes { OnOk result (PassAll (stage_view stage.now) 1 nothing_declared (characters_of lines.now) (declared_of so_far.new)) }
+    requires few { length text.now < u32_max }
+    ensures passes { OnOk result (PassAll (stage_view stage.now) 1 nothing_declared (lines_in text.now) (declared_of so_far.new)) }
     ensures closed { OnOk result ((declared_of so_far.new).block ≡ None) }
-    ensures fails { IfErr result (LinesFail (stage_view stage.now) (characters_of lines.now)) }
+    ensures fails { IfErr result (LinesFail (stage_view stage.now) (lines_in text.now)) }
 {
-    read_each(stage, so_far, lines)?;
+    read_each(stage, so_far, text)?;
     match &so_far.block {
         Some(block) => Err(refused(block.line, LineFault::MissingEnd)),
         None => Ok(()),
     }
 }
 
-/// Reads all lines, and returns the script that they are.
-fn read_lines(stage: &[&str], so_far: &mut SoFar, lines: &[&str]) -> Result<Script, ScriptErr>
+/// Reads all lines of a text, and returns the script that they are.
+fn read_lines(stage: &[&str], so_far: &mut SoFar, text: &str) -> Result<Script, ScriptErr>
     requires start { declared_of so_far.old ≡ nothing_declared }
-    requires few { length lines.now ≤ u32_max }
-    ensures script { IfOk result (λ script. AreScript (stage_view stage.now) (characters_of lines.now) (content script)) }
-    ensures fails { IfErr result (LinesFail (stage_view stage.now) (characters_of lines.now)) }
+    requires few { length text.now < u32_max }
+    ensures script { IfOk result (λ script. AreScript (stage_view stage.now) (lines_in text.now) (content script)) }
+    ensures fails { IfErr result (LinesFail (stage_view stage.now) (lines_in text.now)) }
 {
-    read_closed(stage, so_far, lines)?;
+    read_closed(stage, so_far, text)?;
     match finish(so_far) {
         Ok(script) => Ok(script),
         Err(_) => Err(ScriptErr::NoMemory),
@@ -140,13 +135,10 @@ fn read_text(alloc: Global, stage: &[&str], text: &str) -> Result<Script, Script
     ensures script { IfOk result (λ script. IsScript (stage_view stage.now) text.now (content script)) }
     ensures refused { IfErr result (HasFirstFault (stage_view stage.now) text.now) }
 {
-    let Ok(lines) = parts(alloc, without_mark(text)) else {
-        return Err(ScriptErr::NoMemory);
-    };
     let Ok(mut so_far) = SoFar::new(alloc) else {
         return Err(ScriptErr::NoMemory);
     };
-    read_lines(stage, &mut so_far, &lines)
+    read_lines(stage, &mut so_far, without_mark(text))
 }
 
 /// Returns the line of the byte after these.

@@ -16,12 +16,10 @@ use Rattle.px_ends.proofs.MoveLaws.{move_cmp-total}
 use Rattle.px_numbers.specs.declared.nodes.NodeKey.{NodeKey}
 use Rattle.px_numbers.specs.Numbers.{Kept, IsKeyOf, KeepsAll}
 use Rattle.px_search.specs.declared.picker.Picker.{Picker}
-use Rattle.px_search.specs.declared.progress.Progress.{Progress}
-use Rattle.px_search.specs.declared.progress.Progress.TheVariants.{Unsolved, Solved, Full, Limited}
 use Rattle.px_search.specs.declared.step.Step.{Step}
 use Rattle.px_search.specs.declared.step.Origin.{Origin}
 use Rattle.px_search.specs.Going.{AreFirstOf, AreMovesOf, IsGoneOn, LimitsNode}
-use Rattle.px_search.specs.Looping.{IsProgress, Trying}
+use Rattle.px_search.specs.Looping.{Trying}
 use Rattle.px_search.specs.Searching.{IsMaking}
 use Rattle.px_search.proofs.BeginningLaws.{all-begun}
 use Rattle.px_search.proofs.GoingLaws.{going-grows, same_here}
@@ -103,16 +101,6 @@ firsts-count (x ∷ xs) (y ∷ ys) is =
     omega (arith, below)
 
 module _ (task : Task) where
-  -- ---- what moves came to
-
-  -- where no node is solved, what is known goes on
-  pub progress-goes : (kept : Kept) (keys : List NodeKey) (origins : List Origin) (P Q : Type 0) (progress : Progress) → (P → Q)
-      → IsProgress task kept keys origins P progress → IsProgress task kept keys origins Q progress
-  progress-goes kept keys origins P Q Unsolved goes known = goes known
-  progress-goes kept keys origins P Q Solved goes known = known
-  progress-goes kept keys origins P Q (Full moves) goes known = known
-  progress-goes kept keys origins P Q (Limited limit) goes known = known
-
   -- ---- from the first moves to all
 
   -- the first moves are the first of all

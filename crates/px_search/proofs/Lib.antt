@@ -1,4 +1,5 @@
 -- The files of lemmas.
+pub mod AlterationLaws
 pub mod Answering
 pub mod BeginningLaws
 pub mod BegunLaws

@@ -19,18 +19,23 @@ use Rattle.px_ends.proofs.AtStart.{found_at_start}
 use Rattle.px_ends.specs.ByValue.{IsFound, IsNodeLimit, aim_of, space_of}
 use Rattle.px_ends.specs.Ends.{node_of}
 use Rattle.px_ends.specs.Tasks.{Task, initial_node, IsSolved, after}
-use Rattle.px_search.specs.declared.progress.Limit.{Limit}
+use Rattle.px_search.specs.declared.best_first.Explored.{Explored}
 use Rattle.px_search.specs.declared.picker.Picker.{Picker}
+use Rattle.px_search.specs.declared.stop.Limit.{Limit}
 use Rattle.px_search.specs.declared.step.Step.{Step}
 use Rattle.px_search.specs.declared.step.Origin.{Origin}
 use Rattle.px_search.specs.Asking.{IsTriedAt}
-use Rattle.px_search.specs.Looping.{AreFoundBy, Between, IsFull, IsLimitedAt, IsReached, Trying}
+use Rattle.px_search.specs.Looping.{AreFoundBy, Between, IsExploring, IsFull, IsLimitedAt, IsReached, IsUnexplored, Trying}
+use Rattle.px_search.specs.Notes.{AreRight, HaveGrown}
+use Rattle.px_search.specs.Scenes.{IsScene}
 use Rattle.px_search.specs.Searching.{order_of}
 use Rattle.px_search.specs.Picking.{AreWithin, IsOnward, IsPickerOf}
 use Rattle.px_search.specs.Steps.{DescribesMove, AreStepsOf, AreEarlier, Trace}
 use Rattle.px_search.proofs.GoingLaws.{counted, here_of, between-start, found-start, trying-grows, trying-seen, trying-new, going-found, going-limit, going-full, going-next, going-room, onward, same_here, kept_old, kept_new, more_earlier, picked-within, some_trace}
 use Rattle.px_search.proofs.FirstLimits.{first_at_start}
 use Rattle.px_search.proofs.ValueEndings.{linear}
+use Rattle.px_search.proofs.NoteLaws.{right-grows}
+use Rattle.px_search.proofs.SceneLaws.{scene-grows, scene-start}
 use Rattle.px_search.proofs.StepLaws.{step-grows, steps-count}
 
 -- ---- the step at a place
@@ -48,6 +53,25 @@ take_front [] x n long = rw long refl
 take_front (y ∷ xs) x n long = rw long (ap (λ t. y ∷ t) (take_front xs x (length xs) refl))
 
 module _ (task : Task) where
+  -- ---- what is kept
+
+  -- what is kept stays right, whatever nodes there are
+  pub exploring-grows : (old new : Explored) → HaveGrown task old.notes new.notes → old.scene ≡ new.scene → IsExploring task old
+      → IsExploring task new
+  exploring-grows old new grown same exploring = record {
+    notes = grown.right;
+    scene = subst (IsScene task new.notes.numbers) same (scene-grows task old.notes.numbers new.notes.numbers old.scene grown.keeps
+        exploring.scene);
+  }
+
+  -- what is kept is right where no model was looked at yet
+  pub exploring-start : (old new : Explored) → IsUnexplored task old → KeepsAll old.notes.numbers new.notes.numbers
+      → record old.notes { numbers = new.notes.numbers } ≡ new.notes → old.scene ≡ new.scene → IsExploring task new
+  exploring-start old new given keeps same_notes same_scene = record {
+    notes = subst (AreRight task) same_notes (right-grows task old.notes new.notes.numbers keeps given.notes);
+    scene = subst (IsScene task new.notes.numbers) same_scene (scene-start task new.notes.numbers old.scene given.scene);
+  }
+
   -- ---- the start
 
   -- the pair is the initial node, and is alone

@@ -2,6 +2,7 @@
 use Rattle.std.proofs.Common.{◌≡◌, ℕ, Bool, List, [], ◌∷◌, map}
 use Rattle.std.specs.Prelude.{Result, Ok, Err, OnOk}
 use Rattle.std.specs.Bool.{Decides}
+use Rattle.std.specs.Cmp.Lexicographic.{pointwise_decides}
 use Rattle.std.proofs.lemmas.Bool.Decides.{Decides-and, Decides-eqb, Decides-like}
 use Rattle.px_base.proofs.Loops.{on_ok}
 use Rattle.px_terms.specs.declared.atom.Atom.{Atom}
@@ -14,10 +15,12 @@ use Rattle.px_diff.specs.declared.move_err.MoveErr.TheVariants.{ShapeLimit, NoMe
 use Rattle.px_numbers.specs.Numbers.{Kept, KeepsAll}
 use Rattle.px_numbers.specs.NumberLaws.{model_at-grows}
 use Rattle.px_ends.specs.Tasks.{Task}
-use Rattle.px_search.specs.Notes.{AreRight, HaveGrown, IsResultAt, IsStepsAt, OnAnswer}
+use Rattle.px_search.specs.Notes.{AreRight, HaveGrown, IsAlteredAt, IsResultAt, IsStepsAt, OnAnswer, model_altered}
 use Rattle.px_search.specs.Offers.{IsOffered, IsOfferAt, IsPartAt}
 use Rattle.px_search.specs.contracts.notes.EntryPlacePartialEq.TheImpl as place_equality
 use Rattle.px_search.specs.contracts.notes.WantPartialEq.TheImpl as want_equality
+use Rattle.px_search.specs.contracts.notes.AlterationPartialEq.TheImpl as alteration_equality
+use Rattle.px_search.specs.declared.notes.Alteration.{Alteration}
 use Rattle.px_search.specs.declared.notes.Notes.{Notes}
 use Rattle.px_search.specs.declared.notes.Offer.{Offer}
 use Rattle.px_search.specs.declared.notes.EntryPlace.{EntryPlace}
@@ -46,6 +49,16 @@ pub want_eq-decides : (a b : Want) → Decides (want_eq a b) (a ≡ b)
 want_eq-decides a b =
     Decides-like _ (λ e i. record { part = e.0 i; atom = e.1 i }) (λ e. ((λ i. (e i).part), (λ i. (e i).atom)))
     (Decides-and _ _ (Decides-eqb a.part b.part) (atom_eq-decides a.atom b.atom))
+
+abbrev pub alteration_eq : Alteration → Alteration → Bool
+alteration_eq = (alteration_equality.ghosts).eq
+
+pub alteration_eq-decides : (a b : Alteration) → Decides (alteration_eq a b) (a ≡ b)
+alteration_eq-decides a b =
+    Decides-like _ (λ e i. record { model = e.0 i; deleted = e.1.0 i; added = e.1.1 i })
+    (λ e. ((λ i. (e i).model), ((λ i. (e i).deleted), (λ i. (e i).added))))
+    (Decides-and _ _ (Decides-eqb a.model b.model) (Decides-and _ _ (pointwise_decides atom_eq-decides a.deleted b.deleted)
+    (pointwise_decides atom_eq-decides a.added b.added)))
 
 -- ---- where more gets numbers
 
@@ -91,6 +104,13 @@ module _ (task : Task) (old new : Kept) (keeps : KeepsAll old new) where
     model_at-grows old new number (results_of task.problem model (effect_of task.tables entry)) keeps left,
   )
 
+  altered_at-grows : (alteration : Alteration) (number : ℕ) → IsAlteredAt old alteration number → IsAlteredAt new alteration number
+  altered_at-grows alteration number (model, model_at, left) = (
+    model,
+    model_at-grows old new alteration.model model keeps model_at,
+    model_at-grows old new number (model_altered alteration.deleted alteration.added model) keeps left,
+  )
+
   pub part-grows : (number : ℕ) (facts : List Atom) → IsPartAt task old number facts → IsPartAt task new number facts
   part-grows number facts p =
       record { is_set = p.is_set; part = p.part; part_at = model_at-grows old new number p.part keeps p.part_at; alike = p.alike }
@@ -113,6 +133,9 @@ module _ (task : Task) where
     results =
         each-grows (IsResultAt task old.numbers) (IsResultAt task new) old.results.entries
         (result_at-grows task old.numbers new keeps) right.results;
+    altered =
+        each-grows (IsAlteredAt old.numbers) (IsAlteredAt new) old.altered.entries
+        (altered_at-grows task old.numbers new keeps) right.altered;
     never_limited = right.never_limited;
   }
 

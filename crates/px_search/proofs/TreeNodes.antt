@@ -1,6 +1,6 @@
 -- The nodes of a tree, from what a search keeps.
 use Rattle.std.proofs.Common.{◌≡◌, ◌-◌, ◌<◌, ◌≤◌, ℕ, zero, suc, None, List, [], ◌∷◌, ◌++◌, length, refl, sym, ◌∙◌, ap, subst, inl, inr, arith, Some, slice_get, take, length-append, min}
-use Rattle.std.specs.Prelude.{All}
+use Rattle.std.specs.Prelude.{All, Result, Ok, Err, OnOk, IfErr, ⊤}
 use Rattle.std.proofs.lemmas.List.Elements.{All-head}
 use Rattle.px_table.specs.declared.entry.Entry.{Entry}
 use Rattle.px_table.specs.declared.entry.Move.{Move}
@@ -21,16 +21,17 @@ use Rattle.px_ends.specs.Lacks.{needs as needs_of}
 use Rattle.px_ends.specs.Moves.{CanMake, reached}
 use Rattle.px_ends.specs.Tasks.{Task, IsAllowed, after, initial_node}
 use Rattle.px_tree.specs.declared.nodes.MoveKind.TheVariants as kinds
-use Rattle.px_tree.specs.declared.nodes.Tree.{Tree}
 use Rattle.px_tree.specs.declared.nodes.TreeEnd.{TreeEnd}
+use Rattle.px_tree.specs.declared.nodes.TreeEnd.TheVariants as tree_end
 use Rattle.px_tree.specs.declared.nodes.TreeMove.{TreeMove}
 use Rattle.px_tree.specs.declared.nodes.TreeNode.{TreeNode}
-use Rattle.px_search.specs.declared.progress.Progress.{Progress}
-use Rattle.px_search.specs.declared.progress.Progress.TheVariants.{Unsolved, Solved, Full, Limited}
+use Rattle.px_search.specs.declared.best_first.Explored.{Explored}
 use Rattle.px_search.specs.declared.step.Origin.{Origin}
-use Rattle.px_search.specs.declared.step.Step.{Step}
 use Rattle.px_search.specs.declared.step.Step.TheVariants as step
-use Rattle.px_search.specs.Looping.{AreFoundBy, IsProgress, IsSpent, end_told}
+use Rattle.px_search.specs.declared.stop.Limit.{Limit}
+use Rattle.px_search.specs.declared.stop.Stop.{Stop}
+use Rattle.px_search.specs.declared.stop.Stop.TheVariants.{Solved, Full, Limited, NoMemory}
+use Rattle.px_search.specs.Looping.{AreFound, AreFoundBy, EndsAs, IsFull, IsGone, IsLimitedAt, IsReached, StopsAt}
 use Rattle.px_search.specs.Searching.{order_of}
 use Rattle.px_search.specs.Steps.{DescribesMove}
 use Rattle.px_ends.specs.Trees.{IsAskedAmong, IsTree, TellsMove, TellsNode, TellsNodes, entry_told}
@@ -205,78 +206,100 @@ module _ (task : Task) (kept : Kept) where
       front-taken (suc n) [] x below = absurd (omega (arith, below))
       front-taken (suc n) (y ∷ xs) x below = ap (λ t. y ∷ t) (front-taken n xs x (omega (arith, below)))
 
-  -- ---- the tree
+-- ---- the tree
 
-  module _ (keys : List NodeKey) (origins : List Origin) where
-    abbrev Came : Progress → Type 0
-    Came progress = IsProgress task kept keys origins (IsSpent task kept keys origins) progress
+-- what a search came to that ends so
+abbrev Came : Task → Explored → TreeEnd → Type 0
+Came task explored tree_end.Exhausted = IsGone task explored
+Came task explored tree_end.Solved = IsReached task explored.notes.numbers explored.nodes explored.origins.items
+Came task explored (tree_end.More moves) = IsFull task explored.notes.numbers explored.nodes explored.origins.items moves
+Came task explored (tree_end.ShapeLimit shapes) =
+    (limit : Limit) × IsLimitedAt task explored.notes.numbers explored.nodes explored.origins.items limit
+    × (shapes ≡ task.problem.shapes)
 
-    pub came-found : (progress : Progress) → Came progress → (found : List (List Move)) × AreFoundBy task kept keys origins found
-    came-found Unsolved (found, are, end) = (found, are)
-    came-found Solved (found, are, end) = (found, are)
-    came-found (Full moves) full = (full.found ++ full.end.last ∷ [], full.are)
-    came-found (Limited limit) limited = (limited.found, limited.are)
+module _ (task : Task) (explored : Explored) where
+  pub came-to : (result : Result ⊤ Stop) (end : TreeEnd) → OnOk result (IsGone task explored) → IfErr result (StopsAt task explored)
+      → EndsAs task.problem.shapes result end → Came task explored end
+  came-to (Ok done) end gone stops is = subst (Came task explored) (sym is) gone
+  came-to (Err Solved) end gone stops is = subst (Came task explored) (sym is) stops.1
+  came-to (Err (Full moves)) end gone stops is = subst (Came task explored) (sym is) stops.1
+  came-to (Err (Limited limit)) end gone stops is = subst (Came task explored) (sym is) (limit, stops.1, refl)
+  came-to (Err NoMemory) end gone stops is = absurd is
 
-    asked-room : (found : List (List Move)) (moves : List Move) (question : Question)
-        → IsAskedAmong task task.problem.weight found moves question → length found ≤ task.nodes
-    asked-room found moves question (inl (gone, same, asks)) = omega (arith, gone.room, ap length same)
-    asked-room found moves question (inr (tested, same, empty, is)) =
-        omega (arith, tested.room, ap length same, length-append tested.earlier (moves ∷ []))
+  pub came-found : (end : TreeEnd) → Came task explored end → (found : List (List Move)) × AreFound task explored found
+  came-found tree_end.Exhausted (found, are, end) = (found, are)
+  came-found tree_end.Solved (found, are, end) = (found, are)
+  came-found (tree_end.More moves) full = (full.found ++ full.end.last ∷ [], full.are)
+  came-found (tree_end.ShapeLimit shapes) (limit, limited, is) = (limited.found, limited.are)
 
-    abbrev told : Progress → List TreeNode → Tree
-    told progress nodes = record { nodes = nodes; end = end_told task.problem.shapes progress }
+  asked-room : (found : List (List Move)) (moves : List Move) (question : Question)
+      → IsAskedAmong task task.problem.weight found moves question → length found ≤ task.nodes
+  asked-room found moves question (inl (gone, same, asks)) = omega (arith, gone.room, ap length same)
+  asked-room found moves question (inr (tested, same, empty, is)) =
+      omega (arith, tested.room, ap length same, length-append tested.earlier (moves ∷ []))
 
-    -- there are as many nodes as there are found, or as there is room for
-    pub came-tree : (progress : Progress) (nodes : List TreeNode) → Came progress
-        → (length keys ≤ task.nodes → length nodes ≡ length keys)
-        → (task.nodes ≤ length keys → length nodes ≡ task.nodes)
-        → ((found : List (List Move)) → AreFoundBy task kept keys origins found → TellsNodes task found nodes)
-        → IsTree task task.problem.weight (told progress nodes)
-    came-tree Unsolved nodes (found, are, (end, is)) all most tells = record {
-      found = found;
-      count =
-          let long = counted task kept keys origins found are.numbered in
-          all (omega (arith, long, end.room, ap length is)) ∙ sym long;
-      nodes = tells found are;
-      end = (end, is);
-    }
-    came-tree Solved nodes (found, are, (moves, end, is)) all most tells = record {
-      found = found;
-      count =
-          let long = counted task kept keys origins found are.numbered in
-          all (omega (arith, long, end.room, ap length is, length-append end.earlier (moves ∷ []))) ∙ sym long;
-      nodes = tells found are;
-      end = (moves, end, is);
-    }
-    came-tree (Full moves) nodes full all most tells = record {
-      found = full.found;
-      count =
-          let long = counted task kept keys origins (full.found ++ full.end.last ∷ []) full.are.numbered in
-          most (omega (arith, long, full.end.full, length-append full.found (full.end.last ∷ []))) ∙ sym full.end.full;
-      nodes = tells-front full.found full.end.last nodes (tells (full.found ++ full.end.last ∷ []) full.are);
-      end = full.end;
-    }
-    came-tree (Limited limit) nodes limited all most tells = record {
-      found = limited.found;
-      count =
-          let long = counted task kept keys origins limited.found limited.are.numbered in
-          all (omega (arith, long, asked-room limited.found limited.first.moves limit.met.question limited.first.asked)) ∙ sym long;
-      nodes = tells limited.found limited.are;
-      end = (
-        limit.met,
-        limited.first,
-        sym (limit-count task.problem limit.met.question limit.met.formula limit.met.shapes limited.first.met),
-      );
-    }
+  count_of : (found : List (List Move)) → AreFound task explored found → length found ≡ length explored.nodes
+  count_of found are = counted task explored.notes.numbers explored.nodes explored.origins.items found are.numbered
 
-    pub came-tree_as : (progress : Progress) (nodes listed : List TreeNode) (end : TreeEnd) (count all : ℕ) → Came progress
-        → all ≡ length keys → count ≡ min all task.nodes → length nodes ≡ count
-        → ((found : List (List Move)) → AreFoundBy task kept keys origins found → TellsNodes task found nodes)
-        → listed ≡ nodes → end ≡ end_told task.problem.shapes progress
-        → IsTree task task.problem.weight (record { nodes = listed; end = end })
-    came-tree_as progress nodes listed end count all came all_is count_is long tells listed_is end_is =
-        subst (λ (l : List TreeNode). IsTree task task.problem.weight (record { nodes = l; end = end })) (sym listed_is)
-        (subst (λ (e : TreeEnd). IsTree task task.problem.weight (record { nodes = nodes; end = e })) (sym end_is)
-        (came-tree progress nodes came (λ few. omega (arith, few, all_is, count_is, long))
-        (λ many. omega (arith, many, all_is, count_is, long))
-        tells))
+  -- there are as many nodes as there are found, or as there is room for
+  pub came-tree : (end : TreeEnd) (nodes : List TreeNode) (count all : ℕ) → Came task explored end → all ≡ length explored.nodes
+      → count ≡ min all task.nodes → length nodes ≡ count
+      → ((found : List (List Move)) → AreFound task explored found → TellsNodes task found nodes)
+      → IsTree task task.problem.weight (record { nodes = nodes; end = end })
+  came-tree tree_end.Exhausted nodes count all (found, are, (end, is)) all_is count_is long tells = record {
+    found = found;
+    count = omega (arith, count_of found are, end.room, ap length is, all_is, count_is, long);
+    nodes = tells found are;
+    end = (end, is);
+  }
+  came-tree tree_end.Solved nodes count all (found, are, (moves, end, is)) all_is count_is long tells = record {
+    found = found;
+    count =
+        omega (
+          arith,
+          count_of found are,
+          end.room,
+          ap length is,
+          length-append end.earlier (moves ∷ []),
+          all_is,
+          count_is,
+          long,
+        );
+    nodes = tells found are;
+    end = (moves, end, is);
+  }
+  came-tree (tree_end.More moves) nodes count all full all_is count_is long tells = record {
+    found = full.found;
+    count =
+        let lists = full.found ++ full.end.last ∷ [] in
+        omega (
+          arith,
+          count_of lists full.are,
+          full.end.full,
+          length-append full.found (full.end.last ∷ []),
+          all_is,
+          count_is,
+          long,
+        );
+    nodes =
+        tells-front task explored.notes.numbers full.found full.end.last nodes (tells (full.found ++ full.end.last ∷ []) full.are);
+    end = full.end;
+  }
+  came-tree (tree_end.ShapeLimit shapes) nodes count all (limit, limited, is) all_is count_is long tells = record {
+    found = limited.found;
+    count =
+        omega (
+          arith,
+          count_of limited.found limited.are,
+          asked-room limited.found limited.first.moves limit.met.question limited.first.asked,
+          all_is,
+          count_is,
+          long,
+        );
+    nodes = tells limited.found limited.are;
+    end = (
+      limit.met,
+      limited.first,
+      is ∙ sym (limit-count task.problem limit.met.question limit.met.formula limit.met.shapes limited.first.met),
+    );
+  }

@@ -1,9 +1,9 @@
 -- What a search keeps at each turn, and what it answers.
-use Rattle.std.specs.Prelude.{◌≡◌, ◌+◌, ◌++◌, ℕ, Bool, List, [], ◌∷◌, None, Some, length, map, take, slice_get}
+use Rattle.std.specs.Prelude.{◌≡◌, ◌+◌, ◌++◌, ℕ, Bool, List, [], ◌∷◌, None, Some, Result, Ok, Err, ⊤, length, map, take, slice_get}
 use Rattle.px_table.specs.declared.entry.Move.{Move}
 use Rattle.px_numbers.specs.declared.nodes.NodeKey.{NodeKey}
 use Rattle.px_numbers.specs.Numbers.{Kept, AllStand, IsKeyOf}
-use Rattle.px_ends.specs.ByValue.{IsFound, IsExhausted, IsNodeLimit, IsShapeLimit, space_of}
+use Rattle.px_ends.specs.ByValue.{IsExhausted, IsNodeLimit, IsShapeLimit, space_of}
 use Rattle.px_ends.specs.Ends.{node_of}
 use Rattle.px_ends.specs.Tasks.{Task, initial_node}
 use Rattle.px_order.specs.Runs.{Begins, IsNext}
@@ -13,13 +13,11 @@ use Rattle.px_search.specs.declared.best_first.Explored.{Explored}
 use Rattle.px_search.specs.declared.ends.SearchErr.{SearchErr}
 use Rattle.px_search.specs.declared.ends.SearchErr.TheVariants.{Exhausted, NodeLimit, ShapeLimit, NoMemory}
 use Rattle.px_search.specs.declared.picker.Picker.{Picker}
-use Rattle.px_search.specs.declared.progress.SearchOutcome.{SearchOutcome}
-use Rattle.px_search.specs.declared.progress.SearchOutcome.TheVariants.{Plan, NoPlan, NoRoom}
-use Rattle.px_search.specs.declared.progress.Limit.{Limit}
-use Rattle.px_search.specs.declared.progress.Progress.{Progress}
-use Rattle.px_search.specs.declared.progress.Progress.TheVariants.{Unsolved, Solved, Full, Limited}
 use Rattle.px_search.specs.declared.step.Origin.{Origin}
 use Rattle.px_search.specs.declared.step.Step.{Step}
+use Rattle.px_search.specs.declared.stop.Limit.{Limit}
+use Rattle.px_search.specs.declared.stop.Stop.{Stop}
+use Rattle.px_search.specs.declared.stop.Stop.TheVariants.{Solved, Full, Limited, NoMemory as OutOfMemory}
 use Rattle.px_search.specs.Going.{IsBegunOn}
 use Rattle.px_search.specs.Notes.{AreRight}
 use Rattle.px_search.specs.Picking.{IsFirstPicker, IsPickerOf}
@@ -103,20 +101,6 @@ pub record IsLimitedAt (task : Task) (kept : Kept) (keys : List NodeKey) (origin
   pub first : IsFirstLimit task task.problem.weight found limit.met
   pub stands : IsKeyOf kept limit.key (node_of task first.moves)
 
--- what moves came to, where `goes` is what is known if none of the nodes is solved
-abbrev pub IsProgress : Task → Kept → List NodeKey → List Origin → Type 0 → Progress → Type 0
-IsProgress task kept keys origins goes Unsolved = goes
-IsProgress task kept keys origins goes Solved = IsReached task kept keys origins
-IsProgress task kept keys origins goes (Full moves) = IsFull task kept keys origins moves
-IsProgress task kept keys origins goes (Limited limit) = IsLimitedAt task kept keys origins limit
-
--- how the tree of a search ends that came to this, where so many shapes are the limit
-abbrev pub end_told : ℕ → Progress → TreeEnd
-end_told shapes Unsolved = tree_end.Exhausted
-end_told shapes Solved = tree_end.Solved
-end_told shapes (Full moves) = tree_end.More moves
-end_told shapes (Limited limit) = tree_end.ShapeLimit shapes
-
 -- ---- of all that is found and kept
 
 -- what is kept is right
@@ -139,9 +123,23 @@ abbrev pub TriesAt : Task → Explored → List ℕ → ℕ → List Step → Bo
 TriesAt task explored picked next steps is_all i =
     Trying task explored.notes.numbers explored.nodes explored.origins.items explored.picker picked next steps is_all i
 
--- what moves came to, where `goes` is what is known if none of the nodes is solved
-abbrev pub ComesTo : Task → Explored → Type 0 → Progress → Type 0
-ComesTo task explored goes progress = IsProgress task explored.notes.numbers explored.nodes explored.origins.items goes progress
+-- what stopped the search is so, and what is kept is right, unless memory ran out
+abbrev pub StopsAt : Task → Explored → Stop → Type 0
+StopsAt task explored Solved =
+    IsExploring task explored × IsReached task explored.notes.numbers explored.nodes explored.origins.items
+StopsAt task explored (Full moves) =
+    IsExploring task explored × IsFull task explored.notes.numbers explored.nodes explored.origins.items moves
+StopsAt task explored (Limited limit) =
+    IsExploring task explored × IsLimitedAt task explored.notes.numbers explored.nodes explored.origins.items limit
+StopsAt task explored OutOfMemory = Unit {0}
+
+-- how the tree of a search ends that came to this, where so many shapes are the limit
+abbrev pub EndsAs : ℕ → Result ⊤ Stop → TreeEnd → Type 0
+EndsAs shapes (Ok done) end = end ≡ tree_end.Exhausted
+EndsAs shapes (Err Solved) end = end ≡ tree_end.Solved
+EndsAs shapes (Err (Full moves)) end = end ≡ tree_end.More moves
+EndsAs shapes (Err (Limited limit)) end = end ≡ tree_end.ShapeLimit shapes
+EndsAs shapes (Err OutOfMemory) end = ⊥
 
 -- these are the lists that the search has found
 abbrev pub AreFound : Task → Explored → List (List Move) → Type 0
@@ -165,9 +163,3 @@ pub record IsUnexplored (task : Task) (explored : Explored) : Type 0 where
   pub nodes : explored.nodes ≡ []
   pub origins : explored.origins.items ≡ []
   pub picker : IsFirstPicker task explored.picker
-
--- what a search came to
-abbrev pub ComesToEnd : Task → Explored → SearchOutcome → Type 0
-ComesToEnd task explored (Plan path) = IsFound task task.problem.weight path
-ComesToEnd task explored NoPlan = IsExhausted task task.problem.weight
-ComesToEnd task explored (NoRoom moves) = IsFull task explored.notes.numbers explored.nodes explored.origins.items moves

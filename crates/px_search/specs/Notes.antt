@@ -1,7 +1,12 @@
 -- What a search keeps of what it has learned.
-use Rattle.std.specs.Prelude.{◌≡◌, ℕ, List, [], ◌∷◌, Some, slice_get, Contains, IsTrue, Result, Ok, Err}
+use Rattle.std.specs.Prelude.{◌≡◌, ℕ, List, [], ◌∷◌, ◌++◌, not, Some, slice_get, Contains, IsTrue, Result, Ok, Err}
+use Rattle.std.specs.List.{filter, list_any}
 use Rattle.px_terms.specs.declared.atom.Atom.{Atom}
-use Rattle.px_terms.specs.Operators.{results_of}
+use Rattle.px_terms.specs.declared.instance.OpInst.{OpInst}
+use Rattle.px_terms.specs.declared.problem.Problem.{Problem}
+use Rattle.px_terms.specs.AtomSets.{atom_set}
+use Rattle.px_terms.specs.Instances.{is_instance}
+use Rattle.px_terms.specs.Operators.{adds, atoms_of, results_of, schema_of}
 use Rattle.px_table.specs.declared.entry.Entry.{Entry}
 use Rattle.px_entries.specs.Entries.{IsEntry, effect_of}
 use Rattle.px_entries.specs.Unlimited.{IsNeverLimited}
@@ -14,6 +19,7 @@ use Rattle.px_search.specs.Offers.{IsOfferAt}
 use Rattle.px_search.specs.declared.notes.Notes.{Notes}
 use Rattle.px_search.specs.declared.notes.Offer.{Offer}
 use Rattle.px_search.specs.declared.notes.EntryPlace.{EntryPlace}
+use Rattle.px_search.specs.declared.notes.Alteration.{Alteration}
 
 -- the steps are the first moves where the entry of the place stands on the stack, alone, in its model
 abbrev pub IsStepsAt : Task → Kept → EntryPlace → Offer → Type 0
@@ -42,6 +48,28 @@ IsResultAt task kept place number =
     (model : List Atom) × (entry : Entry) × IsModelAt kept place.model model × (slice_get kept.entries place.entry ≡ Some entry)
     × IsModelAt kept number (results_of task.problem model (effect_of task.tables entry))
 
+-- what is left of a model without what these patterns delete, and with what is added
+abbrev pub model_altered : List Atom → List Atom → List Atom → List Atom
+model_altered deleted added model = atom_set (filter (λ atom. not (list_any (is_instance atom) deleted)) model ++ added)
+
+-- it is what the instance changes in the model of the number
+pub record IsAlterationOf (problem : Problem) (model : ℕ) (inst : OpInst) (alteration : Alteration) : Type 0 where
+  pub model_is : alteration.model ≡ model
+  pub deleted_is : alteration.deleted ≡ atoms_of (schema_of problem inst).del inst
+  pub added_is : alteration.added ≡ adds problem inst
+
+-- it is what applying the entry of the place changes in its model
+pub record IsAlterationAt (task : Task) (kept : Kept) (place : EntryPlace) (alteration : Alteration) : Type 0 where
+  pub model_is : alteration.model ≡ place.model
+  pub same : (entry : Entry) (model : List Atom) → slice_get kept.entries place.entry ≡ Some entry
+      → results_of task.problem model (effect_of task.tables entry) ≡ model_altered alteration.deleted alteration.added model
+
+-- changing this in its model leaves the model of the number
+abbrev pub IsAlteredAt : Kept → Alteration → ℕ → Type 0
+IsAlteredAt kept alteration number =
+    (model : List Atom) × IsModelAt kept alteration.model model
+    × IsModelAt kept number (model_altered alteration.deleted alteration.added model)
+
 -- each key has a value of which the fact is true
 module _ {K V : Type 0} (P : K → V → Type 0) where
   abbrev pub AreEach : List (K × V) → Type 0
@@ -52,6 +80,7 @@ pub record AreRight (task : Task) (notes : Notes) : Type 0 where
   pub tops : AreEach (IsStepsAt task notes.numbers) notes.tops.entries
   pub wants : AreEach (IsOfferAt task notes.numbers) notes.wants.entries
   pub results : AreEach (IsResultAt task notes.numbers) notes.results.entries
+  pub altered : AreEach (IsAlteredAt notes.numbers) notes.altered.entries
   pub never_limited : IsTrue notes.is_never_limited → IsNeverLimited task.problem task.tables
 
 -- what had a number still has it, and all that is kept is right

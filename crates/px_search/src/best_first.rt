@@ -9,7 +9,7 @@ ghost use Rattle.px_ends.specs.ByValue.{IsFound, IsShapeLimit};
 ghost use Rattle.px_ends.specs.Tasks.{Task, initial_node};
 ghost use Rattle.px_support.specs.Asking.{IsAskable, task_for};
 ghost use Rattle.px_search.specs.Asking.{IsTriedAt};
-ghost use Rattle.px_search.specs.Looping.{ComesTo, ComesToEnd, GoesOn, IsEnd, IsExploring, IsFull, IsGone, IsStarted, IsUnexplored, Picked, TriesAt};
+ghost use Rattle.px_search.specs.Looping.{GoesOn, IsEnd, IsExploring, IsFull, IsGone, IsLimitedAt, IsReached, IsStarted, IsUnexplored, Picked, StopsAt, TriesAt};
 ghost use Rattle.px_search.specs.Steps.{AreEarlier, Trace};
 ghost use Rattle.px_search.specs.declared.step.Step.{Step};
 
@@ -17,9 +17,9 @@ use crate::ends::SearchErr;
 use crate::notes::Notes;
 use crate::origins::moves_to;
 use crate::picker::Picker;
-use crate::progress::{Limit, Progress, SearchOutcome};
 use crate::scene::Scene;
 use crate::step::{Origin, Step};
+use crate::stop::{Limit, Stop};
 use crate::tried::try_node;
 use px_diff::MoveErr;
 use px_gaps::Tried;
@@ -28,20 +28,6 @@ use px_support::Asked;
 use px_table::Move;
 use px_terms::{NoMemory, Sequence};
 use std::alloc::Global;
-
-/// Returns the end where a question meets the limit.
-fn limit_at(asked: &Asked, numbers: &Numbers, limit: Limit) -> SearchErr
-    requires { (node : Node) × IsKeyOf numbers.now limit.key node }
-    ensures { (node : Node) → IsKeyOf numbers.now limit.key node
-        → IsShapeLimit (task_for asked.now) asked.now.problem.now.weight node limit.met
-        → IsEnd (task_for asked.now) result }
-{
-    let Limit { key, met } = limit;
-    match node_at(asked.alloc, numbers, key) {
-        Ok(node) => SearchErr::ShapeLimit { node, limit: met },
-        Err(_) => SearchErr::NoMemory,
-    }
-}
 
 /// Returns the node of the initial model.
 fn start_key(asked: &Asked, numbers: &mut Numbers) -> Result<NodeKey, NoMemory>
@@ -105,16 +91,16 @@ pub struct Explored {
 
 impl Explored {
     /// Makes the move from the node at the place `next`, and keeps the node that it leads to, if that is new.
-    fn make_move(&mut self, asked: &Asked, next: usize, step: Step) -> Result<Progress, NoMemory>
+    fn make_move(&mut self, asked: &Asked, next: usize, step: Step) -> Result<(), Stop>
         requires asked { IsAskable asked.now }
         requires explored { IsExploring (task_for asked.now) self.old }
         requires trying { (picked : List ℕ) × (steps : List Step) × (is_all : Bool) × (i : ℕ)
             × TriesAt (task_for asked.now) self.old picked next steps is_all i × (slice_get steps i ≡ Some step) }
         ensures explored { OnOk result (IsExploring (task_for asked.now) self.new) }
-        ensures made { IfOk result (ComesTo (task_for asked.now) self.new
-            ((picked : List ℕ) (steps : List Step) (is_all : Bool) (i : ℕ)
+        ensures made { OnOk result ((picked : List ℕ) (steps : List Step) (is_all : Bool) (i : ℕ)
             → TriesAt (task_for asked.now) self.old picked next steps is_all i
-            → slice_get steps i ≡ Some step → TriesAt (task_for asked.now) self.new picked next steps is_all (i + 1))) }
+            → slice_get steps i ≡ Some step → TriesAt (task_for asked.now) self.new picked next steps is_all (i + 1)) }
+        ensures stops { IfErr result (StopsAt (task_for asked.now) self.new) }
     {
         let key = self.nodes.node(next);
         let there = self.notes.after(asked, key, step)?;
@@ -122,7 +108,7 @@ impl Explored {
         let count = self.nodes.count();
         let place = self.nodes.intern(there)?;
         if (place as usize) < count {
-            return Ok(Progress::Unsolved);
+            return Ok(());
         }
         let origin = Origin {
             parent: next,
@@ -131,21 +117,21 @@ impl Explored {
         self.origins.push(origin)?;
         if count >= asked.nodes as usize {
             let moves = count_to(asked.alloc, &self.notes.numbers, &self.origins)?;
-            return Ok(Progress::Full { moves });
+            return Err(Stop::Full { moves });
         }
         let tried = try_node(asked, &self.notes.numbers, there)?;
         match tried {
-            Tried::Answered => Ok(Progress::Solved),
+            Tried::Answered => Err(Stop::Solved),
             Tried::Unanswered => {
                 self.picker
                     .go_on(asked, &self.notes.numbers, origin, there)?;
-                Ok(Progress::Unsolved)
+                Ok(())
             }
-            Tried::Limited(met) => Ok(Progress::Limited(Limit { key: there, met })),
+            Tried::Limited(met) => Err(Stop::Limited(Limit { key: there, met })),
         }
     }
 
-    /// Makes the moves from the node at the place `next`, from the one at the place `from` on, or those up to the first that ends the
+    /// Makes the moves from the node at the place `next`, from the one at the place `from` on, or those up to the first that stops the
     /// search: it leads to a solved node, to one without room, or to one where the question of the goal meets the limit of shapes.
     fn make_all(
         &mut self,
@@ -153,103 +139,89 @@ impl Explored {
         next: usize,
         steps: &Vec<Step>,
         from: usize,
-    ) -> Result<Progress, NoMemory>
+    ) -> Result<(), Stop>
         requires asked { IsAskable asked.now }
         requires explored { IsExploring (task_for asked.now) self.old }
         requires trying { (picked : List ℕ) × (is_all : Bool)
             × TriesAt (task_for asked.now) self.old picked next steps.now.items is_all from }
         requires from { from ≤ length steps.now.items }
         ensures explored { OnOk result (IsExploring (task_for asked.now) self.new) }
-        ensures made { IfOk result (ComesTo (task_for asked.now) self.new
-            ((picked : List ℕ) (is_all : Bool) → TriesAt (task_for asked.now) self.old picked next steps.now.items is_all from
-            → TriesAt (task_for asked.now) self.new picked next steps.now.items is_all (length steps.now.items))) }
+        ensures made { OnOk result ((picked : List ℕ) (is_all : Bool)
+            → TriesAt (task_for asked.now) self.old picked next steps.now.items is_all from
+            → TriesAt (task_for asked.now) self.new picked next steps.now.items is_all (length steps.now.items)) }
+        ensures stops { IfErr result (StopsAt (task_for asked.now) self.new) }
     {
         for turn in from..steps.len() {
             let step = step_at(steps, turn);
-            let progress = self.make_move(asked, next, step)?;
-            match progress {
-                Progress::Unsolved => {}
-                Progress::Solved => return Ok(Progress::Solved),
-                Progress::Full { moves } => return Ok(Progress::Full { moves }),
-                Progress::Limited(limit) => return Ok(Progress::Limited(limit)),
-            }
+            self.make_move(asked, next, step)?;
         }
-        Ok(Progress::Unsolved)
+        Ok(())
     }
 
     // Alike: the head of `top_steps` in moves.rt, by the number of arguments alone.
     /// Makes the moves from the node at the place `next` that come after the first ones, which are as many as `from` and were made, or
-    /// those up to the first that ends the search.
-    fn make_others(&mut self, asked: &Asked, next: usize, from: usize) -> Result<Progress, NoMemory>
+    /// those up to the first that stops the search.
+    fn make_others(&mut self, asked: &Asked, next: usize, from: usize) -> Result<(), Stop>
         requires asked { IsAskable asked.now }
         requires explored { IsExploring (task_for asked.now) self.old }
         requires trying { (picked : List ℕ) × (steps : List Step) × (is_all : Bool) × (from ≡ length steps)
             × TriesAt (task_for asked.now) self.old picked next steps is_all from }
         ensures explored { OnOk result (IsExploring (task_for asked.now) self.new) }
-        ensures gone { IfOk result (ComesTo (task_for asked.now) self.new ((picked : List ℕ) (steps : List Step) (is_all : Bool)
+        ensures gone { OnOk result ((picked : List ℕ) (steps : List Step) (is_all : Bool)
             → from ≡ length steps → TriesAt (task_for asked.now) self.old picked next steps is_all from
-            → GoesOn (task_for asked.now) self.new (next ∷ picked))) }
+            → GoesOn (task_for asked.now) self.new (next ∷ picked)) }
+        ensures stops { IfErr result (StopsAt (task_for asked.now) self.new) }
     {
         let key = self.nodes.node(next);
         let steps = match self.notes.all_steps_from(asked, key) {
             Ok(steps) => steps,
             Err(MoveErr::ShapeLimit(_)) => unreachable!(),
-            Err(MoveErr::NoMemory) => return Err(NoMemory),
+            Err(MoveErr::NoMemory) => return Err(Stop::NoMemory),
         };
-        let progress = self.make_all(asked, next, &steps, from)?;
-        Ok(progress)
+        self.make_all(asked, next, &steps, from)?;
+        Ok(())
     }
 
-    /// Makes all moves from the node at the place `next`, or those up to the first that ends the search. None is made where a question
-    /// about them meets the limit of shapes. The moves after the first ones are asked for only where none of these ends the search.
-    fn go_through(&mut self, asked: &Asked, next: usize) -> Result<Progress, NoMemory>
+    /// Makes all moves from the node at the place `next`, or those up to the first that stops the search. None is made where a question
+    /// about them meets the limit of shapes. The moves after the first ones are asked for only where none of these stops the search.
+    fn expand(&mut self, asked: &Asked, next: usize) -> Result<(), Stop>
         requires asked { IsAskable asked.now }
         requires explored { IsExploring (task_for asked.now) self.old }
         requires picked { (picked : List ℕ) × Picked (task_for asked.now) self.old picked next }
         requires next { next < length self.old.nodes }
         ensures explored { OnOk result (IsExploring (task_for asked.now) self.new) }
-        ensures gone { IfOk result (ComesTo (task_for asked.now) self.new ((picked : List ℕ)
-            → Picked (task_for asked.now) self.old picked next → GoesOn (task_for asked.now) self.new (next ∷ picked))) }
+        ensures gone { OnOk result ((picked : List ℕ) → Picked (task_for asked.now) self.old picked next
+            → GoesOn (task_for asked.now) self.new (next ∷ picked)) }
+        ensures stops { IfErr result (StopsAt (task_for asked.now) self.new) }
     {
         let key = self.nodes.node(next);
         let begun = match self.notes.begun_from(asked, &mut self.scene, key) {
             Ok(begun) => begun,
-            Err(MoveErr::ShapeLimit(met)) => return Ok(Progress::Limited(Limit { key, met })),
-            Err(MoveErr::NoMemory) => return Err(NoMemory),
+            Err(MoveErr::ShapeLimit(met)) => return Err(Stop::Limited(Limit { key, met })),
+            Err(MoveErr::NoMemory) => return Err(Stop::NoMemory),
         };
-        let progress = self.make_all(asked, next, &begun.steps, 0)?;
-        match progress {
-            Progress::Unsolved => {}
-            Progress::Solved => return Ok(Progress::Solved),
-            Progress::Full { moves } => return Ok(Progress::Full { moves }),
-            Progress::Limited(limit) => return Ok(Progress::Limited(limit)),
-        }
+        self.make_all(asked, next, &begun.steps, 0)?;
         if begun.is_all {
-            return Ok(Progress::Unsolved);
+            return Ok(());
         }
-        let others = self.make_others(asked, next, begun.steps.len())?;
-        Ok(others)
+        self.make_others(asked, next, begun.steps.len())?;
+        Ok(())
     }
 
-    /// Goes through the nodes as they are picked, until the search ends.
-    fn walk(&mut self, asked: &Asked) -> Result<Progress, NoMemory>
+    /// Expands the nodes as they are picked, until none is left or the search stops.
+    fn walk(&mut self, asked: &Asked) -> Result<(), Stop>
         requires asked { IsAskable asked.now }
         requires explored { IsExploring (task_for asked.now) self.old }
         requires going { GoesOn (task_for asked.now) self.old [] }
-        ensures walked { IfOk result (ComesTo (task_for asked.now) self.new (IsGone (task_for asked.now) self.new)) }
+        ensures gone { OnOk result (IsGone (task_for asked.now) self.new) }
+        ensures stops { IfErr result (StopsAt (task_for asked.now) self.new) }
     {
         let mut picks: u32 = 0;
         while let Some(place) = self.picker.pick(self.nodes.count()) {
-            let progress = self.go_through(asked, place)?;
-            match progress {
-                Progress::Unsolved => {}
-                Progress::Solved => return Ok(Progress::Solved),
-                Progress::Full { moves } => return Ok(Progress::Full { moves }),
-                Progress::Limited(limit) => return Ok(Progress::Limited(limit)),
-            }
+            self.expand(asked, place)?;
             picks += 1;
         }
-        Ok(Progress::Unsolved)
+        Ok(())
     }
 }
 
@@ -273,68 +245,68 @@ impl Explored {
         }
     }
 
-    /// Goes through the nodes from the start on, which isn't solved.
-    fn walk_from(&mut self, asked: &Asked, start: NodeKey) -> Result<Progress, NoMemory>
+    /// Expands the nodes from the start on, which isn't solved.
+    fn walk_from(&mut self, asked: &Asked, start: NodeKey) -> Result<(), Stop>
         requires asked { IsAskable asked.now }
         requires explored { IsExploring (task_for asked.now) self.old }
         requires start { IsStarted (task_for asked.now) self.old start }
         requires tried { IsTriedAt (task_for asked.now) (initial_node (task_for asked.now)) Tried.Unanswered }
-        ensures walked { IfOk result (ComesTo (task_for asked.now) self.new (IsGone (task_for asked.now) self.new)) }
+        ensures gone { OnOk result (IsGone (task_for asked.now) self.new) }
+        ensures stops { IfErr result (StopsAt (task_for asked.now) self.new) }
     {
         self.picker.start(asked, &self.notes.numbers, start)?;
         self.walk(asked)
     }
 
-    /// Goes through the nodes from the initial model on.
-    pub fn explore(&mut self, asked: &Asked) -> Result<Progress, NoMemory>
+    /// Expands the nodes from the initial one on, until none is left or the search stops.
+    pub fn explore(&mut self, asked: &Asked) -> Result<(), Stop>
         requires asked { IsAskable asked.now }
         requires explored { IsUnexplored (task_for asked.now) self.old }
-        ensures outcome { IfOk result (ComesTo (task_for asked.now) self.new (IsGone (task_for asked.now) self.new)) }
+        ensures gone { OnOk result (IsGone (task_for asked.now) self.new) }
+        ensures stops { IfErr result (StopsAt (task_for asked.now) self.new) }
     {
         let start = start_key(asked, &mut self.notes.numbers)?;
         self.nodes.intern(start)?;
         let tried = try_node(asked, &self.notes.numbers, start)?;
         match tried {
-            Tried::Answered => Ok(Progress::Solved),
+            Tried::Answered => Err(Stop::Solved),
             Tried::Unanswered => self.walk_from(asked, start),
-            Tried::Limited(met) => Ok(Progress::Limited(Limit { key: start, met })),
+            Tried::Limited(met) => Err(Stop::Limited(Limit { key: start, met })),
         }
     }
 
-    /// Searches from the initial model.
-    fn search(&mut self, asked: &Asked) -> Result<SearchOutcome, SearchErr>
-        requires asked { IsAskable asked.now }
-        requires explored { IsUnexplored (task_for asked.now) self.old }
-        ensures outcome { IfOk result (ComesToEnd (task_for asked.now) self.new) }
-        ensures ends { IfErr result (IsEnd (task_for asked.now)) }
+    /// Returns the end where a question meets the limit.
+    fn shape_limit(self, asked: &Asked, limit: Limit) -> SearchErr
+        requires limited { IsLimitedAt (task_for asked.now) self.notes.numbers self.nodes self.origins.items limit }
+        ensures { IsEnd (task_for asked.now) result }
     {
-        let progress = self.explore(asked)?;
-        match progress {
-            Progress::Unsolved => Ok(SearchOutcome::NoPlan),
-            Progress::Solved => {
-                let path = path_to(asked.alloc, &self.notes.numbers, &self.origins)?;
-                Ok(SearchOutcome::Plan(path))
-            }
-            Progress::Full { moves } => Ok(SearchOutcome::NoRoom { moves }),
-            Progress::Limited(limit) => Err(limit_at(asked, &self.notes.numbers, limit)),
+        let Limit { key, met } = limit;
+        match node_at(asked.alloc, &self.notes.numbers, key) {
+            Ok(node) => SearchErr::ShapeLimit { node, limit: met },
+            Err(_) => SearchErr::NoMemory,
         }
     }
-}
 
-/// Drops what was found, in one place, since each way out of a function that holds it has to be proved.
-pub fn let_go(_explored: Explored) {}
+    /// Returns the end where there is no room for the last node, which this number of moves reaches.
+    fn node_limit(self, asked: &Asked, moves: u32) -> SearchErr
+        requires full { IsFull (task_for asked.now) self.notes.numbers self.nodes self.origins.items moves }
+        ensures { IsEnd (task_for asked.now) result }
+    {
+        let Explored { notes, nodes, .. } = self;
+        let Notes { numbers, .. } = notes;
+        let firsts = FirstNodes::new(numbers, nodes, asked.nodes as usize);
+        SearchErr::NodeLimit {
+            nodes: firsts,
+            moves,
+        }
+    }
 
-/// Returns the end where there is no room for the last node, which this number of moves reaches.
-fn node_limit(asked: &Asked, explored: Explored, moves: u32) -> SearchErr
-    requires full { IsFull (task_for asked.now) explored.notes.numbers explored.nodes explored.origins.items moves }
-    ensures { IsEnd (task_for asked.now) result }
-{
-    let Explored { notes, nodes, .. } = explored;
-    let Notes { numbers, .. } = notes;
-    let firsts = FirstNodes::new(numbers, nodes, asked.nodes as usize);
-    SearchErr::NodeLimit {
-        nodes: firsts,
-        moves,
+    /// Returns the moves to the last node, which is solved.
+    fn path(self, asked: &Asked) -> Result<Sequence<Move>, NoMemory>
+        requires reached { IsReached (task_for asked.now) self.notes.numbers self.nodes self.origins.items }
+        ensures { IfOk result (IsFound (task_for asked.now) asked.now.problem.now.weight) }
+    {
+        path_to(asked.alloc, &self.notes.numbers, &self.origins)
     }
 }
 
@@ -350,22 +322,11 @@ pub fn found_by_moves(asked: &Asked, is_never_limited: bool) -> Result<Sequence<
     ensures ends { IfErr result (IsEnd (task_for asked.now)) }
 {
     let mut explored = Explored::new(asked.alloc, asked.problem.weight, is_never_limited);
-    let outcome = match explored.search(asked) {
-        Ok(outcome) => outcome,
-        Err(error) => {
-            let_go(explored);
-            return Err(error);
-        }
-    };
-    match outcome {
-        SearchOutcome::Plan(path) => {
-            let_go(explored);
-            Ok(path)
-        }
-        SearchOutcome::NoPlan => {
-            let_go(explored);
-            Err(SearchErr::Exhausted)
-        }
-        SearchOutcome::NoRoom { moves } => Err(node_limit(asked, explored, moves)),
+    match explored.explore(asked) {
+        Ok(()) => Err(SearchErr::Exhausted),
+        Err(Stop::Solved) => Ok(explored.path(asked)?),
+        Err(Stop::Full { moves }) => Err(explored.node_limit(asked, moves)),
+        Err(Stop::Limited(limit)) => Err(explored.shape_limit(asked, limit)),
+        Err(Stop::NoMemory) => Err(SearchErr::NoMemory),
     }
 }

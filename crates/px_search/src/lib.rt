@@ -28,7 +28,7 @@
 //! number of the part of it that decides what may be pushed (`scene`). All else that is learned is kept in one place (`notes`). What an
 //! entry allows in a model doesn't depend on what is below it on the stack, apart from which entries are there: what is learned of a pair
 //! of entry and model is kept (`moves`), unless a question about it meets the limit of shapes. So is the model that applying the entry
-//! leaves (`results`). What may be pushed for a wanted atom is kept too (`offering`): for all models with the same deciding facts, where
+//! leaves (`results`): of an operator, for all its instances that delete and add the same (`alterations`). What may be pushed for a wanted atom is kept too (`offering`): for all models with the same deciding facts, where
 //! no question about an entry ever meets the limit, and else for that model. The lists for the wanted atoms of a node are joined by their
 //! order (`merging`).
 //!
@@ -45,6 +45,7 @@
 
 mod after;
 mod all_steps;
+mod alterations;
 mod begun;
 mod best_first;
 mod effects;
@@ -59,10 +60,10 @@ mod origins;
 mod picker;
 mod picks;
 mod planning;
-mod progress;
 mod results;
 mod scene;
 mod step;
+mod stop;
 mod trees;
 mod tried;
 

@@ -32,6 +32,16 @@ pub struct Offer {
     pub is_all: bool,
 }
 
+/// What an operator's instance changes in the model of this number. Instances that differ elsewhere alone leave the same model.
+#[derive(PartialEq, Eq, Hash, Drop)]
+pub struct Alteration {
+    pub model: u32,
+    /// The patterns of what it deletes.
+    pub deleted: Sequence<Atom>,
+    /// What it adds.
+    pub added: Sequence<Atom>,
+}
+
 /// The models, entries and stacks of a search by number, and what it has learned of them.
 #[derive(Drop)]
 pub struct Notes {
@@ -42,6 +52,8 @@ pub struct Notes {
     pub wants: IndexMap<Want, Offer>,
     /// For entries in models, the number of the model that applying the entry leaves.
     pub results: IndexMap<EntryPlace, u32>,
+    /// For what operators change, the number of the model that is left.
+    pub altered: IndexMap<Alteration, u32>,
     /// Whether it is known that no question about an entry meets the limit of shapes, whatever the facts are.
     pub is_never_limited: bool,
 }
@@ -55,11 +67,13 @@ impl Notes {
         let tops = IndexMap::new(alloc);
         let wants = IndexMap::new(alloc);
         let results = IndexMap::new(alloc);
+        let altered = IndexMap::new(alloc);
         Notes {
             numbers,
             tops,
             wants,
             results,
+            altered,
             is_never_limited,
         }
     }

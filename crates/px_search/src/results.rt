@@ -11,7 +11,7 @@ use px_support::Asked;
 use px_terms::NoMemory;
 
 /// Returns the number of the model that applying the entry leaves, by applying it.
-fn result_anew(asked: &Asked, numbers: &mut Numbers, place: EntryPlace) -> Result<u32, NoMemory>
+pub fn result_anew(asked: &Asked, numbers: &mut Numbers, place: EntryPlace) -> Result<u32, NoMemory>
     requires asked { IsAskable asked.now }
     requires place { IsEntryAt (task_for asked.now) numbers.old place }
     ensures keeps { KeepsAll numbers.old numbers.new }
@@ -35,7 +35,7 @@ impl Notes {
         match self.results.get(&place) {
             Some(number) => Ok(*number),
             None => {
-                let number = result_anew(asked, &mut self.numbers, place)?;
+                let number = self.result_found(asked, place)?;
                 self.results.insert(place, number)?;
                 Ok(number)
             }

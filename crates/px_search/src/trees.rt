@@ -11,16 +11,16 @@ ghost use Rattle.px_numbers.specs.Numbers.{IsKeyOf};
 ghost use Rattle.px_ends.specs.Tasks.{IsAllowed, task_with};
 ghost use Rattle.px_support.specs.Asking.{IsAskable, task_for};
 ghost use Rattle.px_search.specs.Estimating.{AreCounted};
-ghost use Rattle.px_search.specs.Looping.{AreFound, IsUnexplored, end_told};
+ghost use Rattle.px_search.specs.Looping.{AreFound, EndsAs, IsUnexplored};
 ghost use Rattle.px_search.specs.Steps.{DescribesMove};
 ghost use Rattle.px_ends.specs.Trees.{IsTree, TellsMove, TellsNode, TellsNodes, entry_told, table_in};
 
-use crate::best_first::{Explored, let_go};
+use crate::best_first::Explored;
 use crate::effects::effect;
 use crate::estimates::Estimates;
 use crate::origins::origin_at;
-use crate::progress::Progress;
 use crate::step::{Origin, Step};
+use crate::stop::Stop;
 use px_base::push;
 use px_entries::never_limited;
 use px_numbers::{NodeKey, NodeSet, Numbers};
@@ -32,14 +32,15 @@ use px_tree::{MoveKind, Tree, TreeEnd, TreeMove, TreeNode, TreeOrigin};
 use std::alloc::Global;
 
 /// Returns how a search ended that came to this, where this many shapes are the limit.
-fn end_of(shapes: u32, progress: &Progress) -> TreeEnd
-    ensures { result ≡ end_told shapes progress.now }
+fn end_of(shapes: u32, came_to: Result<(), Stop>) -> Result<TreeEnd, NoMemory>
+    ensures { IfOk result (EndsAs shapes came_to) }
 {
-    match progress {
-        Progress::Unsolved => TreeEnd::Exhausted,
-        Progress::Solved => TreeEnd::Solved,
-        Progress::Full { moves } => TreeEnd::More { moves: *moves },
-        Progress::Limited(_) => TreeEnd::ShapeLimit { shapes },
+    match came_to {
+        Ok(()) => Ok(TreeEnd::Exhausted),
+        Err(Stop::Solved) => Ok(TreeEnd::Solved),
+        Err(Stop::Full { moves }) => Ok(TreeEnd::More { moves }),
+        Err(Stop::Limited(_)) => Ok(TreeEnd::ShapeLimit { shapes }),
+        Err(Stop::NoMemory) => Err(NoMemory),
     }
 }
 
@@ -148,8 +149,8 @@ impl Explored {
         requires explored { IsUnexplored (task_for asked.now) self.old }
         ensures { IfOk result (IsTree (task_for asked.now) asked.now.problem.now.weight) }
     {
-        let progress = self.explore(asked)?;
-        let end = end_of(asked.problem.shapes, &progress);
+        let came_to = self.explore(asked);
+        let end = end_of(asked.problem.shapes, came_to)?;
         let count = self.nodes.count().min(asked.nodes as usize);
         let nodes = tree_nodes(asked, self, count)?;
         Ok(Tree {
@@ -167,9 +168,7 @@ fn tree_for(asked: &Asked, is_never_limited: bool) -> Result<Tree, NoMemory>
     ensures { IfOk result (IsTree (task_for asked.now) asked.now.problem.now.weight) }
 {
     let mut explored = Explored::new(asked.alloc, asked.problem.weight, is_never_limited);
-    let tree = explored.tree(asked);
-    let_go(explored);
-    tree
+    explored.tree(asked)
 }
 
 // Alike: `search`, since each asks the same of the problem and its goal.

@@ -658,6 +658,8 @@ fn made<'line, 'text>(
         ≡ option_and_then (λ entry. entry.make (said_items ones.now last.now)) (entry_of with_building word.now) }
 {
     match word {
+        // first, since most lines of a long script are facts
+        "fact" => fact(ones, last),
         "script" => script(ones, last),
         "object" => object(ones, last),
         "predicate" => predicate(ones, last),
@@ -672,7 +674,6 @@ fn made<'line, 'text>(
         "box" => box_in(ones, last),
         "robot" => robot(ones, last),
         "end" => end(ones, last),
-        "fact" => fact(ones, last),
         "height" => height(ones, last),
         "nodes" => nodes(ones, last),
         "shapes" => shapes(ones, last),

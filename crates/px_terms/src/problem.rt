@@ -81,7 +81,7 @@ pub struct Problem {
     pub sorts: u32,
     /// The sort of each object, as many as there are objects; 0 is no sort.
     pub object_sorts: Sequence<u32>,
-    /// What a search gives for each thing that a node lacks, from 0 to 1,000. No search heeds it yet: each goes by the number of moves.
+    /// How heavily a search counts what a node lacks beside the moves that reach it, from 0, which is breadth, to 1,000 (Pohl 1970).
     pub weight: u32,
 }
 

@@ -10,12 +10,13 @@ use Rattle.px_terms.specs.Operators.{precondition}
 use Rattle.px_terms.specs.Validity.{IsAtomOf}
 use Rattle.px_gaps.specs.GapAnswers.{IsGapAnswer}
 use Rattle.px_entries.specs.Instances.{Fills, StandsFor}
-use Rattle.px_entries.specs.Rest.{IsRestAnswer}
+use Rattle.px_diff.specs.Reordered.{IsReorderedAnswer}
 use Rattle.px_gaps.proofs.Describing.{answer-listed}
 use Rattle.px_diff.proofs.FittingLemmas.{some_found}
 use Rattle.px_gaps.proofs.GapLemmas.{none-provable}
 use Rattle.px_diff.proofs.Opening.{all-gathered}
 use Rattle.px_entries.proofs.RestLaws.{rest-all}
+use Rattle.px_diff.proofs.Reordering.{lists-reordered, reordered-all}
 use Rattle.px_diff.proofs.RestOpening.{rest-gathered}
 use Rattle.px_diff.proofs.Gathered.{gathers_less, gathers_part}
 use Rattle.px_diff.proofs.SortedLemmas.{gathers-unfit}
@@ -46,13 +47,14 @@ keep_open-requires-clause-answer t c =
     let problem = c.args.request.now.problem.now in
     let partial = c.args.partial.now in
     let rest =
-    subst (λ (l : List Atom). IsRestAnswer problem c.args.request.now.model.now.atoms l partial.vars c.in-Some.answer.patterns.items
+    subst (λ (l : List Atom). IsReorderedAnswer problem c.args.request.now.model.now.atoms l partial.vars c.in-Some.answer.patterns.items
     c.in-Some.answer.provable.atoms) (c.deref.ensures.value ∙ c.in_ok-formula.ensures)
-    (some_found (λ answer. IsRestAnswer problem c.args.request.now.model.now.atoms c.deref.result.now partial.vars answer.patterns.items
+    (some_found (λ answer. IsReorderedAnswer problem c.args.request.now.model.now.atoms c.deref.result.now partial.vars answer.patterns.items
     answer.provable.atoms) c.in_ok-answer.field-0 c.in-Some.answer c.in-Some.is c.in_ok-answer.ensures) in (
-      rest.rest,
-      rest-all (IsAtomOf problem partial.vars) problem (precondition problem partial.inst) rest.rest rest.is_rest
-          (needs-are problem partial c.requires.problem c.requires.partial),
+      rest.ordered,
+      reordered-all (IsAtomOf problem partial.vars) rest.rest rest.ordered rest.reordered
+          (rest-all (IsAtomOf problem partial.vars) problem (precondition problem partial.inst) rest.rest rest.is_rest
+          (needs-are problem partial c.requires.problem c.requires.partial)),
       rest.answer,
     )
 
@@ -64,14 +66,16 @@ returns-in-Some-clause-gathers t c =
     let provable = c.in-Some.answer.provable.atoms in
     let model = c.args.request.now.model.now.atoms in
     let rest =
-    subst (λ (l : List Atom). IsRestAnswer problem model l partial.vars patterns provable)
+    subst (λ (l : List Atom). IsReorderedAnswer problem model l partial.vars patterns provable)
     (c.deref.ensures.value ∙ c.in_ok-formula.ensures)
-    (some_found (λ answer. IsRestAnswer problem model c.deref.result.now partial.vars answer.patterns.items answer.provable.atoms)
+    (some_found (λ answer. IsReorderedAnswer problem model c.deref.result.now partial.vars answer.patterns.items answer.provable.atoms)
     c.in_ok-answer.field-0 c.in-Some.answer c.in-Some.is c.in_ok-answer.ensures) in
-    let listed = patterns-are (setting_of problem model) rest.rest partial.vars patterns rest.answer.all in
-    rest-gathered problem c.requires.problem model partial c.requires.partial rest.rest rest.is_rest
-    (lists_of problem.objects patterns) listed provable
-    (none-provable (setting_of problem model) rest.rest partial.vars patterns provable rest.answer)
+    let lists = lists_of problem.objects patterns in
+    let listed =
+    lists-reordered (setting_of problem model) partial.vars rest.rest rest.ordered rest.reordered lists
+    (patterns-are (setting_of problem model) rest.ordered partial.vars patterns rest.answer.all) in
+    rest-gathered problem c.requires.problem model partial c.requires.partial rest.rest rest.is_rest lists listed provable
+    (none-provable (setting_of problem model) rest.ordered partial.vars patterns provable rest.answer)
     c.args.request.now.tables.now c.args.request.now.wanted.now c.args.request.now.stack.now c.atoms-facts.ensures.model.ascending rest.few
     rest.answer.unlimited c.args.found.now.items c.keep_open.new.found.items c.in_ok-keep_open-in-Some.ensures
 

@@ -1,7 +1,10 @@
--- What the loops of `names` in src/lists.rt keep true.
-use Rattle.px_lines.proofs.Common.{◌≡◌, ◌++◌, drop, map, option_map, names_of, lexemes_of, text_of}
+-- What the loop of `names` in src/lists.rt keeps true.
+use Rattle.px_lines.proofs.Common.{length, lexemes_in, name_in, text_of}
+use Rattle.px_lines.proofs.Walks.{AreReadTo}
 use Rattle.px_lines.proofs.lists.names.Given as goal
 
-abbrev pub invariant-loop-token : goal.invariant-loop-token
-invariant-loop-token l = names_of (lexemes_of l.tokens)
-    ≡ option_map (λ more. map text_of l.names.items ++ more) (names_of (lexemes_of (drop l.token-index l.tokens)))
+abbrev pub invariant-things : goal.invariant-things
+invariant-things l = AreReadTo text_of name_in l.text l.rest l.names.items
+
+abbrev pub decreases-things : goal.decreases-things
+decreases-things l = length (lexemes_in l.rest)

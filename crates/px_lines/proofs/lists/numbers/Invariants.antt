@@ -1,8 +1,10 @@
--- What the loops of `numbers` in src/lists.rt keep true.
-use Rattle.px_lines.proofs.Common.{◌≡◌, ◌++◌, drop, option_map, lexemes_of}
-use Rattle.px_script.proofs.Parsing.{numbers_of}
+-- What the loop of `numbers` in src/lists.rt keeps true.
+use Rattle.px_lines.proofs.Common.{length, lexemes_in, number_in}
+use Rattle.px_lines.proofs.Walks.{AreReadTo}
 use Rattle.px_lines.proofs.lists.numbers.Given as goal
 
-abbrev pub invariant-loop-token : goal.invariant-loop-token
-invariant-loop-token l = numbers_of (lexemes_of l.tokens)
-    ≡ option_map (λ more. l.numbers.items ++ more) (numbers_of (lexemes_of (drop l.token-index l.tokens)))
+abbrev pub invariant-things : goal.invariant-things
+invariant-things l = AreReadTo (λ number. number) number_in l.text l.rest l.numbers.items
+
+abbrev pub decreases-things : goal.decreases-things
+decreases-things l = length (lexemes_in l.rest)

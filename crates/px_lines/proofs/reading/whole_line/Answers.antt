@@ -1,8 +1,7 @@
 -- Proofs of the goals that `whole_line` of src/reading.rt leaves open.
-use Rattle.px_lines.proofs.Views.{head-word, known-word}
+use Rattle.px_lines.proofs.Views.{known-word}
 use Rattle.px_lines.proofs.reading.whole_line.Goals as goal
 
 pub returns-in-Some-2-clause-word : goal.returns-in-Some-2-clause-word
-returns-in-Some-2-clause-word c = λ d begins.
-    known-word d.version c.args.with_building c.in-Name.word.now c.in-Some.row c.in-Some.ensures
-    (search (head-word d c.args.tokens.now, begins))
+returns-in-Some-2-clause-word c = λ version known.
+    known-word version c.args.with_building c.args.word.now c.in-Some.row c.in-Some.ensures known

@@ -1,14 +1,16 @@
 -- Proofs of the goals that `bindings` of src/series.rt leaves open.
-use Rattle.px_lines.proofs.Common.{arith, common_steps}
+use Rattle.px_lines.proofs.Common.{◌∙◌, sym, arith, common_steps}
 use Rattle.px_lines.proofs.Walks.{binding-advances, things-more, things-none, things-end}
 use Rattle.px_lines.proofs.series.bindings.Goals as goal
 
 pub things-preserved : goal.things-preserved
-things-preserved c = things-more binding-advances c.things.invariant c.things-test.true c.in-Some.binding c.in-Some.count
-    c.in-Some.ensures.found c.in-Some.ensures.within _ (grind (arith, common_steps))
+things-preserved c = let front = c.in-Some.ensures in
+    things-more binding-advances c.things.invariant c.in-Some.binding c.in-Some.after.now front.0 front.1 _ (grind (arith, common_steps))
 
-pub returns-in_default : goal.returns-in_default
-returns-in_default c = things-none binding-advances c.things.invariant c.things-test.true c.in_default.ensures.found
+pub returns-then-ends : goal.returns-then-ends
+returns-then-ends c = things-end binding-advances c.things.invariant c.in_default.ensures
+    (sym c.ends.ensures ∙ c.if-ends.true)
 
 pub returns : goal.returns
-returns c = things-end binding-advances c.things.invariant c.things-test.false
+returns c = things-none binding-advances c.things.invariant c.in_default.ensures
+    (sym c.ends.ensures ∙ c.if-ends.false)

@@ -1,27 +1,24 @@
 -- Proofs of the goals that `Explored::explore` of src/best_first.rt leaves open.
-use Rattle.std.proofs.Common.{subst}
+use Rattle.std.proofs.Common.{refl, subst}
 use Rattle.px_ends.specs.Tasks.{initial_node}
 use Rattle.px_support.specs.Asking.{task_for}
 use Rattle.px_search.specs.Asking.{IsTriedAt}
-use Rattle.px_search.proofs.LoopLaws.{start-alone, start-found, start-limit}
-use Rattle.px_search.proofs.NoteLaws.{right-grows}
-use Rattle.px_search.proofs.SceneLaws.{scene-start}
+use Rattle.px_search.proofs.LoopLaws.{exploring-start, start-alone, start-found, start-limit}
 use Rattle.px_search.proofs.best_first.Explored.explore.Goals as goal
 
 pub try_node-requires-clause-node : goal.try_node-requires-clause-node
 try_node-requires-clause-node c = (initial_node (task_for c.args.asked.now), c.in_ok-start.ensures.start)
 
-pub returns-in-Answered : goal.returns-in-Answered
-returns-in-Answered c =
-    let given = c.requires.explored in
-    record {
-      outcome = start-found (task_for c.args.asked.now) c.start_key.new.numbers c.in_ok-start.start c.intern.new.self
-          c.args.self.now.origins.items
+pub returns-in-Answered-clause-stops : goal.returns-in-Answered-clause-stops
+returns-in-Answered-clause-stops c =
+    let given = c.requires.explored in (
+      exploring-start (task_for c.args.asked.now) c.args.self.now _ given c.in_ok-start.ensures.keeps refl refl,
+      start-found (task_for c.args.asked.now) c.start_key.new.numbers c.in_ok-start.start c.intern.new.self c.args.self.now.origins.items
           c.in_ok-tried.tried c.in_ok-start.ensures.start
           (start-alone (task_for c.args.asked.now) c.start_key.new.numbers c.in_ok-start.start c.args.self.now.nodes c.intern.new.self
           c.in_ok-intern.field-0 given.nodes c.in_ok-intern.ensures.kept) given.origins c.in_ok-tried.ensures c.in-Answered.is
-          c.requires.asked.nodes.0;
-    }
+          c.requires.asked.nodes.0,
+    )
 
 pub walk_from-requires-clause-tried : goal.walk_from-requires-clause-tried
 walk_from-requires-clause-tried c =
@@ -30,12 +27,7 @@ walk_from-requires-clause-tried c =
 
 pub walk_from-requires-clause-explored : goal.walk_from-requires-clause-explored
 walk_from-requires-clause-explored c =
-    let task = task_for c.args.asked.now in
-    let given = c.requires.explored in
-    record {
-      notes = right-grows task c.args.self.now.notes c.start_key.new.numbers c.in_ok-start.ensures.keeps given.notes;
-      scene = scene-start task c.start_key.new.numbers c.args.self.now.scene given.scene;
-    }
+    exploring-start (task_for c.args.asked.now) c.args.self.now _ c.requires.explored c.in_ok-start.ensures.keeps refl refl
 
 pub walk_from-requires-clause-start : goal.walk_from-requires-clause-start
 walk_from-requires-clause-start c =
@@ -48,14 +40,13 @@ walk_from-requires-clause-start c =
       picker = given.picker;
     }
 
-pub returns-in-Limited : goal.returns-in-Limited
-returns-in-Limited c =
-    let given = c.requires.explored in
-    record {
-      outcome = start-limit (task_for c.args.asked.now) c.start_key.new.numbers c.in_ok-start.start c.intern.new.self
-          c.args.self.now.origins.items
+pub returns-in-Limited-clause-stops : goal.returns-in-Limited-clause-stops
+returns-in-Limited-clause-stops c =
+    let given = c.requires.explored in (
+      exploring-start (task_for c.args.asked.now) c.args.self.now _ given c.in_ok-start.ensures.keeps refl refl,
+      start-limit (task_for c.args.asked.now) c.start_key.new.numbers c.in_ok-start.start c.intern.new.self c.args.self.now.origins.items
           c.in_ok-tried.tried c.in-Limited.met c.in_ok-start.ensures.start
           (start-alone (task_for c.args.asked.now) c.start_key.new.numbers c.in_ok-start.start c.args.self.now.nodes c.intern.new.self
           c.in_ok-intern.field-0 given.nodes c.in_ok-intern.ensures.kept) given.origins c.in_ok-tried.ensures c.in-Limited.is
-          c.requires.asked.nodes.0;
-    }
+          c.requires.asked.nodes.0,
+    )

@@ -1,9 +1,8 @@
 -- Proofs of the goals that `Explored::make_move` of src/best_first.rt leaves open.
-use Rattle.std.proofs.Common.{◌≤◌, length, arith}
+use Rattle.std.proofs.Common.{◌≤◌, length, refl, arith}
 use Rattle.px_support.specs.Asking.{task_for}
 use Rattle.px_search.proofs.GoingLaws.{trying-within}
-use Rattle.px_search.proofs.SceneLaws.{scene-grows}
-use Rattle.px_search.proofs.LoopLaws.{asks_step, step_on, step-seen, step-earlier, step-trace, there_stands, step-new, step-onward, step-reached, step-origins, step-limit, step-full, step-within}
+use Rattle.px_search.proofs.LoopLaws.{asks_step, exploring-grows, step_on, step-seen, step-earlier, step-trace, there_stands, step-new, step-onward, step-reached, step-origins, step-limit, step-full, step-within}
 use Rattle.px_search.proofs.best_first.Explored.make_move.Goals as goal
 
 pub node-key-requires : goal.node-key-requires
@@ -68,18 +67,20 @@ count_to-requires-clause-few c =
     (λ h. omega (arith, h, c.if-place-count.false, c.count-count.ensures)) c.push.new.self.items c.in_ok-push.ensures.items in
     omega (arith, few, c.requires.asked.nodes.1)
 
-pub returns-then-count-asked-clause-made : goal.returns-then-count-asked-clause-made
-returns-then-count-asked-clause-made c =
+pub returns-then-count-asked-clause-stops : goal.returns-then-count-asked-clause-stops
+returns-then-count-asked-clause-stops c =
     let task = task_for c.args.asked.now in
     let e = c.args.self.now in
     let r = c.requires.trying in
     let st =
     step_on task e.notes.numbers c.after.new.self.numbers e.nodes e.origins.items e.picker r.0 c.args.next r.1 r.2 r.3 c.args.step
-    c.node-key.result c.in_ok-there.there r.4 c.node-key.ensures c.in_ok-there.ensures.notes.keeps c.in_ok-there.ensures.there r.5 in
-    step-full task c.after.new.self.numbers c.sound.ensures.once e.nodes c.intern.new.self e.origins.items e.picker r.0 c.args.next
-    r.1 r.2 r.3 c.args.step c.in_ok-there.there c.in_ok-place.place st c.in_ok-place.ensures.kept
-    (λ h. omega (arith, h, c.if-place-count.false, c.count-count.ensures)) c.push.new.self.items
-    c.in_ok-moves.moves c.in_ok-push.ensures.items (omega (arith, c.if-count-asked.true, c.count-count.ensures)) c.in_ok-moves.ensures
+    c.node-key.result c.in_ok-there.there r.4 c.node-key.ensures c.in_ok-there.ensures.notes.keeps c.in_ok-there.ensures.there r.5 in (
+      exploring-grows (task_for c.args.asked.now) c.args.self.now _ c.in_ok-there.ensures.notes refl c.requires.explored,
+      step-full task c.after.new.self.numbers c.sound.ensures.once e.nodes c.intern.new.self e.origins.items e.picker r.0 c.args.next
+          r.1 r.2 r.3 c.args.step c.in_ok-there.there c.in_ok-place.place st c.in_ok-place.ensures.kept
+          (λ h. omega (arith, h, c.if-place-count.false, c.count-count.ensures)) c.push.new.self.items
+          c.in_ok-moves.moves c.in_ok-push.ensures.items (omega (arith, c.if-count-asked.true, c.count-count.ensures)) c.in_ok-moves.ensures,
+    )
 
 pub try_node-requires-clause-node : goal.try_node-requires-clause-node
 try_node-requires-clause-node c =
@@ -92,19 +93,21 @@ try_node-requires-clause-node c =
     there_stands task c.after.new.self.numbers c.sound.ensures.once e.nodes c.intern.new.self e.origins.items e.picker r.0 c.args.next
     r.1 r.2 r.3 c.args.step c.in_ok-there.there c.in_ok-place.place st c.in_ok-place.ensures.kept
 
-pub returns-in-Answered-clause-made : goal.returns-in-Answered-clause-made
-returns-in-Answered-clause-made c =
+pub returns-in-Answered-clause-stops : goal.returns-in-Answered-clause-stops
+returns-in-Answered-clause-stops c =
     let task = task_for c.args.asked.now in
     let e = c.args.self.now in
     let r = c.requires.trying in
     let st =
     step_on task e.notes.numbers c.after.new.self.numbers e.nodes e.origins.items e.picker r.0 c.args.next r.1 r.2 r.3 c.args.step
-    c.node-key.result c.in_ok-there.there r.4 c.node-key.ensures c.in_ok-there.ensures.notes.keeps c.in_ok-there.ensures.there r.5 in
-    step-reached task c.after.new.self.numbers c.sound.ensures.once e.nodes c.intern.new.self e.origins.items e.picker r.0 c.args.next
-    r.1 r.2 r.3 c.args.step c.in_ok-there.there c.in_ok-place.place st c.in_ok-place.ensures.kept
-    (λ h. omega (arith, h, c.if-place-count.false, c.count-count.ensures)) c.push.new.self.items
-    c.in_ok-tried.tried c.in_ok-push.ensures.items (omega (arith, c.if-count-asked.false, c.count-count.ensures))
-    c.in_ok-tried.ensures c.in-Answered.is
+    c.node-key.result c.in_ok-there.there r.4 c.node-key.ensures c.in_ok-there.ensures.notes.keeps c.in_ok-there.ensures.there r.5 in (
+      exploring-grows (task_for c.args.asked.now) c.args.self.now _ c.in_ok-there.ensures.notes refl c.requires.explored,
+      step-reached task c.after.new.self.numbers c.sound.ensures.once e.nodes c.intern.new.self e.origins.items e.picker r.0 c.args.next
+          r.1 r.2 r.3 c.args.step c.in_ok-there.there c.in_ok-place.place st c.in_ok-place.ensures.kept
+          (λ h. omega (arith, h, c.if-place-count.false, c.count-count.ensures)) c.push.new.self.items
+          c.in_ok-tried.tried c.in_ok-push.ensures.items (omega (arith, c.if-count-asked.false, c.count-count.ensures))
+          c.in_ok-tried.ensures c.in-Answered.is,
+    )
 
 pub go_on-requires-clause-onward : goal.go_on-requires-clause-onward
 go_on-requires-clause-onward c =
@@ -140,66 +143,26 @@ returns-in_ok-go_on-in-Unanswered-clause-made c = λ picked steps is_all i t at.
     (step-within task c.after.new.self.numbers c.sound.ensures.once e.nodes c.intern.new.self e.origins.items e.picker picked c.args.next
     steps is_all i c.args.step c.in_ok-there.there c.in_ok-place.place st c.in_ok-place.ensures.kept))
 
-pub returns-in-Limited-clause-made : goal.returns-in-Limited-clause-made
-returns-in-Limited-clause-made c =
+pub returns-in-Limited-clause-stops : goal.returns-in-Limited-clause-stops
+returns-in-Limited-clause-stops c =
     let task = task_for c.args.asked.now in
     let e = c.args.self.now in
     let r = c.requires.trying in
     let st =
     step_on task e.notes.numbers c.after.new.self.numbers e.nodes e.origins.items e.picker r.0 c.args.next r.1 r.2 r.3 c.args.step
-    c.node-key.result c.in_ok-there.there r.4 c.node-key.ensures c.in_ok-there.ensures.notes.keeps c.in_ok-there.ensures.there r.5 in
-    step-limit task c.after.new.self.numbers c.sound.ensures.once e.nodes c.intern.new.self e.origins.items e.picker r.0 c.args.next
-    r.1 r.2 r.3 c.args.step c.in_ok-there.there c.in_ok-place.place st c.in_ok-place.ensures.kept
-    (λ h. omega (arith, h, c.if-place-count.false, c.count-count.ensures)) c.push.new.self.items c.in_ok-tried.tried
-    c.in-Limited.met c.in_ok-push.ensures.items (omega (arith, c.if-count-asked.false, c.count-count.ensures))
-    c.in_ok-tried.ensures c.in-Limited.is
+    c.node-key.result c.in_ok-there.there r.4 c.node-key.ensures c.in_ok-there.ensures.notes.keeps c.in_ok-there.ensures.there r.5 in (
+      exploring-grows (task_for c.args.asked.now) c.args.self.now _ c.in_ok-there.ensures.notes refl c.requires.explored,
+      step-limit task c.after.new.self.numbers c.sound.ensures.once e.nodes c.intern.new.self e.origins.items e.picker r.0 c.args.next
+          r.1 r.2 r.3 c.args.step c.in_ok-there.there c.in_ok-place.place st c.in_ok-place.ensures.kept
+          (λ h. omega (arith, h, c.if-place-count.false, c.count-count.ensures)) c.push.new.self.items c.in_ok-tried.tried
+          c.in-Limited.met c.in_ok-push.ensures.items (omega (arith, c.if-count-asked.false, c.count-count.ensures))
+          c.in_ok-tried.ensures c.in-Limited.is,
+    )
 
 pub returns-then-place-count-clause-explored : goal.returns-then-place-count-clause-explored
 returns-then-place-count-clause-explored c =
-    let notes = c.in_ok-there.ensures.notes in
-    record {
-      notes = notes.right;
-      scene = scene-grows
-          (task_for c.args.asked.now) c.args.self.now.notes.numbers c.after.new.self.numbers c.args.self.now.scene notes.keeps
-          c.requires.explored.scene;
-    }
-
-pub returns-then-count-asked-clause-explored : goal.returns-then-count-asked-clause-explored
-returns-then-count-asked-clause-explored c =
-    let notes = c.in_ok-there.ensures.notes in
-    record {
-      notes = notes.right;
-      scene = scene-grows
-          (task_for c.args.asked.now) c.args.self.now.notes.numbers c.after.new.self.numbers c.args.self.now.scene notes.keeps
-          c.requires.explored.scene;
-    }
-
-pub returns-in-Answered-clause-explored : goal.returns-in-Answered-clause-explored
-returns-in-Answered-clause-explored c =
-    let notes = c.in_ok-there.ensures.notes in
-    record {
-      notes = notes.right;
-      scene = scene-grows
-          (task_for c.args.asked.now) c.args.self.now.notes.numbers c.after.new.self.numbers c.args.self.now.scene notes.keeps
-          c.requires.explored.scene;
-    }
+    exploring-grows (task_for c.args.asked.now) c.args.self.now _ c.in_ok-there.ensures.notes refl c.requires.explored
 
 pub returns-in_ok-go_on-in-Unanswered-clause-explored : goal.returns-in_ok-go_on-in-Unanswered-clause-explored
 returns-in_ok-go_on-in-Unanswered-clause-explored c =
-    let notes = c.in_ok-there.ensures.notes in
-    record {
-      notes = notes.right;
-      scene = scene-grows
-          (task_for c.args.asked.now) c.args.self.now.notes.numbers c.after.new.self.numbers c.args.self.now.scene notes.keeps
-          c.requires.explored.scene;
-    }
-
-pub returns-in-Limited-clause-explored : goal.returns-in-Limited-clause-explored
-returns-in-Limited-clause-explored c =
-    let notes = c.in_ok-there.ensures.notes in
-    record {
-      notes = notes.right;
-      scene = scene-grows
-          (task_for c.args.asked.now) c.args.self.now.notes.numbers c.after.new.self.numbers c.args.self.now.scene notes.keeps
-          c.requires.explored.scene;
-    }
+    exploring-grows (task_for c.args.asked.now) c.args.self.now _ c.in_ok-there.ensures.notes refl c.requires.explored

@@ -1,18 +1,14 @@
 -- Proofs of the goals that `Explored::make_others` of src/best_first.rt leaves open.
-use Rattle.std.proofs.Common.{◌≡◌, ◌∷◌, ℕ, Bool, true, List, length, take, refl, subst, arith}
+use Rattle.std.proofs.Common.{true, length, take, refl, subst, arith}
 use Rattle.px_table.specs.declared.node.Node.{Node}
 use Rattle.px_diff.specs.Outcomes.{AtStop}
 use Rattle.px_diff.specs.declared.move_err.MoveErr.{MoveErr}
 use Rattle.px_numbers.specs.Numbers.{IsKeyOf}
 use Rattle.px_support.specs.Asking.{task_for}
 use Rattle.px_search.specs.Going.{LimitsNode}
-use Rattle.px_search.specs.Looping.{GoesOn, TriesAt}
-use Rattle.px_search.specs.declared.best_first.Explored.{Explored}
-use Rattle.px_search.specs.declared.step.Step.{Step}
-use Rattle.px_search.proofs.BegunLaws.{progress-goes, unlimited-here, others-from, trying-others}
+use Rattle.px_search.proofs.BegunLaws.{unlimited-here, others-from, trying-others}
 use Rattle.px_search.proofs.GoingLaws.{here_of, trying-within}
-use Rattle.px_search.proofs.LoopLaws.{node-done}
-use Rattle.px_search.proofs.SceneLaws.{scene-grows}
+use Rattle.px_search.proofs.LoopLaws.{exploring-grows, node-done}
 use Rattle.px_search.proofs.best_first.Explored.make_others.Goals as goal
 
 pub node-key-requires : goal.node-key-requires
@@ -58,28 +54,15 @@ make_all-requires-clause-from c =
 
 pub make_all-requires-clause-explored : goal.make_all-requires-clause-explored
 make_all-requires-clause-explored c =
-    let notes = c.in-Ok.ensures.notes in
-    record {
-      notes = notes.right;
-      scene = scene-grows
-          (task_for c.args.asked.now) c.args.self.now.notes.numbers c.all_steps_from.new.self.numbers c.args.self.now.scene notes.keeps
-          c.requires.explored.scene;
-    }
+    exploring-grows (task_for c.args.asked.now) c.args.self.now _ c.in-Ok.ensures.notes refl c.requires.explored
 
 pub returns-clause-gone : goal.returns-clause-gone
-returns-clause-gone c =
+returns-clause-gone c = λ picked steps is_all from_is t.
     let task = task_for c.args.asked.now in
     let old = c.args.self.now in
-    let mid : Explored = record old { notes = c.all_steps_from.new.self } in
     let new = c.make_all.new.self in
     let all = c.in-Ok.steps.items in
-    progress-goes task new.notes.numbers new.nodes new.origins.items
-    ((picked : List ℕ) (is_all : Bool) → TriesAt task mid picked c.args.next all is_all c.args.from
-    → TriesAt task new picked c.args.next all is_all (length all))
-    ((picked : List ℕ) (steps : List Step) (is_all : Bool) → c.args.from ≡ length steps
-    → TriesAt task old picked c.args.next steps is_all c.args.from → GoesOn task new (c.args.next ∷ picked)) c.in_ok-progress.progress
-    (λ made picked steps is_all from_is t. node-done task new.notes.numbers new.nodes new.origins.items new.picker picked c.args.next all
-    true (length all)
-    (made picked true (trying-others task old.notes.numbers mid.notes.numbers old.nodes old.origins.items old.picker picked c.args.next
-    steps is_all c.args.from c.node-key.result t from_is c.node-key.ensures all c.in-Ok.ensures.steps c.in-Ok.ensures.notes.keeps))
-    (omega arith) refl) c.in_ok-progress.ensures.made
+    node-done task new.notes.numbers new.nodes new.origins.items new.picker picked c.args.next all true (length all)
+    (c.in_ok-make_all.ensures.made picked true (trying-others task old.notes.numbers c.all_steps_from.new.self.numbers old.nodes
+    old.origins.items old.picker picked c.args.next steps is_all c.args.from c.node-key.result t from_is c.node-key.ensures all
+    c.in-Ok.ensures.steps c.in-Ok.ensures.notes.keeps)) (omega arith) refl

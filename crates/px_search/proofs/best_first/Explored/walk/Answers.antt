@@ -1,17 +1,15 @@
 -- Proofs of the goals that `Explored::walk` of src/best_first.rt leaves open.
-use Rattle.std.proofs.Common.{◌<◌, ◌∷◌, ◌∙◌, ℕ, List, sym, subst, arith}
+use Rattle.std.proofs.Common.{◌<◌, ◌∷◌, ◌∙◌, ℕ, sym, subst, arith}
 use Rattle.px_order.specs.Places.{place-within-list}
 use Rattle.px_ends.proofs.PickCounts.{picks_left}
 use Rattle.px_ends.specs.ByValue.{space_of}
 use Rattle.px_support.specs.Asking.{task_for}
-use Rattle.px_search.specs.declared.best_first.Explored.{Explored}
-use Rattle.px_search.specs.Looping.{ComesTo, GoesOn, Picked}
 use Rattle.px_search.specs.Searching.{order_of}
 use Rattle.px_search.proofs.GoingLaws.{counted, going-exhausted, going-start}
 use Rattle.px_search.proofs.best_first.Explored.walk.Goals as goal
 
-pub go_through-requires-clause-picked : goal.go_through-requires-clause-picked
-go_through-requires-clause-picked c =
+pub expand-requires-clause-picked : goal.expand-requires-clause-picked
+expand-requires-clause-picked c =
     let task = task_for c.args.asked.now in
     let e = c.loop-place.self in
     let i = c.loop-place.invariant.going in
@@ -23,8 +21,8 @@ go_through-requires-clause-picked c =
           (c.in-Some.ensures.left task e.notes.numbers b.found i.0 b.picking),
     )
 
-pub go_through-requires-clause-next : goal.go_through-requires-clause-next
-go_through-requires-clause-next c =
+pub expand-requires-clause-next : goal.expand-requires-clause-next
+expand-requires-clause-next c =
     let task = task_for c.args.asked.now in
     let e = c.loop-place.self in
     let i = c.loop-place.invariant.going in
@@ -63,8 +61,6 @@ pub loop-place-preserved : goal.loop-place-preserved
 loop-place-preserved c =
     let task = task_for c.args.asked.now in
     let e = c.loop-place.self in
-    let before : Explored = record e { picker = c.pick.new.self } in
-    let after = c.go_through.new.self in
     let i = c.loop-place.invariant.going in
     let b = i.2 in
     let count = counted task e.notes.numbers e.nodes e.origins.items b.found b.numbered ∙ sym c.count.ensures in
@@ -72,23 +68,16 @@ loop-place-preserved c =
     let going = going-start task e.notes.numbers e.nodes e.origins.items e.picker c.pick.new.self i.0 c.in-Some.place b next
     (c.in-Some.ensures.left task e.notes.numbers b.found i.0 b.picking) in
     record {
-      going = (
-        c.in-Some.place ∷ i.0,
-        omega (arith, i.1),
-        subst (ComesTo task after ((picked : List ℕ) → Picked task before picked c.in-Some.place
-            → GoesOn task after (c.in-Some.place ∷ picked))) c.in-Unsolved.is c.in_ok-progress.ensures.gone i.0 going,
-      );
-      explored = c.in_ok-progress.ensures.explored;
+      going = (c.in-Some.place ∷ i.0, omega (arith, i.1), c.in_ok-expand.ensures.gone i.0 going);
+      explored = c.in_ok-expand.ensures.explored;
     }
 
-pub returns : goal.returns
-returns c =
+pub returns-clause-gone : goal.returns-clause-gone
+returns-clause-gone c =
     let task = task_for c.args.asked.now in
     let e = c.loop-place.self in
     let i = c.loop-place.invariant.going in
     let b = i.2 in
     let count = counted task e.notes.numbers e.nodes e.origins.items b.found b.numbered ∙ sym c.count.ensures in
-    record {
-      walked = going-exhausted task e.notes.numbers e.nodes e.origins.items e.picker i.0 b
-          (c.in_default.ensures.over task e.notes.numbers b.found i.0 b.picking count);
-    }
+    going-exhausted task e.notes.numbers e.nodes e.origins.items e.picker i.0 b
+    (c.in_default.ensures.over task e.notes.numbers b.found i.0 b.picking count)

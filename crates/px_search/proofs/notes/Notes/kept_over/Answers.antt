@@ -38,6 +38,7 @@ returns-clause-notes c =
             right.tops kept c.in_ok-insert.ensures.entries;
         wants = right.wants;
         results = right.results;
+        altered = right.altered;
         never_limited = right.never_limited;
       };
     }

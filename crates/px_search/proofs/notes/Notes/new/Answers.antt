@@ -1,5 +1,5 @@
 -- Proofs of the goals that `Notes::new` of src/notes.rt leaves open.
-use Rattle.px_search.specs.Notes.{IsResultAt, IsStepsAt}
+use Rattle.px_search.specs.Notes.{IsAlteredAt, IsResultAt, IsStepsAt}
 use Rattle.px_search.specs.Offers.{IsOfferAt}
 use Rattle.px_search.proofs.Pairs.{each-none}
 use Rattle.px_search.proofs.notes.Notes.new.Goals as goal
@@ -9,5 +9,6 @@ returns c = λ task never. record {
   tops = each-none (IsStepsAt task c.new-numbers.result) c.new-tops.result.entries c.new-tops.ensures.empty;
   wants = each-none (IsOfferAt task c.new-numbers.result) c.new-wants.result.entries c.new-wants.ensures.empty;
   results = each-none (IsResultAt task c.new-numbers.result) c.new-results.result.entries c.new-results.ensures.empty;
+  altered = each-none (IsAlteredAt c.new-numbers.result) c.new-altered.result.entries c.new-altered.ensures.empty;
   never_limited = never;
 }

@@ -32,6 +32,7 @@ returns-in-Ok-insert-clause-notes c =
             each-more want_eq want_eq-decides (IsOfferAt task new.numbers) new.wants.entries c.insert.new.self.entries want offer
             before.right.wants here c.in-Ok-insert.ensures.entries;
         results = before.right.results;
+        altered = before.right.altered;
         never_limited = before.right.never_limited;
       };
     }

@@ -1,7 +1,7 @@
 -- Proofs of the goals that `Notes::result_at` of src/notes.rt leaves open.
 use Rattle.px_support.specs.Asking.{task_for}
 use Rattle.px_search.specs.Notes.{IsResultAt}
-use Rattle.px_search.proofs.NoteLaws.{place_eq, place_eq-decides, right-grows}
+use Rattle.px_search.proofs.NoteLaws.{place_eq, place_eq-decides}
 use Rattle.px_search.proofs.Pairs.{each-found, each-more}
 use Rattle.px_search.proofs.notes.Notes.result_at.Goals as goal
 
@@ -14,17 +14,18 @@ returns-in-Some-clause-number c =
 pub returns-in_ok-insert-in-None-clause-notes : goal.returns-in_ok-insert-in-None-clause-notes
 returns-in_ok-insert-in-None-clause-notes c =
     let task = task_for c.args.asked.now in
-    let old = c.args.self.now in
-    let kept = c.result_anew.new.numbers in
-    let right = right-grows task old kept c.in_ok-number-in-None.ensures.keeps c.requires.notes in
+    let new = c.result_found.new.self in
+    let grown = c.in_ok-number-in-None.ensures.notes in
     record {
-      keeps = c.in_ok-number-in-None.ensures.keeps;
+      keeps = grown.keeps;
       right = record {
-        tops = right.tops;
-        wants = right.wants;
+        tops = grown.right.tops;
+        wants = grown.right.wants;
         results =
-            each-more place_eq place_eq-decides (IsResultAt task kept) old.results.entries c.insert.new.self.entries c.args.place
-            c.in_ok-number-in-None.number right.results c.in_ok-number-in-None.ensures.number c.in_ok-insert-in-None.ensures.entries;
-        never_limited = right.never_limited;
+            each-more place_eq place_eq-decides (IsResultAt task new.numbers) new.results.entries c.insert.new.self.entries c.args.place
+            c.in_ok-number-in-None.number grown.right.results c.in_ok-number-in-None.ensures.number
+            c.in_ok-insert-in-None.ensures.entries;
+        altered = grown.right.altered;
+        never_limited = grown.right.never_limited;
       };
     }

@@ -1,9 +1,0 @@
--- Proofs of the goals that `parts` of src/reading.rt leaves open.
-use Rattle.px_reader.proofs.Common.{lit<}
-use Rattle.std.proofs.lemmas.Iterator.Consumers.{map_from_collect}
-use Rattle.std.proofs.lemmas.Iterator.Splits.{YieldsList-from_str_split}
-use Rattle.px_reader.proofs.reading.parts.Goals as goal
-
-pub returns : goal.returns
-returns c = map_from_collect _ c.collect.ensures.ran
-    (YieldsList-from_str_split 10 c.args.text.now (lit< tt) c.split.ensures.text c.split.ensures.has_more c.split.ensures.pattern)
