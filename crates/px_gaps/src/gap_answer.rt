@@ -20,7 +20,7 @@ use px_terms::{Atom, Problem, Sequence};
 /// What a question of gaps says of a formula.
 #[derive(Drop)]
 pub struct GapAnswer {
-    /// The gap patterns of the formula.
+    /// The gap patterns of the formula, with their terms or without them.
     pub patterns: Vec<GapPattern>,
     /// Those of the atoms that they close which have a proof.
     pub provable: Model,

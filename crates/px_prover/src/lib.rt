@@ -42,7 +42,7 @@
 //! callers: the instances of the patterns, ascending, each once, are the gap lists (`AreGapLists` of `px_question`).
 //!
 //! [`gap_closings`] has the same conditions and errors, and returns the patterns without their terms: the atoms that gaps close together,
-//! whatever the objects for the formula's variables. Where many lists close the same atoms, it takes far less memory.
+//! whatever the objects for the formula's variables. Lists that close the same atoms are mostly one then; no clause says how few they are.
 //!
 //! Facts with objects outside the problem are passed over. What these words mean is said in `px_question`: trees without
 //! variables, one for each atom, and nothing of how they are found. Each answer is exact: it comes only where its meaning

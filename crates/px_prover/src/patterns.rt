@@ -27,7 +27,7 @@ use px_proof_walk::{Gather, Walk, walk_to_end};
 use px_terms::{Atom, Problem, Term};
 use std::alloc::Global;
 
-/// Equal patterns are looked for where more than so many have come.
+/// Equal patterns are looked for where at least so many have come.
 const MANY_PATTERNS: usize = 1024;
 
 /// Up to how many lists patterns are gathered at once. Where there are more, a walk first tells whether they are too many.
@@ -351,7 +351,7 @@ pub fn gap_patterns(
 
 // Alike: `gap_patterns`, of which this leaves out the terms; so its clauses but one are the same.
 /// Returns the patterns of [`gap_patterns`] without their terms: the atoms that are closed by gaps together, whatever the objects for the
-/// formula's variables. Equal ones are kept once while they come, so it takes memory by the different ones.
+/// formula's variables. Equal ones are dropped now and then while they come; no clause says how much memory that saves.
 ///
 /// # Errors
 /// `ShapeLimit` if at least as many shapes of unfinished lists exist as the problem allows, and `NoMemory`.

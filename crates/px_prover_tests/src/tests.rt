@@ -3,10 +3,10 @@ ghost use Rattle.std.specs.Prelude.{◌<◌, ◌≤◌, All};
 ghost use Rattle.px_terms.specs.Validity.{IsValid, IsAtomOf};
 
 use px_ops::Model;
-use px_prover::{ProveErr, gap_lists, gap_patterns, patterns_are_lists, prove};
+use px_prover::{ProveErr, gap_closings, gap_lists, gap_patterns, patterns_are_lists, prove};
 use px_samples::{
-    add_axiom, atom, box_in_first_room, is_box, is_in, no, o, opening, problem_of, rooms, schema,
-    v, yes,
+    add_axiom, atom, box_in_first_room, is_box, is_in, model_of, no, o, opening, problem_of, rooms,
+    schema, v, yes,
 };
 use px_terms::{Atom, ClauseArena, Problem, are_atoms_of, is_valid};
 use std::alloc::Global;
@@ -68,4 +68,21 @@ fn patterns_are_few(rt: HostRuntime) {
         let found = gap_patterns(alloc, &problem, &formula, 0, &Model::new(alloc));
         assert!(&rt; matches!(&found, Ok(patterns) if patterns.len() == 8));
     }
+}
+
+/// Three facts are three answers, and close nothing: they are one closing. The gap is the other.
+#[test]
+fn closings_leave_out_what_is_chosen(rt: HostRuntime) {
+    let alloc = rt.alloc();
+    let put = schema(alloc, (0, 1), &[], &[], &[atom(0, &[v(0)])]).expect(&rt, "memory");
+    let axioms = ClauseArena::new(alloc);
+    let problem = problem_of(alloc, 3, &[1], axioms, [put]).expect(&rt, "memory");
+    let facts = [atom(0, &[o(0)]), atom(0, &[o(1)]), atom(0, &[o(2)])];
+    let model = model_of(alloc, &facts).expect(&rt, "memory");
+    let formula = [atom(0, &[v(0)])];
+    assert_asked(&rt, &problem, &formula, 1);
+    let found = gap_patterns(alloc, &problem, &formula, 1, &model);
+    assert!(&rt; matches!(&found, Ok(patterns) if patterns.len() == 4));
+    let found = gap_closings(alloc, &problem, &formula, 1, &model);
+    assert!(&rt; matches!(&found, Ok(closings) if closings.len() == 2));
 }
