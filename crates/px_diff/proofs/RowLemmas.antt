@@ -156,7 +156,6 @@ module _ (s : Setting) (fewer : List Atom) (among : All (Contains s.facts) fewer
         (loose_gaps_in (with_facts s fewer)) (record { choices = λ t h. h; facts = λ leaf h. h; opens = λ h. h })
         (λ atom has h. absurd h) list)
 
-    -- Alike: `answer-fits`, of lists of proofs without gaps.
     pub gap-fits : (objects : List ℕ) (ds : Derivations)
         → IsList (gaps_in (with_facts s fewer)) (with_facts s fewer) (initial_atoms table sigma row) 0 objects ds → FitsOne choices sigma
     gap-fits objects ds list =

@@ -250,7 +250,6 @@ module _ (problem : Problem) (facts : List Atom) (objects : List ℕ) where
   none-first x xs added never none proves = absurd proves
   none-first x xs added never (also e es) proves = never (proof-fact here (under x) added.1 (under x) refl e proves.0)
 
-  -- Alike: `gaps-kept`, of proofs with gaps.
   more-kept : (x : Atom) (xs others : List Atom) (high : ℕ) → AreMore xs others high → (ds : Derivations)
       → ProvesAll (proofs_in here) (x ∷ others) ds → greatest_height ds ≤ high → Proved (proofs_in here) (x ∷ xs) high
   more-kept x xs others high more none proves low = absurd proves

@@ -40,7 +40,6 @@ pub record AllowsBesideGaps (old new : Rules) : Type 0 where
   pub facts : (leaf : Leaf) → old.IsFact leaf → new.IsFact leaf
   pub opens : old.IsOpen → new.IsOpen
 
--- Alike: `proves_by` of px_proof (`ProvesLaws`) looks at the facts of a derivation where this looks at its gaps.
 module _ (axioms : List Clause) (old new : Rules) (allows : AllowsBesideGaps old new) where
   mutual
     -- it is enough that its own gaps are allowed

@@ -121,7 +121,6 @@ module _ (f g h : Term → Term) where
       let rest = rows-by rows (behind (flat_map terms_of row) (row_terms rows) each) in
       λ i. one i ∷ rest i
 
-  -- Alike: `goal-by`, since steps and atoms are two types.
   pub steps-by : (steps : List OpInst) → Agree (step_terms steps)
       → map (instance_by f) (map (instance_by g) steps) ≡ map (instance_by h) steps
   steps-by [] each = refl

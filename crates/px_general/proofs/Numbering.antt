@@ -249,7 +249,6 @@ module _ (problem : Problem) (plan general : Table) (names roots : List Term) (i
   abbrev rows_part : List Term
   rows_part = flat_map (flat_map terms_of) (rows_of general.proofs)
 
-  -- Alike: `SupportInstances`, which is of the same opened plan.
   abbrev leaves_walk : List Term
   leaves_walk = leaf_terms (rows_opened problem plan)
 

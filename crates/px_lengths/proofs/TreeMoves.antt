@@ -1,5 +1,4 @@
 -- The moves that a tree tells have few steps, which are instances of operators.
--- Alike: `NamedTrees` of px_session, which shows that they have their names.
 use Rattle.std.specs.Prelude.{◌≡◌, ◌++◌, ℕ, Option, None, Some, List, [], ◌∷◌, length, take, slice_get, slice_index_or, All}
 use Rattle.std.proofs.Common.{◌≤◌, sym, ap, ◌∙◌, subst, arith}
 use Rattle.std.proofs.lemmas.List.Elements.{All-cons, All-head, All-nil, All-weaker}

@@ -143,7 +143,6 @@ module _ (x y : ℕ) where
         },
       )
 
-      -- Alike: `third_fits`, each kernel with the marks that it needs.
       second_fits : KernelFits danger danger_table bound atoms 2 (x ∷ y ∷ [])
           ↔ (AreBothChosen bound x y × (Contains atoms (r (Obj x)) × Contains atoms (q (Obj y))))
       second_fits = (

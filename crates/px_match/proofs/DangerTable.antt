@@ -51,7 +51,6 @@ each_schema zero below = a_is_schema
 each_schema (suc zero) below = b_is_schema
 each_schema (suc (suc k)) below = absurd (omega (arith, below))
 
--- Alike: the problem of `MergedNamesLaws` of px_terms, which has no axioms either.
 pub danger-valid : IsValid danger
 danger-valid = record {
   schemas = each_schema;

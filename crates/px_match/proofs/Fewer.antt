@@ -78,7 +78,6 @@ either_atom q atom = elim (atom_eq q atom) as (λ t. atom_eq q atom ≡ t → (q
   | false ↦ λ is. inr (λ same. both_answers (atom_eq q atom) is ((atom_eq-decides q atom).1 same))
 ] refl
 
--- Alike: `contains_decided` of px_question, which is of numbers.
 has_or_not : (xs : List Atom) (q : Atom) → Contains xs q ⊎ (¬ Contains xs q)
 has_or_not [] q = inr (Contains-none q)
 has_or_not (x ∷ xs) q = elim (either_atom x q) [

@@ -168,7 +168,6 @@ stuck = (
   ),
 )
 
--- Alike: `slipped`, since each run is written out turn by turn.
 straight : RunsTable edited danger danger_table chosen_a [] danger_facts
     (tried 1 (a_step (Obj a)) ByActing ∷ tried 2 (b_step (Obj a) (Obj b)) ByActing ∷ arrived ∷ []) after_b
 unfolding with_item set_of

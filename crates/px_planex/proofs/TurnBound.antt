@@ -94,7 +94,6 @@ module _ {E : Type 0} where
           inr (count_less (after_test (suc number) r.turn r.between) (after_test number r.turn r.between) _ _
           (later_test number r.turn r.between) h)
 
-  -- Alike: `edits_before`. This is of the edits between the sensing and the action of a turn.
   edits_between : (number : ℕ) (rs : List (Recorded E))
       → (edits_at rs number true ≡ []) ⊎ (count_after (suc number) rs < count_after number rs)
   edits_between number [] = inl refl

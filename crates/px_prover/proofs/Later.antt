@@ -42,7 +42,6 @@ before-next a b u kind next (inr (inl h)) = inl (omega (arith, kind, h))
 before-next a b u kind next (inr (inr (inl h))) = inr (inl (kind ∙ h.0, omega (arith, h.1, next)))
 before-next a b u kind next (inr (inr (inr h))) = inr (inl (kind ∙ h.0, omega (arith, h.1, next)))
 
--- Alike: `begins-ancestor` below has the same cases, one kind later.
 pub begins-fact : (i next : ℕ) → next ≡ i + 1 → Begins (Some (Fact i)) (Fact next)
 begins-fact i next is = record { to = to; back = λ u since. before-next (Fact i) (Fact next) u refl is since }
   where

@@ -1,5 +1,4 @@
 -- The problem of a building has the rules of its world.
--- Alike: `same_rules` of px_table_tests, for other limits.
 use Rattle.std.specs.Prelude.{◌≡◌, ◌+◌, List, length}
 use Rattle.std.proofs.Common.{refl, sym, ◌∙◌, subst}
 use Rattle.px_terms.specs.declared.problem.Problem.{Problem}

@@ -40,7 +40,6 @@ room-kind things (suc k) = (
   back (Some (a_door x y is_open)) is = absurd (cc)
   back (Some (a_box r beside)) is = absurd (cc)
 
--- Alike: one lemma for each kind of thing, since each has fields of its own.
 door-kind : (things : List Standing) (n : ℕ) → IsDoorAt things n ↔ HasKind things 1 n
 door-kind things zero = ((λ door. absurd (let e = door.3 in cc)), (λ is. absurd is))
 door-kind things (suc k) = (

@@ -66,7 +66,6 @@ module _ (n : ℕ) (d : Declared) (line : ℕ) (o : OpenOperator) where
     plain-atoms : AreRight c plain xs → All (IsAtomOf (own_problem c) o.schema.params) (map (atom_of c []) xs)
     plain-atoms right = atoms-with c r xs plain refl (λ v. refl) o.schema.params (omega (arith, r.operators.params)) right
 
-    -- Alike: `delete-kept` and `add-kept`. Each is of another list of the schema, and its atoms are others in a delete list.
     pre-kept : Keeps n c (pre xs)
     pre-kept f = let right = atoms-right c (pre xs) xs (record { atoms = refl; arguments = refl }) f.right in
         let all = grown (IsAtomOf (own_problem c) o.schema.params) o.schema.pre xs (at-most _ _ f.limits.0) r.operators.schema.pre

@@ -94,7 +94,6 @@ chosen-word : (word : Bool → List ℕ) (w : List ℕ) (f : Bool → Statement)
 chosen-word word w f l is = map-there _ _ (which (word true) (word false) w) (which-sound word w)
     (λ b same. is b ∙ ap l (sym same))
 
--- Alike: the lines below, one for each word: what its items say, and that the statement is described so.
 abbrev pub make_number : (ℕ → Statement) → List Item → Option Statement
 make_number f (amounts (n ∷ []) ∷ []) = Some (f n)
 make_number f _ = None

@@ -32,7 +32,6 @@ use Rattle.px_search.proofs.StruckLaws.{keeps_all_both}
 
 -- ---- keys
 
--- Alike: the other kind of keys below, and Equality.antt of px_numbers: each struct has a derived equality of its own.
 
 abbrev pub place_eq : EntryPlace → EntryPlace → Bool
 place_eq = (place_equality.ghosts).eq

@@ -70,7 +70,6 @@ module _ (problem : Problem) (old : SessionState) (name : ℕ) (bound : List (�
       absurd (none_or_some (first_unknown table bound) param (ap (λ (x : Table). first_unknown x bound) (sym same) ∙ is.1.known) unknown)
   no-parameter answer new table param named unknown is = absurd is
 
--- Alike: `few_or_limited` of `px_question/proofs/DeterminedLaws`, since both only list what was proved above.
 pub causes_in_order : CausesInOrder
 causes_in_order = record {
   no_plan = no-plan;

@@ -50,7 +50,6 @@ p_mark = record { atom = p; row = 1; column = 0; index = 0 }
 rows-are : rows_of p_at_once.proofs ≡ (fact p_leaf ∷ []) ∷ []
 rows-are = λ i. (derivation_of-fact p_leaf i ∷ []) ∷ []
 
--- Alike: `test` of `px_match/proofs/DangerTable`, since a table is tested part by part, by names that compute.
 tested : is_table idle p_at_once ≡ true
 tested =
     subst (λ (made : List (List Derivation)). (rows_are_table idle p_at_once.params p_at_once.param_sorts p_at_once.steps p_at_once.goal

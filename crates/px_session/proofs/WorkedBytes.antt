@@ -17,7 +17,6 @@ abbrev content_in : Reading → Option ScriptValue
 content_in (passes last) = Some (content_of last)
 content_in (fails at refusal) = None
 
--- Alike: the answers of `worked_texts` of `px_script`: what is read is so.
 script-so : (bytes : List ℕ) (script : ScriptValue) → content_in (text_read stage_now bytes) ≡ Some script → IsScript stage_now bytes script
 script-so bytes script e = by_reading (λ r. TextSays stage_now bytes r × (content_in r ≡ Some script))
     (λ last so. record { last = last; spells = so.0; is = let e = so.1 in cc }) (λ at refusal so. let e = so.1 in cc)

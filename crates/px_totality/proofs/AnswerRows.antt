@@ -1,5 +1,4 @@
 -- What an answer of the prover gives to a support.
--- Alike: `proofs/AnswerRowLaws` of `px_entries`, which that crate keeps to itself.
 use Rattle.std.specs.Prelude.{List, [], ◌∷◌, map, All}
 use Rattle.std.proofs.Common.{◌∙◌, sym, subst}
 use Rattle.std.specs.List.{AllZip}

@@ -142,7 +142,6 @@ module _ (problem : Problem) (valid : IsValid problem) (table : Table) (is_table
     abbrev between_of : ℕ → List E
     between_of number = edits_at recorded number true
 
-    -- Alike: `turns_left` of `px_planex/proofs/TurnBound`.
     abbrev left : Option KernelInstance → ℕ → ℕ
     left None number = 1
     left (Some kernel) number = (length table.steps + 2 - kernel.number) + (length table.steps + 1) * count_after number recorded

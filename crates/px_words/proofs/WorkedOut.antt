@@ -2,7 +2,6 @@
 use Rattle.std.proofs.Common.{refl}
 use Rattle.px_words.specs.Worked.{WorkedWords}
 
--- Alike: `general_facts` of `px_general/proofs/Touching`, since both only list what computes.
 pub worked_words : WorkedWords
 worked_words = record {
   run = refl;

@@ -1,4 +1,3 @@
--- Proofs of the goals that `saved_is_read_back` of src/lib.rt leaves open.
 use Rattle.px_saved.proofs.Law.{saved_is_read_back}
 use Rattle.px_saved.proofs.saved_is_read_back.Goals as goal
 

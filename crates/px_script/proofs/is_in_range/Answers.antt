@@ -1,4 +1,3 @@
--- Proofs of the goals that `is_in_range` of src/lib.rt leaves open.
 use Rattle.px_script.proofs.Kept.{in-range, of-stage}
 use Rattle.px_script.proofs.is_in_range.Goals as goal
 

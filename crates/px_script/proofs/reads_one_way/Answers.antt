@@ -1,4 +1,3 @@
--- Proofs of the goals that `reads_one_way` of src/lib.rt leaves open.
 use Rattle.px_script.proofs.Law.{reads-one-way}
 use Rattle.px_script.proofs.reads_one_way.Goals as goal
 

@@ -1,4 +1,3 @@
--- Proofs of the goals that `worked_lines` of src/lib.rt leaves open.
 use Rattle.px_script.proofs.Common.{◌≡◌, ℕ, List, Some, Statement, spelling, Spell, refl}
 use Rattle.std.specs.Fmt.{digits}
 use Rattle.px_base.specs.Sets.{with_item, set_of}

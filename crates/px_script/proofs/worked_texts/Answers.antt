@@ -1,4 +1,3 @@
--- Proofs of the goals that `worked_texts` of src/lib.rt leaves open.
 use Rattle.px_script.proofs.Common.{◌≡◌, ℕ, List, Option, None, Some, AllByRecursion, subst, AllByRecursion-map, ScriptValue, content_of, Refusal, coded, Stage, stage_now, FirstFault, IsScript}
 use Rattle.std.specs.Str.{chars, is_utf8}
 use Rattle.std.specs.Str.Lossy.{utf8_valid_len}

@@ -1,4 +1,3 @@
--- Proofs of the goals that `fault` of src/causes.rt leaves open.
 use Rattle.px_causes.proofs.Common.{declared_of, statement_view, stage_view}
 use Rattle.px_causes.proofs.Late.{told-found, told-none}
 use Rattle.px_so_far.proofs.Carried.{carried}

@@ -1,4 +1,3 @@
--- Proofs of the goals that `late_fault` of src/causes.rt leaves open.
 use Rattle.px_causes.proofs.Common.{declared_of, statement_view}
 use Rattle.px_causes.proofs.Late.{late-limit}
 use Rattle.px_causes.proofs.causes.late_fault.Goals as goal

@@ -1,4 +1,3 @@
--- Proofs of the goals that `has_bad_table` of src/closing.rt leaves open.
 use Rattle.px_causes.proofs.Common.{sym, subst, declared_of}
 use Rattle.px_terms.specs.Validity.{IsValid}
 use Rattle.px_so_far.specs.SoFarViews.{table_view}

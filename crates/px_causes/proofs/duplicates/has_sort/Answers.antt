@@ -1,4 +1,3 @@
--- Proofs of the goals that `has_sort` of src/duplicates.rt leaves open.
 use Rattle.px_script.specs.Faults.{has_sort}
 use Rattle.px_causes.proofs.Common.{◌≡◌, ◌==◌, ℕ, Option, map, not, ap, sym, ◌∙◌, slice_index, number_in, bytes_eq, string_bytes, position-map, OpenOperator}
 use Rattle.px_causes.proofs.duplicates.has_sort.Goals as goal

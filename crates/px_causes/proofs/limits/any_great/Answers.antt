@@ -1,4 +1,3 @@
--- Proofs of the goals that `any_great` of src/limits.rt leaves open.
 use Rattle.px_causes.proofs.Common.{◌∙◌}
 use Rattle.px_causes.proofs.Pairs.{great-pairs}
 use Rattle.px_causes.proofs.limits.any_great.Goals as goal

@@ -1,4 +1,3 @@
--- Proofs of the goals that `has_long_name` of src/limits.rt leaves open.
 use Rattle.px_causes.proofs.Common.{sym, ◌∙◌}
 use Rattle.px_causes.proofs.LineTests.{long-first, long-then}
 use Rattle.px_causes.proofs.limits.has_long_name.Goals as goal

@@ -1,4 +1,3 @@
--- Proofs of the goals that `own_limit` of src/limits.rt leaves open.
 use Rattle.px_causes.proofs.limits.own_limit.Goals as goal
 
 pub returns-in-Edit : goal.returns-in-Edit

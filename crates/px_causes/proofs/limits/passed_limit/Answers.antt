@@ -1,4 +1,3 @@
--- Proofs of the goals that `passed_limit` of src/limits.rt leaves open.
 use Rattle.px_causes.proofs.Common.{sym, ◌∙◌, declared_of, statement_view}
 use Rattle.px_causes.proofs.LineTests.{own-first}
 use Rattle.px_causes.proofs.limits.passed_limit.Goals as goal

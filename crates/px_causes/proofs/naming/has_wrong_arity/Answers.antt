@@ -1,4 +1,3 @@
--- Proofs of the goals that `has_wrong_arity` of src/naming.rt leaves open.
 use Rattle.px_causes.proofs.Common.{sym, ◌∙◌, declared_of}
 use Rattle.px_causes.proofs.PartTests.{line-differs, or-then, or-else}
 use Rattle.px_causes.proofs.naming.has_wrong_arity.Goals as goal

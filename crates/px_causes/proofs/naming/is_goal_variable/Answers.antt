@@ -1,4 +1,3 @@
--- Proofs of the goals that `is_goal_variable` of src/naming.rt leaves open.
 use Rattle.px_causes.proofs.Common.{◌∙◌}
 use Rattle.px_terms.specs.Limits.{most_formula_variables}
 use Rattle.px_so_far.proofs.TableVariables.{place-numbered}

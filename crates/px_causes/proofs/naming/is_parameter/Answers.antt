@@ -1,4 +1,3 @@
--- Proofs of the goals that `is_parameter` of src/naming.rt leaves open.
 use Rattle.px_causes.proofs.Common.{◌∙◌}
 use Rattle.px_so_far.proofs.TableVariables.{place-numbered}
 use Rattle.px_causes.proofs.naming.is_parameter.Goals as goal

@@ -1,4 +1,3 @@
--- Proofs of the goals that `is_unbound` of src/naming.rt leaves open.
 use Rattle.px_causes.proofs.Common.{sym, ◌∙◌, not, takes, declared_of}
 use Rattle.px_causes.proofs.PartTests.{line-arguments-any, or-then, or-else}
 use Rattle.px_causes.proofs.naming.is_unbound.Goals as goal

@@ -1,4 +1,3 @@
--- Proofs of the goals that `lacks_argument` of src/naming.rt leaves open.
 use Rattle.px_causes.proofs.Common.{sym, ◌∙◌, not, is_known_argument, declared_of}
 use Rattle.px_causes.proofs.PartTests.{line-arguments-any, or-then, or-else}
 use Rattle.px_causes.proofs.naming.lacks_argument.Goals as goal

@@ -1,4 +1,3 @@
--- Proofs of the goals that `lacks_predicate` of src/naming.rt leaves open.
 use Rattle.px_causes.proofs.Common.{sym, ◌∙◌, not, has_name}
 use Rattle.px_causes.proofs.PartTests.{line-atoms-any, or-then, or-else}
 use Rattle.px_causes.proofs.naming.lacks_predicate.Goals as goal

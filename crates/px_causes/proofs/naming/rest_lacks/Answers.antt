@@ -1,4 +1,3 @@
--- Proofs of the goals that `rest_lacks` of src/naming.rt leaves open.
 use Rattle.px_causes.proofs.Common.{◌∙◌, declared_of}
 use Rattle.px_causes.proofs.AtomTests.{places-lack, objects-lack, wanted-lack}
 use Rattle.px_causes.proofs.naming.rest_lacks.Goals as goal

@@ -1,4 +1,3 @@
--- Proofs of the goals that `has_variable` of src/order.rt leaves open.
 use Rattle.px_causes.proofs.Common.{sym, ◌∙◌, is_variable}
 use Rattle.px_causes.proofs.PartTests.{line-arguments-any, or-then, or-else}
 use Rattle.px_causes.proofs.order.has_variable.Goals as goal

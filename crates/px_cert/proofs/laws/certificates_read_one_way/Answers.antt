@@ -1,4 +1,3 @@
--- Proofs of the goals that `certificates_read_one_way` of src/laws.rt leaves open.
 use Rattle.px_cert.proofs.ClaimLaws.{reads_one_way as law}
 use Rattle.px_cert.proofs.laws.certificates_read_one_way.Goals as goal
 

@@ -1,4 +1,3 @@
--- Proofs of the goals that `claims_are_texts` of src/laws.rt leaves open.
 use Rattle.px_cert.proofs.ClaimLaws.{claims_are_texts as law}
 use Rattle.px_cert.proofs.laws.claims_are_texts.Goals as goal
 

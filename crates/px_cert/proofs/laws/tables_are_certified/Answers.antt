@@ -1,4 +1,3 @@
--- Proofs of the goals that `tables_are_certified` of src/laws.rt leaves open.
 use Rattle.px_cert.proofs.ClaimLaws.{tables_are_certified as law}
 use Rattle.px_cert.proofs.laws.tables_are_certified.Goals as goal
 

@@ -1,4 +1,3 @@
--- Proofs of the goals that `worked_certificates` of src/laws.rt leaves open.
 use Rattle.px_cert.proofs.WorkedLaws.{worked_certificates as law}
 use Rattle.px_cert.proofs.laws.worked_certificates.Goals as goal
 

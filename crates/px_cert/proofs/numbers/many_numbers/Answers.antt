@@ -1,4 +1,3 @@
--- Proofs of the goals that `many_numbers` of src/numbers.rt leaves open.
 use Rattle.std.proofs.Common.{ℕ, List, Bor, Global, Vec}
 use Rattle.px_cert.specs.Reading.{many_at, number_at}
 use Rattle.px_cert.proofs.Loop.{carried, ends, is_done, keeps_on}

@@ -1,4 +1,3 @@
--- Proofs of the goals that `many_small_numbers` of src/numbers.rt leaves open.
 use Rattle.std.proofs.Common.{◌≡◌, ℕ, List, Some, Bor, Global, Vec, subst}
 use Rattle.px_cert.specs.Reading.{IsRefusal, many_at, number_at}
 use Rattle.px_cert.proofs.Loop.{carried, ends, is_done, keeps_on}

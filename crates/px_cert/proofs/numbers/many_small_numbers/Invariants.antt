@@ -1,4 +1,3 @@
--- What the loops of `many_small_numbers` in src/numbers.rt keep true.
 use Rattle.std.proofs.Common.{◌≡◌, ◌-◌}
 use Rattle.px_cert.specs.Reading.{many_at, number_at}
 use Rattle.px_cert.proofs.Loop.{with_front}

@@ -1,4 +1,3 @@
--- Proofs of the goals that `operator_line` of src/operator_lines.rt leaves open.
 use Rattle.std.proofs.Common.{arith}
 use Rattle.px_cert.proofs.LineRooms.{sorts_few}
 use Rattle.px_cert.proofs.operator_lines.operator_line.Goals as goal

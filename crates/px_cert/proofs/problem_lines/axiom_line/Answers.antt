@@ -1,4 +1,3 @@
--- Proofs of the goals that `axiom_line` of src/problem_lines.rt leaves open.
 use Rattle.px_cert.proofs.LineRooms.{axiom_is_clause, axiom_room}
 use Rattle.px_cert.proofs.problem_lines.axiom_line.Goals as goal
 

@@ -1,4 +1,3 @@
--- Proofs of the goals that `levels` of src/proof_terms.rt leaves open.
 use Rattle.std.proofs.Common.{rules, ◌≡◌, ◌<◌, ◌-◌, ℕ, List, [], Bor, Some, length, ap, subst, ◌∙◌, arith}
 use Rattle.std.proofs.lemmas.Grind.{common_steps}
 use Rattle.px_terms.specs.declared.clause.Clause.{Clause}

@@ -1,4 +1,3 @@
--- What the loops of `levels` in src/proof_terms.rt keep true, and why it ends.
 use Rattle.std.proofs.Common.{◌≡◌, ◌-◌, ◌+◌, ◌*◌}
 use Rattle.px_cert.specs.Reading.{many_at, proof_at}
 use Rattle.px_cert.proofs.Loop.{with_front}

@@ -1,4 +1,3 @@
--- Proofs of the goals that `next_line` of src/reading.rt leaves open.
 use Rattle.std.proofs.Common.{◌≡◌, List, ℕ, Bor, Result, sym, subst}
 use Rattle.px_cert.specs.declared.draft.Draft.{Draft}
 use Rattle.px_cert.specs.declared.refused.Refused.{Refused}

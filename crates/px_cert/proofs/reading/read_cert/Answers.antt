@@ -1,4 +1,3 @@
--- Proofs of the goals that `read_cert` of src/reading.rt leaves open.
 use Rattle.std.proofs.Common.{rules, ◌≡◌, ◌<◌, true, false, None, length, sym, subst, arith}
 use Rattle.std.proofs.lemmas.Bool.{MatchBool-at_false, MatchBool-at_true}
 use Rattle.std.proofs.lemmas.Grind.{common_steps}

@@ -1,4 +1,3 @@
--- Proofs of the goals that `fill` of src/terms.rt leaves open.
 use Rattle.std.proofs.Common.{◌<◌, ◌≤◌, List, Some, length, take, ap, ◌∙◌, arith}
 use Rattle.std.proofs.lemmas.List.{length-set, take_all, take_more_set}
 use Rattle.px_terms.specs.declared.term.Term.{Term}

@@ -1,4 +1,3 @@
--- What the loops of `fill` in src/terms.rt keep true.
 use Rattle.std.proofs.Common.{◌≡◌, ◌-◌, length, take}
 use Rattle.px_cert.specs.Reading.{many_at, term_at}
 use Rattle.px_cert.proofs.Loop.{with_front}

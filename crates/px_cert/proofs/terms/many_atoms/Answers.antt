@@ -1,4 +1,3 @@
--- Proofs of the goals that `many_atoms` of src/terms.rt leaves open.
 use Rattle.px_cert.specs.Reading.{atom_at, many_at}
 use Rattle.px_cert.proofs.Loop.{ends, is_done, keeps_on}
 use Rattle.px_cert.proofs.terms.many_atoms.Goals as goal

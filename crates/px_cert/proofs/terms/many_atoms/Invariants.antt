@@ -1,4 +1,3 @@
--- What the loops of `many_atoms` in src/terms.rt keep true.
 use Rattle.std.proofs.Common.{◌≡◌, ◌-◌}
 use Rattle.px_cert.specs.Reading.{atom_at, many_at}
 use Rattle.px_cert.proofs.Loop.{with_front}

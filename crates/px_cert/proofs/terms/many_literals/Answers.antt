@@ -1,4 +1,3 @@
--- Proofs of the goals that `many_literals` of src/terms.rt leaves open.
 use Rattle.px_cert.specs.Reading.{literal_at, many_at}
 use Rattle.px_cert.proofs.Loop.{ends, is_done, keeps_on}
 use Rattle.px_cert.proofs.terms.many_literals.Goals as goal

@@ -1,4 +1,3 @@
--- Proofs of the goals that `after` of src/words.rt leaves open.
 use Rattle.std.proofs.lemmas.Bool.Decides.{Decides-eqb}
 use Rattle.std.proofs.lemmas.Slice.Eq.{strip_prefix_is}
 use Rattle.px_cert.proofs.DigitLoops.{after_is}

@@ -1,4 +1,3 @@
--- What the loops of `digit_count` in src/words.rt keep true.
 use Rattle.std.proofs.Common.{◌≡◌, ◌+◌, drop, take, true}
 use Rattle.std.specs.Char.{is_ascii_digit}
 use Rattle.std.specs.List.{list_all}

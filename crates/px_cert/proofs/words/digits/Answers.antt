@@ -1,4 +1,3 @@
--- Proofs of the goals that `digits` of src/words.rt leaves open.
 use Rattle.std.proofs.Common.{◌≡◌, true, false}
 use Rattle.px_cert.specs.Reading.{is_plain}
 use Rattle.px_cert.proofs.DigitLoops.{digits_high, digits_other, digits_read}

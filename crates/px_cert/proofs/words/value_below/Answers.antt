@@ -1,4 +1,3 @@
--- Proofs of the goals that `value_below` of src/words.rt leaves open.
 use Rattle.std.proofs.Common.{arith, drop}
 use Rattle.px_cert.proofs.DigitLoops.{read_is_more}
 use Rattle.px_cert.proofs.words.value_below.Goals as goal

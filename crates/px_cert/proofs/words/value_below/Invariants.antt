@@ -1,4 +1,3 @@
--- What the loops of `value_below` in src/words.rt keep true.
 use Rattle.std.proofs.Common.{◌≡◌, ◌<◌, drop}
 use Rattle.px_cert.specs.Reading.{read_on}
 use Rattle.px_cert.proofs.words.value_below.Given as goal

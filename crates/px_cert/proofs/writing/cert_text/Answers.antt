@@ -1,4 +1,3 @@
--- Proofs of the goals that `cert_text` of src/writing.rt leaves open.
 use Rattle.std.proofs.Common.{ℕ, Global, Vec, ap}
 use Rattle.std.specs.Prelude.{string_bytes}
 use Rattle.px_cert.proofs.Certifying.{accepted}

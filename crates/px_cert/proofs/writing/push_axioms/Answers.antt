@@ -1,4 +1,3 @@
--- Proofs of the goals that `push_axioms` of src/writing.rt leaves open.
 use Rattle.std.proofs.Common.{◌<◌, length, arith}
 use Rattle.std.specs.Prelude.{string_bytes}
 use Rattle.px_terms.specs.declared.clause.Clause.{Clause}

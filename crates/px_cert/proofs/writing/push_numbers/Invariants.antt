@@ -1,4 +1,3 @@
--- What the loops of `push_numbers` in src/writing.rt keep true.
 use Rattle.std.proofs.Common.{◌≡◌, ◌++◌, take}
 use Rattle.std.specs.Prelude.{string_bytes}
 use Rattle.std.specs.List.{flat_map}

@@ -1,4 +1,3 @@
--- Proofs of the goals that `push_problem` of src/writing.rt leaves open.
 use Rattle.std.specs.Prelude.{string_bytes}
 use Rattle.px_base.proofs.Loops.{on_ok}
 use Rattle.px_cert.proofs.TextLines.{problem_written}

@@ -1,4 +1,3 @@
--- Proofs of the goals that `demo_script` of src/script.rt leaves open.
 use Rattle.std.proofs.Common.{◌≡◌, rules}
 use Rattle.px_demo.specs.Script.{demo_script}
 use Rattle.px_demo.proofs.Lengths.{text_short}

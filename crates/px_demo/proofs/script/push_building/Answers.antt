@@ -1,4 +1,3 @@
--- Proofs of the goals that `push_building` of src/script.rt leaves open.
 use Rattle.px_demo.proofs.Texts.{building-grows, on-ok}
 use Rattle.px_demo.proofs.script.push_building.Goals as goal
 

@@ -1,4 +1,3 @@
--- Proofs of the goals that `push_errand` of src/script.rt leaves open.
 use Rattle.px_demo.specs.Script.{learn_line, plan_line, run_line}
 use Rattle.px_demo.proofs.Texts.{on-ok, three-grow}
 use Rattle.px_demo.proofs.script.push_errand.Goals as goal

@@ -1,4 +1,3 @@
--- Proofs of the goals that `push_errands` of src/script.rt leaves open.
 use Rattle.std.proofs.Common.{◌+◌, ◌++◌, ℕ, ap, ◌∙◌, arith}
 use Rattle.std.specs.Prelude.{string_bytes}
 use Rattle.px_demo.specs.Errands.{room_after}

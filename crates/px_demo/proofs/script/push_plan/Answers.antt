@@ -1,4 +1,3 @@
--- Proofs of the goals that `push_plan` of src/script.rt leaves open.
 use Rattle.std.proofs.Common.{◌≡◌, ◌++◌, ℕ, List, rules, subst, sym}
 use Rattle.std.specs.Prelude.{OnOk, string_bytes}
 use Rattle.px_demo.proofs.Texts.{plan-text}

@@ -1,4 +1,3 @@
--- Proofs of the goals that `push_rooms` of src/script.rt leaves open.
 use Rattle.std.proofs.Common.{arith}
 use Rattle.px_demo.specs.Script.{room_line}
 use Rattle.px_demo.proofs.Texts.{first-line, grows}

@@ -1,4 +1,3 @@
--- Proofs of the goals that `demo_is_script` of src/laws.rt leaves open.
 use Rattle.px_demo_script.proofs.Law.{demo_is_script}
 use Rattle.px_demo_script.proofs.laws.demo_is_script.Goals as goal
 

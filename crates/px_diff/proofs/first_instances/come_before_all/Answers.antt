@@ -1,4 +1,3 @@
--- Proofs of the goals that `come_before_all` of src/first_instances.rt leaves open.
 use Rattle.px_diff.proofs.FirstOrder.{come_before-most}
 use Rattle.px_diff.proofs.first_instances.come_before_all.Goals as goal
 

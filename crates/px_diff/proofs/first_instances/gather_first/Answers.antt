@@ -1,4 +1,3 @@
--- Proofs of the goals that `gather_first` of src/first_instances.rt leaves open.
 use Rattle.std.proofs.Common.{◌+◌, List, sym, subst, take}
 use Rattle.px_entries.specs.Instances.{IsCovered, StandsFor}
 use Rattle.px_entries.specs.declared.partial.PartialInstance.{PartialInstance}

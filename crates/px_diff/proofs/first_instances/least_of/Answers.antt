@@ -1,4 +1,3 @@
--- Proofs of the goals that `least_of` of src/first_instances.rt leaves open.
 use Rattle.std.proofs.Common.{sym, subst, take}
 use Rattle.px_terms.specs.declared.instance.OpInst.{OpInst}
 use Rattle.px_diff.specs.Firsts.{IsNotAfter}

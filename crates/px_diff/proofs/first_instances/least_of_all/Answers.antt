@@ -1,4 +1,3 @@
--- Proofs of the goals that `least_of_all` of src/first_instances.rt leaves open.
 use Rattle.std.proofs.Common.{List, subst, inl, inr, arith}
 use Rattle.std.proofs.lemmas.List.{take_all}
 use Rattle.px_diff.specs.Firsts.{IsNotAfter}

@@ -1,4 +1,3 @@
--- What the loops of `least_of_all` in src/first_instances.rt keep true.
 use Rattle.std.proofs.Common.{take}
 use Rattle.px_terms.specs.declared.instance.OpInst.{OpInst}
 use Rattle.px_diff.specs.Firsts.{IsNotAfter}

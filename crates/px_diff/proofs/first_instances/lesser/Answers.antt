@@ -1,4 +1,3 @@
--- Proofs of the goals that `lesser` of src/first_instances.rt leaves open.
 use Rattle.std.proofs.Common.{◌∙◌, sym}
 use Rattle.px_diff.proofs.FirstOrder.{at_most-itself, lesser-first, lesser-second}
 use Rattle.px_diff.proofs.first_instances.lesser.Goals as goal

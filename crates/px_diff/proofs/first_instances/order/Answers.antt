@@ -1,4 +1,3 @@
--- Proofs of the goals that `order` of src/first_instances.rt leaves open.
 use Rattle.std.proofs.lemmas.List.Filters.{dedup_is}
 use Rattle.px_terms.specs.Order.{instance_eq}
 use Rattle.px_terms.specs.OrderLaws.{instance_eq-decides}

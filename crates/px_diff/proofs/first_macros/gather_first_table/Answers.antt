@@ -1,4 +1,3 @@
--- Proofs of the goals that `gather_first_table` of src/first_macros.rt leaves open.
 use Rattle.std.proofs.Common.{get_or, arith}
 use Rattle.px_proof.specs.PlaceLaws.{slice_get-read}
 use Rattle.px_diff.specs.Macros.{IsOfTable}

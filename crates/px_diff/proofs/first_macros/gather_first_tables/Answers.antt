@@ -1,4 +1,3 @@
--- Proofs of the goals that `gather_first_tables` of src/first_macros.rt leaves open.
 use Rattle.px_table.specs.EntryOrder.{order_of_entries}
 use Rattle.px_diff.specs.Firsts.{BringsFirst, IsOfTableFrom}
 use Rattle.px_diff.specs.Macros.{GathersEntries, IsOfTable}

@@ -1,4 +1,3 @@
--- Proofs of the goals that `first_for` of src/firsts.rt leaves open.
 use Rattle.px_diff.specs.Firsts.{AreFirstEntries}
 use Rattle.px_diff.proofs.FirstLemmas.{first-macros, first-operators, first-ordered, not-all}
 use Rattle.px_diff.proofs.firsts.first_for.Goals as goal

@@ -1,4 +1,3 @@
--- Proofs of the goals that `first_operators` of src/firsts.rt leaves open.
 use Rattle.std.proofs.Common.{◌∙◌, ap, map}
 use Rattle.px_table.specs.declared.entry.Entry.TheVariants.{Op}
 use Rattle.px_diff.proofs.FirstLemmas.{operators-told}

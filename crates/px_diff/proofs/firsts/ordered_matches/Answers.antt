@@ -1,4 +1,3 @@
--- Proofs of the goals that `ordered_matches` of src/firsts.rt leaves open.
 use Rattle.px_terms.specs.Operators.{adds}
 use Rattle.std.specs.Prelude.{Contains}
 use Rattle.px_gaps.specs.Closings.{OneOf}

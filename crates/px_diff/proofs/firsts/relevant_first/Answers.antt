@@ -1,4 +1,3 @@
--- Proofs of the goals that `relevant_first` of src/firsts.rt leaves open.
 use Rattle.std.proofs.Common.{[], subst}
 use Rattle.px_diff.specs.Outcomes.{AtStop}
 use Rattle.px_diff.specs.Pushes.{LimitsRelevant}

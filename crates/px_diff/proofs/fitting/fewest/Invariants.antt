@@ -1,4 +1,3 @@
--- What the loops of `fewest` in src/fitting.rt keep true.
 use Rattle.std.proofs.Common.{◌<◌, length}
 use Rattle.px_diff.proofs.fitting.fewest.Given as goal
 

@@ -1,4 +1,3 @@
--- What the loops of `numbers_below` in src/fitting.rt keep true.
 use Rattle.std.proofs.Common.{◌<◌}
 use Rattle.std.specs.Prelude.{All}
 use Rattle.px_diff.proofs.fitting.numbers_below.Given as goal

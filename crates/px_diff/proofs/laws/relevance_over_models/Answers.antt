@@ -1,4 +1,3 @@
--- Proofs of the goals that `relevance_over_models` of src/laws.rt leaves open.
 use Rattle.px_diff.proofs.ModelLaws.{relevance-over_models}
 use Rattle.px_diff.proofs.laws.relevance_over_models.Goals as goal
 

@@ -1,4 +1,3 @@
--- Proofs of the goals that `relevance_over_stacks` of src/laws.rt leaves open.
 use Rattle.px_diff.proofs.StackLaws.{relevance-over_stacks}
 use Rattle.px_diff.proofs.laws.relevance_over_stacks.Goals as goal
 

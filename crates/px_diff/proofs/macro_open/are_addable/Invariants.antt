@@ -1,4 +1,3 @@
--- What the loops of `are_addable` in src/macro_open.rt keep true.
 use Rattle.px_terms.specs.Operators.{IsAddable}
 use Rattle.px_base.proofs.Loops.{AllBefore}
 use Rattle.px_diff.proofs.macro_open.are_addable.Given as goal

@@ -1,4 +1,3 @@
--- Proofs of the goals that `are_settled_marks` of src/macro_open.rt leaves open.
 use Rattle.std.proofs.Common.{List, length, subst, sym}
 use Rattle.std.specs.Prelude.{All, Contains}
 use Rattle.px_base.specs.ListLaws.{All-at}

@@ -1,4 +1,3 @@
--- What the loops of `are_settled_marks` in src/macro_open.rt keep true.
 use Rattle.px_diff.specs.MacroOpen.{IsSettledMark}
 use Rattle.px_base.proofs.Loops.{AllBefore}
 use Rattle.px_diff.proofs.macro_open.are_settled_marks.Given as goal

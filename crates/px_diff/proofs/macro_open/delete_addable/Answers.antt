@@ -1,4 +1,3 @@
--- Proofs of the goals that `delete_addable` of src/macro_open.rt leaves open.
 use Rattle.px_base.specs.ListLaws.{All-at}
 use Rattle.px_diff.specs.MacroOpen.{DeletesAddable}
 use Rattle.px_base.proofs.Loops.{all_before_next, all_whole, contains_here, is_false, is_true, said_no, said_yes}

@@ -1,4 +1,3 @@
--- What the loops of `delete_addable` in src/macro_open.rt keep true.
 use Rattle.px_diff.specs.MacroOpen.{DeletesAddable}
 use Rattle.px_base.proofs.Loops.{AllBefore}
 use Rattle.px_diff.proofs.macro_open.delete_addable.Given as goal

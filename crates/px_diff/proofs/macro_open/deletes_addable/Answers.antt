@@ -1,4 +1,3 @@
--- Proofs of the goals that `deletes_addable` of src/macro_open.rt leaves open.
 use Rattle.std.proofs.Common.{◌≡◌, ◌∙◌, List, ap, subst}
 use Rattle.std.specs.Prelude.{◌↔◌, All, IsTrue}
 use Rattle.px_terms.specs.Operators.{IsAddable, schema_of}

@@ -1,4 +1,3 @@
--- Proofs of the goals that `facts_suffice` of src/macro_open.rt leaves open.
 use Rattle.std.proofs.Common.{sym, subst}
 use Rattle.std.specs.Prelude.{All}
 use Rattle.px_diff.specs.MacroOpen.{DeletesAddable}

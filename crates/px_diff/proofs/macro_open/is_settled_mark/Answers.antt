@@ -1,4 +1,3 @@
--- Proofs of the goals that `is_settled_mark` of src/macro_open.rt leaves open.
 use Rattle.std.proofs.Common.{sym, subst}
 use Rattle.px_diff.specs.MacroOpen.{IsSettledMark}
 use Rattle.px_entries.specs.Plain.{IsSettled}

@@ -1,4 +1,3 @@
--- What the loops of `keep_all` in src/macros.rt keep true.
 use Rattle.px_gaps.specs.Bindings.{open_term_count}
 use Rattle.px_diff.specs.Macros.{GathersEntries, IsMacroBefore}
 use Rattle.px_diff.proofs.macros.+keep_all.Given as goal

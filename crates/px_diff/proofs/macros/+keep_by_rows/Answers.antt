@@ -1,4 +1,3 @@
--- Proofs of the goals that `keep_by_rows` of src/macros.rt leaves open.
 use Rattle.std.proofs.Common.{◌≡◌, ◌∙◌, ◌<◌, ◌+◌, ◌++◌, ℕ, List, length, take, drop, get_or, ap, sym, subst, arith}
 use Rattle.std.specs.Prelude.{All, Contains}
 use Rattle.px_table.specs.declared.entry.Entry.{Entry}

@@ -1,4 +1,3 @@
--- What the loops of `keep_by_rows` in src/macros.rt keep true.
 use Rattle.std.proofs.Common.{length, take}
 use Rattle.px_diff.specs.Macros.{GathersEntries, IsMacroAmong}
 use Rattle.px_diff.proofs.macros.+keep_by_rows.Given as goal

@@ -1,4 +1,3 @@
--- Proofs of the goals that `choices_of_table` of src/macros.rt leaves open.
 use Rattle.std.proofs.Common.{◌≡◌, ◌∙◌, ℕ, length, ap, sym, subst, arith}
 use Rattle.std.specs.Prelude.{All}
 use Rattle.px_table.specs.Tables.{IsStepOf}

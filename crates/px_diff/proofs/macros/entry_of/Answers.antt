@@ -1,4 +1,3 @@
--- Proofs of the goals that `entry_of` of src/macros.rt leaves open.
 use Rattle.std.proofs.Common.{ℕ, List, ap}
 use Rattle.px_table.specs.declared.entry.Entry.TheVariants.{Macro}
 use Rattle.px_diff.proofs.macros.entry_of.Goals as goal

@@ -1,4 +1,3 @@
--- Proofs of the goals that `gather_table` of src/macros.rt leaves open.
 use Rattle.std.proofs.Common.{get_or, arith}
 use Rattle.px_proof.specs.PlaceLaws.{slice_get-read}
 use Rattle.px_diff.proofs.GatherLemmas.{shorter-all, shorter-next, shorter-none, learned-at}

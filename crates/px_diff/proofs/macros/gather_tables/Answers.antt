@@ -1,4 +1,3 @@
--- Proofs of the goals that `gather_tables` of src/macros.rt leaves open.
 use Rattle.px_diff.proofs.GatherLemmas.{earlier-all, earlier-next, earlier-none}
 use Rattle.px_diff.proofs.macros.gather_tables.Goals as goal
 

@@ -1,4 +1,3 @@
--- What the loops of `gather_tables` in src/macros.rt keep true.
 use Rattle.std.proofs.Common.{◌<◌, ℕ}
 use Rattle.px_table.specs.declared.entry.Entry.{Entry}
 use Rattle.px_diff.specs.Macros.{GathersEntries, IsOfTable}

@@ -1,4 +1,3 @@
--- Proofs of the goals that `is_relevant_macro` of src/macros.rt leaves open.
 use Rattle.std.proofs.Common.{◌∙◌, List, take, sym, subst}
 use Rattle.std.specs.Prelude.{◌↔◌, All, Contains, IsTrue}
 use Rattle.px_table.specs.Kernels.{steps_under}

@@ -1,4 +1,3 @@
--- Proofs of the goals that `keep_known` of src/macros.rt leaves open.
 use Rattle.std.proofs.Common.{subst}
 use Rattle.px_entries.specs.Entries.{obligations_of}
 use Rattle.px_gaps.specs.Known.{IsKnownOf}

@@ -1,4 +1,3 @@
--- Proofs of the goals that `keep_listed` of src/macros.rt leaves open.
 use Rattle.std.proofs.Common.{List, sym, subst}
 use Rattle.px_base.specs.ListLaws.{All-at}
 use Rattle.px_terms.specs.declared.term.Term.{Term}

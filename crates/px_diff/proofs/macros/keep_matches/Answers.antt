@@ -1,4 +1,3 @@
--- Proofs of the goals that `keep_matches` of src/macros.rt leaves open.
 use Rattle.std.proofs.Common.{◌≡◌, ◌∙◌, ℕ, List, length, ap, sym, subst}
 use Rattle.std.specs.Prelude.{All}
 use Rattle.px_base.specs.ListLaws.{All-at}

@@ -1,4 +1,3 @@
--- Proofs of the goals that `keep_relevant` of src/macros.rt leaves open.
 use Rattle.std.proofs.Common.{sym, subst}
 use Rattle.std.specs.Prelude.{All}
 use Rattle.px_table.specs.declared.entry.Entry.{Entry}

@@ -1,4 +1,3 @@
--- Proofs of the goals that `keep_told` of src/macros.rt leaves open.
 use Rattle.std.proofs.Common.{List, [], ◌∷◌, get_or, subst}
 use Rattle.std.proofs.lemmas.List.{get_or_default}
 use Rattle.px_terms.specs.declared.term.Term.{Term}

@@ -1,4 +1,3 @@
--- What the loops of `keep_told` in src/macros.rt keep true.
 use Rattle.std.proofs.Common.{List, [], ◌∷◌, take}
 use Rattle.px_table.specs.declared.entry.Entry.{Entry}
 use Rattle.px_terms.specs.declared.term.Term.{Term}

@@ -1,4 +1,3 @@
--- Proofs of the goals that `gather` of src/pushes.rt leaves open.
 use Rattle.std.proofs.Common.{◌≡◌, ◌<◌, ◌+◌, ℕ, List, sym, ◌∙◌, subst, inl, inr, arith}
 use Rattle.std.specs.Prelude.{All, slice_index}
 use Rattle.px_prover.proofs.PatternLists.{patterns-are}

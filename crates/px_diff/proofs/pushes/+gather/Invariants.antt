@@ -1,4 +1,3 @@
--- What the loops of `gather` in src/pushes.rt keep true.
 use Rattle.std.proofs.Common.{◌<◌, ℕ, List}
 use Rattle.std.specs.Prelude.{slice_index}
 use Rattle.px_terms.specs.declared.instance.OpInst.{OpInst}

@@ -1,4 +1,3 @@
--- What the loops of `entries_of` in src/pushes.rt keep true.
 use Rattle.std.proofs.Common.{◌≡◌, map, take}
 use Rattle.px_table.specs.declared.entry.Entry.TheVariants.{Op}
 use Rattle.px_diff.proofs.pushes.entries_of.Given as goal

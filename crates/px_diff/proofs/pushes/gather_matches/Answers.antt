@@ -1,4 +1,3 @@
--- Proofs of the goals that `gather_matches` of src/pushes.rt leaves open.
 use Rattle.std.proofs.Common.{◌+◌, take}
 use Rattle.px_entries.specs.Instances.{IsCovered, StandsFor}
 use Rattle.px_entries.specs.declared.partial.PartialInstance.{PartialInstance}

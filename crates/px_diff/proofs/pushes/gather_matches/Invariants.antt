@@ -1,4 +1,3 @@
--- What the loops of `gather_matches` in src/pushes.rt keep true.
 use Rattle.std.proofs.Common.{take}
 use Rattle.px_diff.specs.Gathering.{Gathers}
 use Rattle.px_entries.specs.Instances.{IsCovered}

@@ -1,4 +1,3 @@
--- Proofs of the goals that `gather_one` of src/pushes.rt leaves open.
 use Rattle.std.proofs.Common.{subst}
 use Rattle.px_table.specs.declared.entry.Entry.TheVariants.{Op}
 use Rattle.px_entries.specs.Entries.{obligations_of}

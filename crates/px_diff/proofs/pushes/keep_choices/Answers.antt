@@ -1,4 +1,3 @@
--- Proofs of the goals that `keep_choices` of src/pushes.rt leaves open.
 use Rattle.std.proofs.Common.{◌≡◌, ◌⊎◌, ℕ, List, sym, subst, arith}
 use Rattle.std.specs.Prelude.{◌↔◌, Contains}
 use Rattle.std.proofs.lemmas.List.{take_all}

@@ -1,4 +1,3 @@
--- What the loops of `keep_choices` in src/pushes.rt keep true.
 use Rattle.std.specs.Prelude.{◌≡◌, ◌↔◌, ◌⊎◌, ℕ, List, take, Contains}
 use Rattle.px_terms.specs.declared.instance.OpInst.{OpInst}
 use Rattle.px_gaps.specs.Closings.{OneOf}

@@ -1,4 +1,3 @@
--- Proofs of the goals that `keep_open` of src/pushes.rt leaves open.
 use Rattle.std.proofs.Common.{ℕ, sym, subst}
 use Rattle.std.specs.Prelude.{◌↔◌, List, All, Contains}
 use Rattle.px_prover.proofs.PatternLists.{patterns-are}

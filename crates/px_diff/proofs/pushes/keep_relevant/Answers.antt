@@ -1,4 +1,3 @@
--- Proofs of the goals that `keep_relevant` of src/pushes.rt leaves open.
 use Rattle.std.proofs.Common.{◌∙◌, refl, sym, subst}
 use Rattle.px_terms.specs.Validity.{IsInstanceOf}
 use Rattle.px_diff.specs.Gathering.{instance_by}

@@ -1,4 +1,3 @@
--- Proofs of the goals that `order` of src/pushes.rt leaves open.
 use Rattle.std.proofs.lemmas.List.Filters.{dedup_is}
 use Rattle.px_table.specs.EntryOrder.{entry_eq}
 use Rattle.px_diff.proofs.WholeLemmas.{entries-ascend, entries-members}

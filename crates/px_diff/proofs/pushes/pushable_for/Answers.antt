@@ -1,4 +1,3 @@
--- Proofs of the goals that `pushable_for` of src/pushes.rt leaves open.
 use Rattle.std.proofs.Common.{◌∙◌, List, [], ap, map, sym, subst}
 use Rattle.px_table.specs.declared.entry.Entry.TheVariants.{Op}
 use Rattle.px_terms.specs.declared.instance.OpInst.{OpInst}

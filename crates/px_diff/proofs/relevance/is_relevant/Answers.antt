@@ -1,4 +1,3 @@
--- Proofs of the goals that `is_relevant` of src/relevance.rt leaves open.
 use Rattle.std.proofs.Common.{[]}
 use Rattle.std.proofs.lemmas.List.Elements.{All-cons, All-nil}
 use Rattle.px_terms.specs.Validity.{IsInstanceOf}

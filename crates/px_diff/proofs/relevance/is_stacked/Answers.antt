@@ -1,4 +1,3 @@
--- Proofs of the goals that `is_stacked` of src/relevance.rt leaves open.
 use Rattle.std.proofs.lemmas.List.Elements.{Decides-contains, contains_decides}
 use Rattle.px_table.specs.EntryLaws.{entry_eq-decides}
 use Rattle.px_table.specs.EntryOrder.{entry_eq}

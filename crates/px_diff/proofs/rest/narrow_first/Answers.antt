@@ -1,4 +1,3 @@
--- Proofs of the goals that `narrow_first` of src/rest.rt leaves open.
 use Rattle.std.proofs.Common.{◌∙◌, ap}
 use Rattle.px_diff.proofs.Reordering.{next-first, next-second}
 use Rattle.px_diff.proofs.rest.narrow_first.Goals.{then-has_object+in_ok-push, else-has_object+in_ok-push-2}

@@ -1,4 +1,3 @@
--- What the loops of `narrow_first` in src/rest.rt keep true.
 use Rattle.std.proofs.Common.{take}
 use Rattle.px_diff.specs.Reordered.{AreParted}
 use Rattle.px_diff.proofs.rest.narrow_first.Given as goal

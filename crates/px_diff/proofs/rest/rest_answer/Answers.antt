@@ -1,4 +1,3 @@
--- Proofs of the goals that `rest_answer` of src/rest.rt leaves open.
 use Rattle.std.proofs.Common.{sym, subst}
 use Rattle.std.specs.Prelude.{All}
 use Rattle.px_terms.specs.Validity.{IsAtomOf}

@@ -1,4 +1,3 @@
--- Proofs of the goals that `rest_of` of src/rest.rt leaves open.
 use Rattle.std.proofs.Common.{◌∙◌, ap}
 use Rattle.px_base.proofs.Loops.{said_no, said_yes}
 use Rattle.px_entries.proofs.RestLaws.{rest-next_kept, rest-next_left}

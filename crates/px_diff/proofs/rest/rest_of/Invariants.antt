@@ -1,4 +1,3 @@
--- What the loops of `rest_of` in src/rest.rt keep true.
 use Rattle.std.proofs.Common.{take}
 use Rattle.px_entries.specs.Rest.{IsRest}
 use Rattle.px_diff.proofs.rest.rest_of.Given as goal

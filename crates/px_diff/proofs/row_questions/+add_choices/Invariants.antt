@@ -1,4 +1,3 @@
--- What the loops of `add_choices` in src/row_questions.rt keep true.
 use Rattle.px_question.specs.Settings.{setting_of}
 use Rattle.px_gaps.specs.Bindings.{open_term_count}
 use Rattle.px_diff.specs.RowQuestions.{AreAskedOf, Widens}

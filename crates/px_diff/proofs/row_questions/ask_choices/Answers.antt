@@ -1,4 +1,3 @@
--- Proofs of the goals that `ask_choices` of src/row_questions.rt leaves open.
 use Rattle.std.proofs.Common.{◌≡◌, ◌∙◌, List, length, sym, subst, arith}
 use Rattle.std.specs.Prelude.{All}
 use Rattle.px_prover.specs.declared.pattern.GapPattern.{GapPattern}

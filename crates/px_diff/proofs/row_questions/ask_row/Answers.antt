@@ -1,4 +1,3 @@
--- Proofs of the goals that `ask_row` of src/row_questions.rt leaves open.
 use Rattle.std.proofs.Common.{◌≡◌, List, sym, subst}
 use Rattle.std.specs.Prelude.{◌↔◌, Contains}
 use Rattle.px_prover.specs.declared.pattern.GapPattern.{GapPattern}

@@ -1,4 +1,3 @@
--- Proofs of the goals that `choices_of_row` of src/row_questions.rt leaves open.
 use Rattle.std.proofs.Common.{◌≡◌, List, length, sym, subst}
 use Rattle.std.specs.Prelude.{All}
 use Rattle.std.proofs.lemmas.List.Elements.{All-nil}

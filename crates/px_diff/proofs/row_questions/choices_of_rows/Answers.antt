@@ -1,4 +1,3 @@
--- Proofs of the goals that `choices_of_rows` of src/row_questions.rt leaves open.
 use Rattle.std.proofs.Common.{◌≡◌, ℕ, List, length, sym, subst, arith}
 use Rattle.px_question.specs.Settings.{setting_of}
 use Rattle.px_terms.specs.declared.term.Term.{Term}

@@ -1,4 +1,3 @@
--- What the loops of `choices_of_rows` in src/row_questions.rt keep true.
 use Rattle.px_question.specs.Settings.{setting_of}
 use Rattle.px_diff.specs.RowQuestions.{AreRowsKnown}
 use Rattle.px_diff.proofs.row_questions.choices_of_rows.Given as goal

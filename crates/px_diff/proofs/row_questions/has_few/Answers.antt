@@ -1,4 +1,3 @@
--- Proofs of the goals that `has_few` of src/row_questions.rt leaves open.
 use Rattle.std.proofs.Common.{ℕ, [], ◌∷◌, length, ap, sym, subst}
 use Rattle.std.proofs.lemmas.List.Elements.{All-cons, All-nil}
 use Rattle.px_question.specs.Limits.{AreFewGapShapes}

@@ -1,4 +1,3 @@
--- Proofs of the goals that `have_few` of src/row_questions.rt leaves open.
 use Rattle.std.proofs.Common.{[], ◌∷◌, length}
 use Rattle.px_base.specs.ListLaws.{All-at}
 use Rattle.px_question.specs.Limits.{AreFewGapShapes}

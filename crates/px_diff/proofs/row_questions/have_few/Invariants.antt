@@ -1,4 +1,3 @@
--- What the loops of `have_few` in src/row_questions.rt keep true.
 use Rattle.std.specs.Prelude.{[], ◌∷◌, length}
 use Rattle.px_question.specs.Limits.{AreFewGapShapes}
 use Rattle.px_question.specs.Settings.{setting_of}

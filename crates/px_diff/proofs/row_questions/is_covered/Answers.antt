@@ -1,4 +1,3 @@
--- Proofs of the goals that `is_covered` of src/row_questions.rt leaves open.
 use Rattle.std.proofs.Common.{◌≡◌, ◌∙◌, List, length, ap, sym, subst}
 use Rattle.px_base.specs.ListLaws.{All-at}
 use Rattle.px_terms.specs.declared.term.Term.{Term}

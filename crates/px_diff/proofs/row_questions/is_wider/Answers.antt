@@ -1,4 +1,3 @@
--- Proofs of the goals that `is_wider` of src/row_questions.rt leaves open.
 use Rattle.std.proofs.Common.{◌≡◌, ◌<◌, ◌∙◌, ℕ, length, get_or, ap, sym, inl, inr, arith}
 use Rattle.std.proofs.lemmas.List.{get_or_default}
 use Rattle.px_terms.specs.declared.term.Term.TheVariants.{Any, Obj}

@@ -1,4 +1,3 @@
--- What the loops of `is_wider` in src/row_questions.rt keep true.
 use Rattle.std.proofs.Common.{◌≡◌, ◌<◌, ℕ, get_or}
 use Rattle.px_terms.specs.declared.term.Term.TheVariants.{Any, Obj}
 use Rattle.px_diff.proofs.row_questions.is_wider.Given as goal

@@ -1,4 +1,3 @@
--- Proofs of the goals that `push_choice` of src/row_questions.rt leaves open.
 use Rattle.std.proofs.Common.{◌≡◌, List, length, ap, subst, sym}
 use Rattle.std.specs.Prelude.{All, Contains}
 use Rattle.std.proofs.lemmas.List.Elements.{All-drop}

@@ -1,4 +1,3 @@
--- Proofs of the goals that `push_offer` of src/row_questions.rt leaves open.
 use Rattle.std.proofs.Common.{List, sym, subst}
 use Rattle.px_terms.specs.declared.term.Term.{Term}
 use Rattle.px_gaps.specs.Bindings.{ExtendsTerms}

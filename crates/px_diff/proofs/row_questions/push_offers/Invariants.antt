@@ -1,4 +1,3 @@
--- What the loops of `push_offers` in src/row_questions.rt keep true.
 use Rattle.std.proofs.Common.{◌-◌, ◌<◌, ◌≤◌, ℕ, List, length, get_or}
 use Rattle.px_prover.specs.declared.pattern.GapPattern.{GapPattern}
 use Rattle.px_gaps.specs.Bindings.{ExtendsTerms}

@@ -1,4 +1,3 @@
--- Proofs of the goals that `may_fit` of src/sorted.rt leaves open.
 use Rattle.std.proofs.Common.{◌∙◌, ap, subst, sym}
 use Rattle.px_terms.specs.Operators.{schema_of}
 use Rattle.px_terms.specs.Sorts.{IsWellSorted}

@@ -1,4 +1,3 @@
--- Proofs of the goals that `step_may_fit` of src/sorted.rt leaves open.
 use Rattle.std.proofs.Common.{◌∙◌, ap, length, map}
 use Rattle.px_terms.specs.Language.{substitute}
 use Rattle.px_terms.specs.Operators.{schema_of}

@@ -1,4 +1,3 @@
--- Proofs of the goals that `steps_may_fit` of src/sorted.rt leaves open.
 use Rattle.std.proofs.Common.{arith}
 use Rattle.px_diff.proofs.SortedLemmas.{read-step-fits}
 use Rattle.px_diff.proofs.sorted.steps_may_fit.Goals as goal

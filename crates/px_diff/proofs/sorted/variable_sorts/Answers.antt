@@ -1,4 +1,3 @@
--- Proofs of the goals that `variable_sorts` of src/sorted.rt leaves open.
 use Rattle.std.proofs.Common.{◌∙◌, ◌<◌, ℕ, List, ap, arith, subst}
 use Rattle.std.specs.Prelude.{slice_index}
 use Rattle.std.proofs.lemmas.List.{length-set}

@@ -1,4 +1,3 @@
--- What the loops of `variable_sorts` in src/sorted.rt keep true.
 use Rattle.std.proofs.Common.{◌≡◌, ◌<◌, ℕ, List, length}
 use Rattle.std.specs.Prelude.{slice_index}
 use Rattle.px_terms.specs.Sorts.{FitsSort, IsWellSorted}

@@ -1,4 +1,3 @@
--- Proofs of the goals that `duo_traces_exist` of src/laws.rt leaves open.
 use Rattle.px_duo.proofs.Existing.{duo_traces_exist}
 use Rattle.px_duo.proofs.laws.duo_traces_exist.Goals as goal
 

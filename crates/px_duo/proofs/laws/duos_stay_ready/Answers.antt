@@ -1,4 +1,3 @@
--- Proofs of the goals that `duos_stay_ready` of src/laws.rt leaves open.
 use Rattle.px_duo.proofs.Readying.{duos_stay_ready}
 use Rattle.px_duo.proofs.laws.duos_stay_ready.Goals as goal
 

@@ -1,4 +1,3 @@
--- Proofs of the goals that `spared_reach_goal` of src/laws.rt leaves open.
 use Rattle.px_duo.proofs.Reaching.{spared_reach_goal}
 use Rattle.px_duo.proofs.laws.spared_reach_goal.Goals as goal
 

@@ -1,4 +1,3 @@
--- Proofs of the goals that `named_goal` of src/building.rt leaves open.
 use Rattle.std.proofs.Common.{length}
 use Rattle.px_terms.specs.declared.atom.Atom.{Atom}
 use Rattle.px_terms.specs.Language.{IsVariableBelow}

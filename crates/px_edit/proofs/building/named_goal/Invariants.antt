@@ -1,4 +1,3 @@
--- What the loops of `named_goal` in src/building.rt keep true.
 use Rattle.std.proofs.Common.{◌≡◌, take, map}
 use Rattle.px_terms.specs.Substitution.{substitute_atom}
 use Rattle.px_edit.proofs.building.named_goal.Given as goal

@@ -1,4 +1,3 @@
--- Proofs of the goals that `named_rows` of src/building.rt leaves open.
 use Rattle.std.proofs.Common.{List, length, map, sym, subst}
 use Rattle.std.specs.Prelude.{All, flat_map}
 use Rattle.px_terms.specs.Language.{IsVariableBelow}

@@ -1,4 +1,3 @@
--- Proofs of the goals that `named_steps` of src/building.rt leaves open.
 use Rattle.std.proofs.Common.{length}
 use Rattle.px_terms.specs.declared.instance.OpInst.{OpInst}
 use Rattle.px_terms.specs.Language.{IsVariableBelow}

@@ -1,4 +1,3 @@
--- Proofs of the goals that `renamed_table` of src/building.rt leaves open.
 use Rattle.std.proofs.Common.{length, ap, sym, ◌∙◌, subst}
 use Rattle.std.specs.Prelude.{All}
 use Rattle.px_terms.specs.Language.{IsVariableBelow}

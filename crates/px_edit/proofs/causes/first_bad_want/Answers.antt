@@ -1,4 +1,3 @@
--- Proofs of the goals that `first_bad_want` of src/causes.rt leaves open.
 use Rattle.std.proofs.Common.{◌≡◌, subst}
 use Rattle.px_base.specs.Answers.{both_answers, some_same}
 use Rattle.px_edit.specs.EditCauses.{IsBadWantAt, IsFirstBadWant}

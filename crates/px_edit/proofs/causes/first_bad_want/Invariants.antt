@@ -1,4 +1,3 @@
--- What the loops of `first_bad_want` in src/causes.rt keep true.
 use Rattle.std.proofs.Common.{◌<◌, ℕ}
 use Rattle.px_edit.specs.EditCauses.{IsBadWantAt}
 use Rattle.px_edit.proofs.causes.first_bad_want.Given as goal

@@ -1,4 +1,3 @@
--- Proofs of the goals that `stands_before` of src/causes.rt leaves open.
 use Rattle.std.proofs.Common.{refl, arith}
 use Rattle.px_base.specs.Answers.{both_answers}
 use Rattle.px_edit.proofs.EditSteps.{stands-nowhere, stands-there}

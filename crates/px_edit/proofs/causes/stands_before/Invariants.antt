@@ -1,4 +1,3 @@
--- What the loops of `stands_before` in src/causes.rt keep true.
 use Rattle.std.proofs.Common.{◌<◌, ◌≡◌, ℕ}
 use Rattle.std.specs.Prelude.{slice_index_or}
 use Rattle.px_edit.proofs.causes.stands_before.Given as goal

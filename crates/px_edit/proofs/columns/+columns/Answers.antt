@@ -1,4 +1,3 @@
--- Proofs of the goals that `columns` of src/columns.rt leaves open.
 use Rattle.std.proofs.Common.{◌≡◌, length, map, take, ap, ◌∙◌, arith}
 use Rattle.std.proofs.Math.Seq.{take-length}
 use Rattle.px_proof.specs.Derivation.{derivations}

@@ -1,4 +1,3 @@
--- What the loops of `new_number` in src/columns.rt keep true.
 use Rattle.std.proofs.Common.{◌≡◌, take}
 use Rattle.px_edit.specs.Editing.{new_number}
 use Rattle.px_edit.proofs.columns.new_number.Given as goal

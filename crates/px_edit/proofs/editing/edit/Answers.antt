@@ -1,4 +1,3 @@
--- Proofs of the goals that `edit` of src/editing.rt leaves open.
 use Rattle.std.proofs.Common.{refl, ap, subst}
 use Rattle.std.specs.Prelude.{◌≡◌, Err, ℕ}
 use Rattle.px_base.specs.Answers.{both_answers}

@@ -1,4 +1,3 @@
--- Proofs of the goals that `edit_kept` of src/editing.rt leaves open.
 use Rattle.std.proofs.Common.{length, map, arith}
 use Rattle.std.proofs.lemmas.List.{length-map}
 use Rattle.px_base.specs.Answers.{both_answers}

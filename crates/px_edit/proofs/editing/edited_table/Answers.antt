@@ -1,4 +1,3 @@
--- Proofs of the goals that `edited_table` of src/editing.rt leaves open.
 use Rattle.std.proofs.Common.{◌≡◌, ◌≤◌, ◌<◌, ◌++◌, ◌∷◌, [], ◌-◌, List, length, map, ap, sym, ◌∙◌, subst, arith, length-append, refl}
 use Rattle.std.specs.Prelude.{All, slice_index_or}
 use Rattle.std.proofs.lemmas.List.{length-map}

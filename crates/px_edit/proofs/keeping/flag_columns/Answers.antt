@@ -1,4 +1,3 @@
--- Proofs of the goals that `flag_columns` of src/keeping.rt leaves open.
 use Rattle.std.proofs.Common.{◌≡◌, ◌+◌, ◌-◌, ◌<◌, length, refl, subst, arith}
 use Rattle.px_base.specs.ListLaws.{All-at}
 use Rattle.px_table.specs.declared.mark.Mark.{Mark}

@@ -1,4 +1,3 @@
--- What the loops of `flag_columns` in src/keeping.rt keep true.
 use Rattle.px_edit.proofs.Flags.{AreFlaggedFrom}
 use Rattle.px_edit.proofs.keeping.flag_columns.Given as goal
 

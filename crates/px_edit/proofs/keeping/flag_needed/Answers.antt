@@ -1,4 +1,3 @@
--- Proofs of the goals that `flag_needed` of src/keeping.rt leaves open.
 use Rattle.std.proofs.Common.{◌≡◌, ◌<◌, ◌⊎◌, ℕ, length, sym, ◌∙◌, subst, arith}
 use Rattle.std.specs.Prelude.{Contains, List}
 use Rattle.px_table.specs.declared.mark.Mark.{Mark}

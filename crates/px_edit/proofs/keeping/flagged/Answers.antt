@@ -1,4 +1,3 @@
--- Proofs of the goals that `flagged` of src/keeping.rt leaves open.
 use Rattle.px_edit.proofs.Flags.{numbers-all}
 use Rattle.px_edit.proofs.keeping.flagged.Goals as goal
 

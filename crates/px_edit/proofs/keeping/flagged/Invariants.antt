@@ -1,4 +1,3 @@
--- What the loops of `flagged` in src/keeping.rt keep true.
 use Rattle.px_edit.specs.Keeping.{AreFlagged}
 use Rattle.px_edit.proofs.keeping.flagged.Given as goal
 

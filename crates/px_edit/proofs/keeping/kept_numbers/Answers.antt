@@ -1,4 +1,3 @@
--- Proofs of the goals that `kept_numbers` of src/keeping.rt leaves open.
 use Rattle.std.proofs.Common.{◌≡◌, ◌≤◌, ◌+◌, ℕ, List, Bool, [], length, ap, sym, ◌∙◌, subst, arith, refl}
 use Rattle.std.specs.Prelude.{Contains, IfOk, ◌↔◌, false, replicate}
 use Rattle.std.proofs.lemmas.List.{length-replicate}

@@ -1,4 +1,3 @@
--- Proofs of the goals that `push_flagged` of src/keeping.rt leaves open.
 use Rattle.std.proofs.Common.{◌+◌, sym, subst}
 use Rattle.px_edit.specs.Keeping.{AreFlagged}
 use Rattle.px_edit.proofs.Flags.{no-flag, numbers-push, numbers-skip, read-flag}

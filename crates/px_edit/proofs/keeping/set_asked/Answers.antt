@@ -1,4 +1,3 @@
--- Proofs of the goals that `set_asked` of src/keeping.rt leaves open.
 use Rattle.std.proofs.Common.{List, ℕ, length, take, true, refl, sym, subst}
 use Rattle.std.specs.Prelude.{set, slice_index_or}
 use Rattle.std.proofs.lemmas.List.{take_more}

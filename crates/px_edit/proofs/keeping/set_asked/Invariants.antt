@@ -1,4 +1,3 @@
--- What the loops of `set_asked` in src/keeping.rt keep true.
 use Rattle.std.proofs.Common.{length, take}
 use Rattle.px_edit.specs.Keeping.{AreAsked}
 use Rattle.px_edit.proofs.keeping.set_asked.Given as goal

@@ -1,4 +1,3 @@
--- Proofs of the goals that `editing_is_sound` of src/laws.rt leaves open.
 use Rattle.px_edit.proofs.Sound.{editing_sound}
 use Rattle.px_edit.proofs.laws.editing_is_sound.Goals as goal
 

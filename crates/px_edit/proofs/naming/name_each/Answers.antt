@@ -1,4 +1,3 @@
--- Proofs of the goals that `name_each` of src/naming.rt leaves open.
 use Rattle.std.proofs.Common.{◌≡◌, ◌∙◌, ◌+◌, List, refl, sym, subst, length, take, arith}
 use Rattle.std.proofs.lemmas.List.{take_more}
 use Rattle.px_base.proofs.Loops.{whole_taken}

@@ -1,4 +1,3 @@
--- What the loops of `name_each` in src/naming.rt keep true.
 use Rattle.std.proofs.Common.{◌≡◌, ◌+◌, length, take}
 use Rattle.px_edit.specs.Parts.{AreNamesAlong, unnamed}
 use Rattle.px_edit.proofs.naming.name_each.Given as goal

@@ -1,4 +1,3 @@
--- Proofs of the goals that `name_term` of src/naming.rt leaves open.
 use Rattle.std.proofs.Common.{◌++◌, ◌∷◌, [], ◌+◌, length, refl, sym, subst, arith}
 use Rattle.std.specs.Prelude.{set}
 use Rattle.px_terms.specs.declared.term.Term.{Term}

@@ -1,4 +1,3 @@
--- Proofs of the goals that `names_along` of src/naming.rt leaves open.
 use Rattle.std.proofs.Common.{◌≡◌, ◌∙◌, ◌<◌, List, [], length, ap, sym, subst, arith}
 use Rattle.std.specs.Prelude.{replicate}
 use Rattle.std.proofs.lemmas.List.{length-replicate}

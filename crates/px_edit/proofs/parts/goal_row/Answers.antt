@@ -1,4 +1,3 @@
--- Proofs of the goals that `goal_row` of src/parts.rt leaves open.
 use Rattle.std.proofs.Common.{◌∙◌, map}
 use Rattle.px_proof.specs.ProofTerm.{derivation_of}
 use Rattle.px_edit.specs.Editing.{wanted_fact}

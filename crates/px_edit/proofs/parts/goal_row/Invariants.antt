@@ -1,4 +1,3 @@
--- What the loops of `goal_row` in src/parts.rt keep true.
 use Rattle.std.proofs.Common.{◌≡◌, map, take}
 use Rattle.px_terms.specs.declared.problem.Problem.{Problem}
 use Rattle.px_proof.specs.ProofTerm.{derivation_of}

@@ -1,4 +1,3 @@
--- Proofs of the goals that `has_high_row` of src/parts.rt leaves open.
 use Rattle.std.proofs.Common.{◌<◌, ◌-◌, [], refl, arith}
 use Rattle.std.specs.Prelude.{Any, slice_index, slice_index_or}
 use Rattle.px_proof.specs.declared.proof.Proof.{Proof}

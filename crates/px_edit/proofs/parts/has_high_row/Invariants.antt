@@ -1,4 +1,3 @@
--- What the loops of `has_high_row` in src/parts.rt keep true.
 use Rattle.std.proofs.Common.{◌<◌, ◌-◌, ℕ, []}
 use Rattle.std.specs.Prelude.{Any, slice_index, slice_index_or}
 use Rattle.px_proof.specs.Derivation.{height}

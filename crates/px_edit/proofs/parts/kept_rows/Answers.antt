@@ -1,4 +1,3 @@
--- Proofs of the goals that `kept_rows` of src/parts.rt leaves open.
 use Rattle.std.proofs.Common.{◌-◌, ◌∷◌, ◌++◌, [], List, map, ap, sym, ◌∙◌}
 use Rattle.std.specs.Prelude.{slice_index, slice_index_or}
 use Rattle.std.proofs.lemmas.List.{map-append}

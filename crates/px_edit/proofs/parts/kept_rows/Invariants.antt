@@ -1,4 +1,3 @@
--- What the loops of `kept_rows` in src/parts.rt keep true.
 use Rattle.std.proofs.Common.{◌≡◌, ◌-◌, [], map, take}
 use Rattle.std.specs.Prelude.{slice_index_or}
 use Rattle.px_table.specs.Tables.{rows_of}

@@ -1,4 +1,3 @@
--- Proofs of the goals that `kept_steps` of src/parts.rt leaves open.
 use Rattle.std.proofs.Common.{◌-◌, take, refl}
 use Rattle.std.specs.Prelude.{slice_index_or}
 use Rattle.px_edit.specs.Editing.{no_step}

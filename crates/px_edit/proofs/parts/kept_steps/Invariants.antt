@@ -1,4 +1,3 @@
--- What the loops of `kept_steps` in src/parts.rt keep true.
 use Rattle.std.proofs.Common.{◌≡◌, take}
 use Rattle.px_edit.specs.Editing.{kept_of, no_step}
 use Rattle.px_edit.proofs.parts.kept_steps.Given as goal

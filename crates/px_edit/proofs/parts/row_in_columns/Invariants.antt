@@ -1,4 +1,3 @@
--- What the loops of `row_in_columns` in src/parts.rt keep true.
 use Rattle.std.proofs.Common.{◌≡◌, map, take}
 use Rattle.px_proof.specs.ProofTerm.{derivation_of}
 use Rattle.px_edit.specs.Editing.{in_columns, new_number}

@@ -1,4 +1,3 @@
--- Proofs of the goals that `wanted_atoms` of src/parts.rt leaves open.
 use Rattle.px_edit.specs.Editing.{wanted_atom}
 use Rattle.px_edit.proofs.PartSteps.{mapped-at, mapped_all}
 use Rattle.px_edit.proofs.parts.wanted_atoms.Goals as goal

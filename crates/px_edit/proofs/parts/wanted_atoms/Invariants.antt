@@ -1,4 +1,3 @@
--- What the loops of `wanted_atoms` in src/parts.rt keep true.
 use Rattle.std.proofs.Common.{◌≡◌, map, take}
 use Rattle.px_edit.specs.Editing.{wanted_atom}
 use Rattle.px_edit.proofs.parts.wanted_atoms.Given as goal

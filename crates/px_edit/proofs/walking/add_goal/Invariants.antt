@@ -1,4 +1,3 @@
--- What the loops of `add_goal` in src/walking.rt keep true.
 use Rattle.std.proofs.Common.{◌≡◌, ◌++◌, take}
 use Rattle.px_table.specs.Parameters.{goal_terms}
 use Rattle.px_edit.proofs.walking.add_goal.Given as goal

@@ -1,4 +1,3 @@
--- What the loops of `add_steps` in src/walking.rt keep true.
 use Rattle.std.proofs.Common.{◌≡◌, ◌++◌, take}
 use Rattle.px_table.specs.Parameters.{step_terms}
 use Rattle.px_edit.proofs.walking.add_steps.Given as goal

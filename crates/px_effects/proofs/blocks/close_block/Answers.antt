@@ -1,4 +1,3 @@
--- Proofs of the goals that `close_block` of src/blocks.rt leaves open.
 use Rattle.px_effects.proofs.Common.{◌∙◌, sym, length, declared_of}
 use Rattle.px_so_far.specs.SoFarViews.{table_view}
 use Rattle.px_so_far.proofs.ProblemLemmas.{table-problem}

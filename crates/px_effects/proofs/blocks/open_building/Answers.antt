@@ -1,4 +1,3 @@
--- Proofs of the goals that `open_building` of src/blocks.rt leaves open.
 use Rattle.px_effects.proofs.Common.{refl, chars}
 use Rattle.unicode_ident.proofs.Computing.{unicode_ident}
 use Rattle.px_effects.proofs.blocks.open_building.Goals as goal

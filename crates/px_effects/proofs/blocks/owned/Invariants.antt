@@ -1,4 +1,3 @@
--- What the loops of `owned` in src/blocks.rt keep true.
 use Rattle.px_effects.proofs.Common.{◌≡◌, map, take, string_bytes, text_of}
 use Rattle.px_effects.proofs.blocks.owned.Given as goal
 

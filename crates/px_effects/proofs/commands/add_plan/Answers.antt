@@ -1,4 +1,3 @@
--- Proofs of the goals that `add_plan` of src/commands.rt leaves open.
 use Rattle.px_effects.proofs.Common.{[], ◌∷◌, map, length, atom_of, variable_names_of, with_names, a_plan, declared_of, signed_view}
 use Rattle.px_script.specs.declared.command.Command.TheVariants.{Plan}
 use Rattle.px_effects.proofs.GoalCommands.{commanded}

@@ -1,4 +1,3 @@
--- Proofs of the goals that `add_tree` of src/commands.rt leaves open.
 use Rattle.px_effects.proofs.Common.{[], ◌∷◌, map, length, atom_of, variable_names_of, with_names, a_result, declared_of, signed_view}
 use Rattle.px_script.specs.declared.command.Command.TheVariants.{Tree}
 use Rattle.px_effects.proofs.GoalCommands.{commanded}

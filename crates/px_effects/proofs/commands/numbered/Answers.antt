@@ -1,4 +1,3 @@
--- Proofs of the goals that `numbered` of src/commands.rt leaves open.
 use Rattle.px_effects.proofs.Common.{◌≡◌, map, length, sym, ap, ◌∙◌, arith, common_steps, atom_of, variable_names_of, declared_of, signed_view, text_of}
 use Rattle.px_effects.proofs.Facts.{map_map}
 use Rattle.px_effects.proofs.commands.numbered.Goals as goal

@@ -1,4 +1,3 @@
--- Proofs of the goals that `add_axiom` of src/declaring.rt leaves open.
 use Rattle.px_effects.proofs.Common.{◌≡◌, ℕ, List, [], ◌∷◌, ◌++◌, map, length, sym, ap, ◌∙◌, subst, arith, common_steps, ArePlainBelow, literal_of, clause_of, variable_names_of, declared_of, signed_view, text_of}
 use Rattle.px_terms.specs.declared.clause.Clause.{Clause}
 use Rattle.std.specs.Prelude.{Err}

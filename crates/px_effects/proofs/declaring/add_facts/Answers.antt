@@ -1,4 +1,3 @@
--- Proofs of the goals that `add_facts` of src/declaring.rt leaves open.
 use Rattle.px_effects.proofs.Common.{◌++◌, [], map, refl, sym, ap, ◌∙◌, subst, take_all, set_of-sorted, atom_set, IsGround, atom_cmp, Atom, atom_of, declared_of, signed_view, SoFar}
 use Rattle.px_lines.specs.declared.items.SignedAtom.{SignedAtom}
 use Rattle.px_effects.proofs.Facts.{numbered, facts-more}

@@ -1,4 +1,3 @@
--- What the loops of `add_facts` in src/declaring.rt keep true.
 use Rattle.px_effects.proofs.Common.{◌≡◌, ◌++◌, [], map, take, atom_set, atom_of, declared_of, signed_view}
 use Rattle.px_effects.proofs.declaring.add_facts.Given as goal
 

@@ -1,4 +1,3 @@
--- Proofs of the goals that `add_line` of src/declaring.rt leaves open.
 use Rattle.px_effects.proofs.Common.{refl, at-most, arith, declared_of}
 use Rattle.px_effects.proofs.Fresh.{objects-named}
 use Rattle.px_effects.proofs.Right.{few-in, readable, facts-ground, axiom-clause, axiom-room}

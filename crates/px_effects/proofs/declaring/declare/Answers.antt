@@ -1,4 +1,3 @@
--- Proofs of the goals that `declare` of src/declaring.rt leaves open.
 use Rattle.px_effects.proofs.Common.{declared_of}
 use Rattle.px_effects.proofs.Fresh.{line-lists}
 use Rattle.px_statements.specs.StatementViews.{statement_view}

@@ -1,4 +1,3 @@
--- Proofs of the goals that `declare_names` of src/declaring.rt leaves open.
 use Rattle.px_effects.proofs.Common.{◌<◌, List, map, length, ap, ◌∙◌, Bor, ℕ, arith, common_steps, take_all, NameLists, with_more, text_of, SoFar}
 use Rattle.px_effects.proofs.MoreNames.{more-none, next-fresh, one-more-name}
 use Rattle.px_effects.proofs.declaring.declare_names.Goals as goal

@@ -1,4 +1,3 @@
--- What the loops of `declare_names` in src/declaring.rt keep true.
 use Rattle.px_effects.proofs.Common.{◌≡◌, map, take, with_more, text_of}
 use Rattle.px_effects.proofs.declaring.declare_names.Given as goal
 

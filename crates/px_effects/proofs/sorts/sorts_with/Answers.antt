@@ -1,4 +1,3 @@
--- Proofs of the goals that `sorts_with` of src/sorts.rt leaves open.
 use Rattle.px_effects.proofs.Common.{◌<◌, length, map, ap, ◌∙◌, string_bytes, text_of}
 use Rattle.px_effects.proofs.Sorting.{next-sort, text-at}
 use Rattle.px_effects.proofs.sorts.sorts_with.Goals as goal

@@ -1,4 +1,3 @@
--- Proofs of the goals that `close_table` of src/tables.rt leaves open.
 use Rattle.px_effects.proofs.Common.{ap, ◌∙◌, ◌++◌, ◌∷◌, []}
 use Rattle.std.proofs.lemmas.Result.{on_ok_weaker}
 use Rattle.px_script.specs.Declarations.{table_made}

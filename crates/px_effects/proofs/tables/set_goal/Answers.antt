@@ -1,4 +1,3 @@
--- Proofs of the goals that `set_goal` of src/tables.rt leaves open.
 use Rattle.px_effects.proofs.Common.{map, declared_of, signed_view}
 use Rattle.px_effects.proofs.TableLines.{goal-set}
 use Rattle.px_effects.proofs.tables.set_goal.Goals as goal

@@ -1,4 +1,3 @@
--- Proofs of the goals that `asked_by_stop` of src/laws.rt leaves open.
 use Rattle.px_ends.proofs.ByStop.{asked_by_stop}
 use Rattle.px_ends.proofs.laws.asked_by_stop.Goals as goal
 

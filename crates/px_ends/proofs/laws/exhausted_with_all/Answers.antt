@@ -1,4 +1,3 @@
--- Proofs of the goals that `exhausted_with_all` of src/laws.rt leaves open.
 use Rattle.px_ends.proofs.ByValueLaws.{exhausted_with_all}
 use Rattle.px_ends.proofs.laws.exhausted_with_all.Goals as goal
 

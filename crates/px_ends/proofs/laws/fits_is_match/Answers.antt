@@ -1,4 +1,3 @@
--- Proofs of the goals that `fits_is_match` of src/laws.rt leaves open.
 use Rattle.px_ends.proofs.Fitting.{fits_is_match}
 use Rattle.px_ends.proofs.laws.fits_is_match.Goals as goal
 

@@ -1,4 +1,3 @@
--- Proofs of the goals that `nodes_stand_once` of src/laws.rt leaves open.
 use Rattle.px_ends.proofs.ByValueLaws.{nodes_stand_once_with_all}
 use Rattle.px_ends.proofs.laws.nodes_stand_once.Goals as goal
 

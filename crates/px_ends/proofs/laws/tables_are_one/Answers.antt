@@ -1,4 +1,3 @@
--- Proofs of the goals that `tables_are_one` of src/laws.rt leaves open.
 use Rattle.px_ends.proofs.MadeOne.{tables_are_one}
 use Rattle.px_ends.proofs.laws.tables_are_one.Goals as goal
 

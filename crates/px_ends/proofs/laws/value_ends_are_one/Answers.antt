@@ -1,4 +1,3 @@
--- Proofs of the goals that `value_ends_are_one` of src/laws.rt leaves open.
 use Rattle.px_ends.proofs.ByValueLaws.{value_ends_are_one}
 use Rattle.px_ends.proofs.laws.value_ends_are_one.Goals as goal
 

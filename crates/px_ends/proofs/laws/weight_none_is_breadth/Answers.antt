@@ -1,4 +1,3 @@
--- Proofs of the goals that `weight_none_is_breadth` of src/laws.rt leaves open.
 use Rattle.px_ends.proofs.ByValueLaws.{weight_none_is_breadth}
 use Rattle.px_ends.proofs.laws.weight_none_is_breadth.Goals as goal
 

@@ -1,4 +1,3 @@
--- Proofs of the goals that `worked_ends` of src/laws.rt leaves open.
 use Rattle.px_ends.proofs.Operators.{end_facts}
 use Rattle.px_ends.proofs.laws.worked_ends.Goals as goal
 

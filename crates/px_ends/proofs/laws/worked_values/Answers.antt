@@ -1,4 +1,3 @@
--- Proofs of the goals that `worked_values` of src/laws.rt leaves open.
 use Rattle.px_ends.proofs.WorkedByValue.{value_facts}
 use Rattle.px_ends.proofs.laws.worked_values.Goals as goal
 

@@ -1,4 +1,3 @@
--- Proofs of the goals that `deciding_part` of src/deciding.rt leaves open.
 use Rattle.std.proofs.Common.{◌∙◌, List, subst, sym}
 use Rattle.std.proofs.lemmas.List.{take_all}
 use Rattle.px_terms.specs.declared.atom.Atom.{Atom}

@@ -1,4 +1,3 @@
--- What the loops of `deciding_part` in src/deciding.rt keep true.
 use Rattle.std.proofs.Common.{take}
 use Rattle.std.specs.Prelude.{IfSome}
 use Rattle.px_entries.specs.Deciding.{AreDeciding}

@@ -1,4 +1,3 @@
--- Proofs of the goals that `is_mentioned` of src/deciding.rt leaves open.
 use Rattle.std.proofs.Common.{◌≡◌, ◌<◌, ℕ, List, [], length, get_or, subst, sym, arith}
 use Rattle.std.proofs.lemmas.List.{get_or_default}
 use Rattle.std.specs.Prelude.{Any}

@@ -1,4 +1,3 @@
--- What the loops of `is_mentioned` in src/deciding.rt keep true.
 use Rattle.std.specs.Prelude.{◌≡◌, Any}
 use Rattle.px_terms.specs.declared.clause.Clause.{Clause}
 use Rattle.px_terms.specs.declared.clause.Lit.{Lit}

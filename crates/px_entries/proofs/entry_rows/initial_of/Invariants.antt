@@ -1,4 +1,3 @@
--- What the loops of `initial_of` in src/entry_rows.rt keep true.
 use Rattle.std.proofs.Common.{◌≡◌, take}
 use Rattle.std.specs.Prelude.{◌==◌, ◌&&◌, filter, map}
 use Rattle.px_table.specs.Kernels.{atom_under}

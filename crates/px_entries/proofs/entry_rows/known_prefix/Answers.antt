@@ -1,4 +1,3 @@
--- Proofs of the goals that `known_prefix` of src/entry_rows.rt leaves open.
 use Rattle.std.proofs.Common.{◌∙◌, ◌<◌, ◌≤◌, ◌+◌, List, take, ap, sym, subst, arith, add-one}
 use Rattle.std.specs.Prelude.{[], ◌∷◌, All}
 use Rattle.px_table.specs.Kernels.{steps_under}

@@ -1,4 +1,3 @@
--- What the loops of `known_prefix` in src/entry_rows.rt keep true.
 use Rattle.std.proofs.Common.{take}
 use Rattle.px_table.specs.Kernels.{steps_under}
 use Rattle.px_entries.proofs.RowSteps.{AreAsked}

@@ -1,4 +1,3 @@
--- Proofs of the goals that `known_row` of src/entry_rows.rt leaves open.
 use Rattle.std.proofs.Common.{subst}
 use Rattle.px_gaps.specs.declared.question.Obligation.{Obligation}
 use Rattle.px_gaps.specs.Known.{IsTriedOf}

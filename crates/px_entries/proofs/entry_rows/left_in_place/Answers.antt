@@ -1,4 +1,3 @@
--- Proofs of the goals that `left_in_place` of src/entry_rows.rt leaves open.
 use Rattle.std.proofs.Common.{refl}
 use Rattle.px_terms.specs.Operators.{deletes}
 use Rattle.px_entries.proofs.LeftSteps.{left-same}

@@ -1,4 +1,3 @@
--- Proofs of the goals that `left_of` of src/entry_rows.rt leaves open.
 use Rattle.std.proofs.Common.{◌∙◌, ap}
 use Rattle.std.specs.Prelude.{not}
 use Rattle.px_terms.specs.Operators.{deletes, is_deleted}

@@ -1,4 +1,3 @@
--- What the loops of `left_of` in src/entry_rows.rt keep true.
 use Rattle.std.proofs.Common.{◌≡◌, take}
 use Rattle.std.specs.Prelude.{not, filter}
 use Rattle.px_terms.specs.AtomSets.{atom_set}

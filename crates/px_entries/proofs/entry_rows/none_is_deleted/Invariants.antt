@@ -1,4 +1,3 @@
--- What the loops of `none_is_deleted` in src/entry_rows.rt keep true.
 use Rattle.std.proofs.Common.{◌≡◌, false}
 use Rattle.px_terms.specs.Operators.{deletes}
 use Rattle.px_terms.specs.declared.atom.Atom.{Atom}

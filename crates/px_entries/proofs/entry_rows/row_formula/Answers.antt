@@ -1,4 +1,3 @@
--- Proofs of the goals that `row_formula` of src/entry_rows.rt leaves open.
 use Rattle.std.proofs.Common.{◌∙◌, List, ap}
 use Rattle.std.proofs.lemmas.List.{take_all}
 use Rattle.std.specs.Prelude.{◌==◌, ◌&&◌, filter, map}

@@ -1,4 +1,3 @@
--- What the loops of `row_formula` in src/entry_rows.rt keep true.
 use Rattle.std.proofs.Common.{◌≡◌, map, take}
 use Rattle.std.specs.Prelude.{◌==◌, ◌&&◌, filter}
 use Rattle.px_table.specs.declared.mark.Mark.{Mark}

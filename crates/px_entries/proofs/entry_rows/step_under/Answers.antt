@@ -1,4 +1,3 @@
--- Proofs of the goals that `step_under` of src/entry_rows.rt leaves open.
 use Rattle.px_entries.proofs.RowSteps.{step-at}
 use Rattle.px_entries.proofs.entry_rows.step_under.Goals as goal
 

@@ -1,4 +1,3 @@
--- Proofs of the goals that `bound_instance` of src/instances.rt leaves open.
 use Rattle.std.proofs.Common.{◌<◌, ◌-◌, ℕ, take, get_or, sym, subst, arith}
 use Rattle.std.proofs.lemmas.List.{get_or-take}
 use Rattle.std.specs.List.{insert}

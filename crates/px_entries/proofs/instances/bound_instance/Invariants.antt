@@ -1,4 +1,3 @@
--- What the loops of `bound_instance` in src/instances.rt keep true.
 use Rattle.std.proofs.Common.{◌≡◌, ◌<◌, ℕ, length, get_or}
 use Rattle.px_terms.specs.declared.term.Term.TheVariants.{Any}
 use Rattle.px_entries.specs.Instances.{IsRenamed}

@@ -1,4 +1,3 @@
--- What the loops of `filled` in src/instances.rt keep true.
 use Rattle.std.proofs.Common.{◌≡◌, ◌<◌, ℕ, length, get_or}
 use Rattle.px_terms.specs.declared.term.Term.TheVariants.{Obj, Any}
 use Rattle.px_entries.proofs.instances.filled.Given as goal

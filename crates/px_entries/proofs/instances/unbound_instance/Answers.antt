@@ -1,4 +1,3 @@
--- Proofs of the goals that `unbound_instance` of src/instances.rt leaves open.
 use Rattle.std.proofs.Common.{sym, ap, ◌∙◌, map}
 use Rattle.px_terms.specs.declared.instance.OpInst.{OpInst}
 use Rattle.px_terms.specs.Language.{object_of}

@@ -1,4 +1,3 @@
--- Proofs of the goals that `joined` of src/joining.rt leaves open.
 use Rattle.std.proofs.Common.{sym, subst}
 use Rattle.px_entries.specs.Joined.{Joins}
 use Rattle.px_gaps.specs.declared.known.Known.{Known}

@@ -1,4 +1,3 @@
--- Proofs of the goals that `open_beside` of src/joining.rt leaves open.
 use Rattle.std.proofs.Common.{List, sym, subst}
 use Rattle.std.specs.Prelude.{◌↔◌, ◌⊎◌, Contains}
 use Rattle.px_terms.specs.declared.atom.Atom.{Atom}

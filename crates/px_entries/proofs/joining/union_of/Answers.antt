@@ -1,4 +1,3 @@
--- Proofs of the goals that `union_of` of src/joining.rt leaves open.
 use Rattle.std.proofs.Common.{◌∙◌}
 use Rattle.std.proofs.lemmas.List.Filters.{dedup_is}
 use Rattle.px_terms.specs.Order.{atom_eq}

@@ -1,4 +1,3 @@
--- Proofs of the goals that `initial_patterns` of src/limiting.rt leaves open.
 use Rattle.std.proofs.Common.{◌∙◌, List, ap, refl}
 use Rattle.std.proofs.lemmas.List.{take_all}
 use Rattle.std.specs.Prelude.{◌==◌, ◌&&◌, filter, map}

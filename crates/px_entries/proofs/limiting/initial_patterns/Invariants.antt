@@ -1,4 +1,3 @@
--- What the loops of `initial_patterns` in src/limiting.rt keep true.
 use Rattle.std.proofs.Common.{◌≡◌, take}
 use Rattle.std.specs.Prelude.{◌==◌, ◌&&◌, filter, map}
 use Rattle.px_table.specs.declared.mark.Mark.{Mark}

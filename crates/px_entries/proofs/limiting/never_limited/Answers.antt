@@ -1,4 +1,3 @@
--- Proofs of the goals that `never_limited` of src/limiting.rt leaves open.
 use Rattle.std.specs.Prelude.{All, IfOk, IsTrue, Result, Ok, Err}
 use Rattle.px_entries.specs.Few.{RowsHaveFew}
 use Rattle.px_entries.specs.Unlimited.{IsNeverLimited}

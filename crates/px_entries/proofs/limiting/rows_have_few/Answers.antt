@@ -1,4 +1,3 @@
--- Proofs of the goals that `rows_have_few` of src/limiting.rt leaves open.
 use Rattle.std.proofs.Common.{◌≡◌, ◌∙◌, ℕ, List, inl, inr, map, subst, sym}
 use Rattle.px_terms.specs.declared.atom.Atom.{Atom}
 use Rattle.px_gaps.specs.Bounds.{HasFewShapes}

@@ -1,4 +1,3 @@
--- What the loops of `rows_have_few` in src/limiting.rt keep true.
 use Rattle.std.specs.Prelude.{◌<◌, ℕ}
 use Rattle.px_entries.specs.Few.{HasFew, initial_patterns}
 use Rattle.px_entries.proofs.limiting.rows_have_few.Given as goal

@@ -1,4 +1,3 @@
--- What the loops of `tables_have_few` in src/limiting.rt keep true.
 use Rattle.px_entries.specs.Few.{RowsHaveFew}
 use Rattle.px_base.proofs.Loops.{AllBefore}
 use Rattle.px_entries.proofs.limiting.tables_have_few.Given as goal

@@ -1,4 +1,3 @@
--- Proofs of the goals that `always_deletes` of src/macro_matching.rt leaves open.
 use Rattle.std.proofs.Common.{◌≡◌, ◌∙◌, true, List, ap, sym, subst}
 use Rattle.std.specs.Prelude.{Contains}
 use Rattle.px_terms.specs.Instances.{is_instance}

@@ -1,4 +1,3 @@
--- What the loops of `fit_atom` in src/macro_matching.rt keep true.
 use Rattle.std.proofs.Common.{◌≡◌, ℕ, List, length}
 use Rattle.px_question.specs.Answers.{object_terms}
 use Rattle.px_terms.specs.Substitution.{substitute_atom}

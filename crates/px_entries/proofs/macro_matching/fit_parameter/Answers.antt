@@ -1,4 +1,3 @@
--- Proofs of the goals that `fit_parameter` of src/macro_matching.rt leaves open.
 use Rattle.std.proofs.Common.{◌≡◌, ◌∙◌, Some, None, refl, set, sym, subst}
 use Rattle.px_base.specs.Answers.{some_same}
 use Rattle.px_terms.specs.declared.term.Term.{Term}

@@ -1,4 +1,3 @@
--- Proofs of the goals that `fit_term` of src/macro_matching.rt leaves open.
 use Rattle.std.proofs.Common.{◌≡◌, ◌∙◌, length, subst}
 use Rattle.px_question.specs.Answers.{object_terms}
 use Rattle.px_terms.specs.Language.{IsPlainBelow, substitute}

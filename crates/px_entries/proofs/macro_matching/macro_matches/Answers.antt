@@ -1,4 +1,3 @@
--- Proofs of the goals that `macro_matches` of src/macro_matching.rt leaves open.
 use Rattle.std.proofs.Common.{[], length, sym, subst, take, map}
 use Rattle.px_table.specs.Kernels.{instance_under}
 use Rattle.px_terms.specs.Operators.{IsAdded}

@@ -1,4 +1,3 @@
--- What the loops of `macro_matches` in src/macro_matching.rt keep true.
 use Rattle.std.proofs.Common.{[], take, map, length}
 use Rattle.px_table.specs.Kernels.{instance_under}
 use Rattle.px_terms.specs.Operators.{IsAdded}

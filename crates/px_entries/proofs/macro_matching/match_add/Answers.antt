@@ -1,4 +1,3 @@
--- Proofs of the goals that `match_add` of src/macro_matching.rt leaves open.
 use Rattle.std.proofs.Common.{◌≡◌, false, length, sym, subst}
 use Rattle.std.specs.Prelude.{All}
 use Rattle.px_question.specs.Answers.{object_terms}

@@ -1,4 +1,3 @@
--- Proofs of the goals that `match_pattern` of src/macro_matching.rt leaves open.
 use Rattle.std.proofs.Common.{◌≡◌, ◌∙◌, ◌++◌, ℕ, List, length, take, drop, ap, sym, subst}
 use Rattle.std.proofs.Math.Seq.{take-append_seam}
 use Rattle.px_question.specs.Answers.{object_terms}

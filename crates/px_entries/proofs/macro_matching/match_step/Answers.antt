@@ -1,4 +1,3 @@
--- Proofs of the goals that `match_step` of src/macro_matching.rt leaves open.
 use Rattle.std.proofs.Common.{◌≡◌, ◌∙◌, Some, length, slice_get, ap, sym, arith}
 use Rattle.std.proofs.lemmas.List.{length-map}
 use Rattle.std.proofs.lemmas.Option.{get_or_from_slice_get, slice_get_within}

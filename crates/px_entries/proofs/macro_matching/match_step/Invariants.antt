@@ -1,4 +1,3 @@
--- What the loops of `match_step` in src/macro_matching.rt keep true.
 use Rattle.std.proofs.Common.{take, length}
 use Rattle.px_terms.specs.Operators.{adds}
 use Rattle.px_gaps.specs.Closings.{OneOf}

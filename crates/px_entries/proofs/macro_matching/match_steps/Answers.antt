@@ -1,4 +1,3 @@
--- Proofs of the goals that `match_steps` of src/macro_matching.rt leaves open.
 use Rattle.std.proofs.Common.{◌+◌, List, drop, length, map, subst, arith}
 use Rattle.px_table.specs.Kernels.{instance_under}
 use Rattle.px_terms.specs.Operators.{IsAdded, adds}

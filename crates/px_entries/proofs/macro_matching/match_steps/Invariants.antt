@@ -1,4 +1,3 @@
--- What the loops of `match_steps` in src/macro_matching.rt keep true.
 use Rattle.std.proofs.Common.{length}
 use Rattle.px_entries.specs.Parameters.{Matches}
 use Rattle.px_entries.proofs.LeftAdds.{AddedBefore}

@@ -1,4 +1,3 @@
--- Proofs of the goals that `one_always_deletes` of src/macro_matching.rt leaves open.
 use Rattle.std.proofs.Common.{◌≡◌, false}
 use Rattle.px_base.specs.ListLaws.{All-at}
 use Rattle.px_question.specs.Answers.{object_terms}

@@ -1,4 +1,3 @@
--- What the loops of `add_wanted` in src/macro_steps.rt keep true.
 use Rattle.px_terms.specs.declared.atom.Atom.{Atom}
 use Rattle.px_terms.specs.Operators.{IsAdded}
 use Rattle.px_base.proofs.Loops.{AllBefore}

@@ -1,4 +1,3 @@
--- Proofs of the goals that `is_added` of src/macro_steps.rt leaves open.
 use Rattle.std.proofs.Common.{◌≡◌, ◌+◌, false, refl, sym, subst}
 use Rattle.std.specs.Prelude.{All}
 use Rattle.px_base.specs.ListLaws.{All-at}

@@ -1,4 +1,3 @@
--- What the loops of `is_added` in src/macro_steps.rt keep true.
 use Rattle.std.proofs.Common.{drop}
 use Rattle.px_terms.specs.Operators.{IsAdded}
 use Rattle.px_entries.proofs.macro_steps.is_added.Given as goal

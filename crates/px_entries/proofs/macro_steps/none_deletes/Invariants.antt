@@ -1,4 +1,3 @@
--- What the loops of `none_deletes` in src/macro_steps.rt keep true.
 use Rattle.std.proofs.Common.{◌≡◌, false}
 use Rattle.px_terms.specs.Operators.{deletes}
 use Rattle.px_terms.specs.declared.instance.OpInst.{OpInst}

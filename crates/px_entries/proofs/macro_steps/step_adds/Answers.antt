@@ -1,4 +1,3 @@
--- Proofs of the goals that `step_adds` of src/macro_steps.rt leaves open.
 use Rattle.std.proofs.Common.{◌≡◌, ◌∙◌, Some, slice_get, refl, ap, sym}
 use Rattle.std.proofs.lemmas.Option.{get_or_from_slice_get, slice_get_within}
 use Rattle.px_question.specs.FewerShapes.{Contains-at}

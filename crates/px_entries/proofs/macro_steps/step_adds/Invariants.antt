@@ -1,4 +1,3 @@
--- What the loops of `step_adds` in src/macro_steps.rt keep true.
 use Rattle.std.proofs.Common.{◌≡◌}
 use Rattle.px_terms.specs.Operators.{adds}
 use Rattle.px_terms.specs.declared.atom.Atom.{Atom}

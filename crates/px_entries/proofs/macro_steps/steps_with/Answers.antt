@@ -1,4 +1,3 @@
--- Proofs of the goals that `steps_with` of src/macro_steps.rt leaves open.
 use Rattle.std.proofs.Common.{◌≡◌, ◌∙◌, ℕ, map, take, ap, sym, arith}
 use Rattle.std.proofs.lemmas.List.{take-map}
 use Rattle.px_table.specs.Kernels.{instance_under}

@@ -1,4 +1,3 @@
--- What the loops of `steps_with` in src/macro_steps.rt keep true.
 use Rattle.std.proofs.Common.{◌≡◌, map, take}
 use Rattle.px_table.specs.Kernels.{instance_under}
 use Rattle.px_entries.proofs.macro_steps.steps_with.Given as goal

@@ -1,4 +1,3 @@
--- Proofs of the goals that `match_atom` of src/matching.rt leaves open.
 use Rattle.std.proofs.Common.{◌≡◌, ◌<◌, ◌+◌, List, length, get_or, sym, ap, ◌∙◌, subst, inl, inr, arith}
 use Rattle.std.specs.Prelude.{Contains}
 use Rattle.px_terms.specs.declared.atom.Atom.{Atom}

@@ -1,4 +1,3 @@
--- What the loops of `match_atom` in src/matching.rt keep true.
 use Rattle.std.proofs.Common.{◌<◌}
 use Rattle.std.specs.Prelude.{Contains}
 use Rattle.px_terms.specs.declared.instance.OpInst.{OpInst}

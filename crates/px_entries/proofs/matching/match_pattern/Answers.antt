@@ -1,4 +1,3 @@
--- Proofs of the goals that `match_pattern` of src/matching.rt leaves open.
 use Rattle.std.proofs.Common.{◌≡◌}
 use Rattle.px_terms.specs.declared.instance.OpInst.{OpInst}
 use Rattle.px_terms.specs.Substitution.{substitute_atom}

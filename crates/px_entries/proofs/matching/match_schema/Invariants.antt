@@ -1,4 +1,3 @@
--- What the loops of `match_schema` in src/matching.rt keep true.
 use Rattle.std.proofs.Common.{◌≡◌, take}
 use Rattle.px_terms.specs.declared.instance.OpInst.{OpInst}
 use Rattle.px_terms.specs.Substitution.{substitute_atom}

@@ -1,4 +1,3 @@
--- Proofs of the goals that `matches_of` of src/matching.rt leaves open.
 use Rattle.std.proofs.Common.{◌+◌, List, [], take, subst, arith}
 use Rattle.std.specs.Prelude.{Contains}
 use Rattle.std.proofs.lemmas.List.{take_all}

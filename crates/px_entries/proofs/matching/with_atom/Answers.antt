@@ -1,4 +1,3 @@
--- Proofs of the goals that `with_atom` of src/matching.rt leaves open.
 use Rattle.std.proofs.Common.{◌≡◌, ◌<◌, ◌∙◌, ℕ, List, length, map, get_or, sym, ap, subst, inl, inr, arith}
 use Rattle.std.proofs.lemmas.List.{get_or-map, get_or_default, length-map, same_lists}
 use Rattle.px_terms.specs.declared.atom.Atom.{Atom}

@@ -1,4 +1,3 @@
--- What the loops of `with_atom` in src/matching.rt keep true.
 use Rattle.std.proofs.Common.{◌≡◌, ◌<◌, ℕ, length, get_or}
 use Rattle.px_terms.specs.declared.term.Term.TheVariants.{Any}
 use Rattle.px_terms.specs.Language.{substitute}

@@ -1,4 +1,3 @@
--- Proofs of the goals that `with_known` of src/matching.rt leaves open.
 use Rattle.std.proofs.Common.{◌≡◌, subst}
 use Rattle.px_terms.specs.declared.term.Term.{Term}
 use Rattle.px_terms.specs.Language.{substitute}

@@ -1,4 +1,3 @@
--- Proofs of the goals that `with_object` of src/matching.rt leaves open.
 use Rattle.std.proofs.Common.{◌<◌, ◌∙◌, ℕ, sym, ap, subst, inl, inr, arith}
 use Rattle.px_terms.specs.declared.term.Term.TheVariants.{Obj}
 use Rattle.px_entries.proofs.Covering.{object_is, object_within, not_other}

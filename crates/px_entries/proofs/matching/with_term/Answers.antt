@@ -1,4 +1,3 @@
--- Proofs of the goals that `with_term` of src/matching.rt leaves open.
 use Rattle.std.proofs.Common.{◌≡◌, ◌<◌, ℕ, List, length, get_or, sym, ap, ◌∙◌, subst}
 use Rattle.std.specs.Prelude.{slice_index_or}
 use Rattle.px_terms.specs.declared.term.Term.{Term}

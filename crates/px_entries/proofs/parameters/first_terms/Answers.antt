@@ -1,4 +1,3 @@
--- Proofs of the goals that `first_terms` of src/parameters.rt leaves open.
 use Rattle.std.proofs.Common.{◌≡◌, ◌+◌, ◌∙◌, ℕ, Some, List, [], ◌∷◌, ◌++◌, length, slice_get, sym, subst, inl, inr, arith, length-append}
 use Rattle.px_terms.specs.declared.term.Term.{Term}
 use Rattle.px_entries.specs.Parameters.{IsFirstTerm}

@@ -1,4 +1,3 @@
--- What the loops of `first_terms` in src/parameters.rt keep true.
 use Rattle.std.specs.Prelude.{◌≡◌, ℕ, Some, length, slice_get}
 use Rattle.px_terms.specs.declared.term.Term.{Term}
 use Rattle.px_entries.specs.Parameters.{IsFirstTerm}

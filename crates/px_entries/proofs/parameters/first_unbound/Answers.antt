@@ -1,4 +1,3 @@
--- Proofs of the goals that `first_unbound` of src/parameters.rt leaves open.
 use Rattle.std.proofs.Common.{◌≡◌, ℕ, Some, slice_get}
 use Rattle.std.specs.Prelude.{All, Contains}
 use Rattle.px_terms.specs.Language.{IsObject}

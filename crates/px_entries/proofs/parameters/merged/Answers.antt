@@ -1,4 +1,3 @@
--- Proofs of the goals that `merged` of src/parameters.rt leaves open.
 use Rattle.std.proofs.Common.{◌≡◌, length, arith}
 use Rattle.px_entries.proofs.ParameterLemmas.{merged-binding, merged-extends}
 use Rattle.px_entries.proofs.parameters.merged.Goals as goal

@@ -1,4 +1,3 @@
--- What the loops of `merged` in src/parameters.rt keep true.
 use Rattle.std.proofs.Common.{◌≡◌, ◌<◌, ℕ, Some, length, get_or}
 use Rattle.px_terms.specs.declared.term.Term.TheVariants.{Any}
 use Rattle.px_entries.specs.Parameters.{merged_term}

@@ -1,4 +1,3 @@
--- What the loops of `objects_of` in src/parameters.rt keep true.
 use Rattle.std.proofs.Common.{◌≡◌, map, take}
 use Rattle.px_terms.specs.Language.{object_of}
 use Rattle.px_entries.proofs.parameters.objects_of.Given as goal

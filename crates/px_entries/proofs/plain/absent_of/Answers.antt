@@ -1,4 +1,3 @@
--- Proofs of the goals that `absent_of` of src/plain.rt leaves open.
 use Rattle.std.proofs.Common.{◌⊎◌, List, [], subst, sym, inl, inr}
 use Rattle.std.specs.Prelude.{◌↔◌, Contains}
 use Rattle.std.proofs.lemmas.List.{take_all}

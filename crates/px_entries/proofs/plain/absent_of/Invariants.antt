@@ -1,4 +1,3 @@
--- What the loops of `absent_of` in src/plain.rt keep true.
 use Rattle.std.proofs.Common.{◌⊎◌, [], take}
 use Rattle.std.specs.Prelude.{◌↔◌, Contains}
 use Rattle.px_terms.specs.declared.atom.Atom.{Atom}

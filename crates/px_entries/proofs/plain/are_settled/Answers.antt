@@ -1,4 +1,3 @@
--- Proofs of the goals that `are_settled` of src/plain.rt leaves open.
 use Rattle.px_base.specs.ListLaws.{All-at}
 use Rattle.px_entries.specs.Plain.{IsSettled}
 use Rattle.px_base.proofs.Loops.{all_before_next, all_whole, contains_here}

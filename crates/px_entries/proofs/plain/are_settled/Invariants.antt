@@ -1,4 +1,3 @@
--- What the loops of `are_settled` in src/plain.rt keep true.
 use Rattle.px_entries.specs.Plain.{IsSettled}
 use Rattle.px_base.proofs.Loops.{AllBefore}
 use Rattle.px_entries.proofs.plain.are_settled.Given as goal

@@ -1,4 +1,3 @@
--- Proofs of the goals that `axioms_mention_addable` of src/plain.rt leaves open.
 use Rattle.std.proofs.Common.{◌<◌, List, [], length, get_or, subst, sym, arith}
 use Rattle.std.proofs.lemmas.List.{get_or_default}
 use Rattle.px_terms.specs.declared.clause.Clause.{Clause}

@@ -1,4 +1,3 @@
--- What the loops of `axioms_mention_addable` in src/plain.rt keep true.
 use Rattle.px_terms.specs.declared.clause.Clause.{Clause}
 use Rattle.px_entries.specs.Plain.{AreAboutAddable}
 use Rattle.px_base.proofs.Loops.{AllBefore}

@@ -1,4 +1,3 @@
--- Proofs of the goals that `insert_absent` of src/plain.rt leaves open.
 use Rattle.std.proofs.Common.{subst, inl, inr}
 use Rattle.px_entries.specs.Plain.{IsAbsent}
 use Rattle.px_gaps.proofs.Grows.{inserted}

@@ -1,4 +1,3 @@
--- Proofs of the goals that `is_settled` of src/plain.rt leaves open.
 use Rattle.px_question.specs.Answers.{IsProvable}
 use Rattle.px_question.specs.Settings.{setting_of}
 use Rattle.px_terms.specs.ValidityLaws.{atom_of-is_ground}

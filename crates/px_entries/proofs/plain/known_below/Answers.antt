@@ -1,4 +1,3 @@
--- Proofs of the goals that `known_below` of src/plain.rt leaves open.
 use Rattle.std.proofs.Common.{sym, subst}
 use Rattle.std.specs.Prelude.{IfSome, Option}
 use Rattle.px_table.specs.declared.entry.Entry.{Entry}

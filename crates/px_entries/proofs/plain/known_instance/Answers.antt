@@ -1,4 +1,3 @@
--- Proofs of the goals that `known_instance` of src/plain.rt leaves open.
 use Rattle.std.proofs.Common.{◌∙◌, List, sym, subst}
 use Rattle.std.specs.Prelude.{[], ◌∷◌, All, IfOk, IfSome}
 use Rattle.px_terms.specs.Validity.{IsAtomOf}

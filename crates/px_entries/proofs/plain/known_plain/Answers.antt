@@ -1,4 +1,3 @@
--- Proofs of the goals that `known_plain` of src/plain.rt leaves open.
 use Rattle.std.specs.Prelude.{All}
 use Rattle.px_entries.specs.Plain.{IsSettled}
 use Rattle.px_entries.proofs.PlainLaws.{plain-closed, some-no}

@@ -1,4 +1,3 @@
--- Proofs of the goals that `known_settled` of src/plain.rt leaves open.
 use Rattle.std.proofs.Common.{◌≡◌, ◌∙◌, ◌<◌, [], ◌∷◌, length, ap, sym, subst, arith}
 use Rattle.std.proofs.lemmas.List.{nil_from_length}
 use Rattle.px_prover.proofs.GapDeciding.{empty-test, filled-test}

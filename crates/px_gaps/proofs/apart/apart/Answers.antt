@@ -1,4 +1,3 @@
--- Proofs of the goals that `apart` of src/apart.rt leaves open.
 use Rattle.std.proofs.Common.{◌≡◌, ◌∙◌, ℕ, List, ◌++◌, length, sym, ap, subst, arith}
 use Rattle.std.specs.Prelude.{All, Any}
 use Rattle.px_base.specs.ListLaws.{All-at}

@@ -1,4 +1,3 @@
--- What the loops of `apart` in src/apart.rt keep true.
 use Rattle.std.specs.Prelude.{◌<◌, length}
 use Rattle.px_gaps.proofs.PartLemmas.{ArePartly}
 use Rattle.px_gaps.proofs.apart.apart.Given as goal

@@ -1,4 +1,3 @@
--- Proofs of the goals that `first_reached` of src/apart.rt leaves open.
 use Rattle.std.proofs.Common.{◌≡◌, ◌∙◌, List, ap, map, subst, sym}
 use Rattle.std.specs.Prelude.{Any, Contains}
 use Rattle.px_terms.specs.Language.{substitute}

@@ -1,4 +1,3 @@
--- What the loops of `first_reached` in src/apart.rt keep true.
 use Rattle.std.specs.Prelude.{Any}
 use Rattle.px_terms.specs.declared.atom.Atom.{Atom}
 use Rattle.px_gaps.specs.Apart.{StandsIn}

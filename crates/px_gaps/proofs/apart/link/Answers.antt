@@ -1,4 +1,3 @@
--- Proofs of the goals that `link` of src/apart.rt leaves open.
 use Rattle.std.proofs.Common.{◌≡◌, ◌∙◌, ◌⊎◌, List, ap, map, sym, subst, arith}
 use Rattle.std.specs.Prelude.{◌↔◌, Contains}
 use Rattle.px_terms.specs.Language.{substitute}

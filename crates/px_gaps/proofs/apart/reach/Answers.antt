@@ -1,4 +1,3 @@
--- Proofs of the goals that `reach` of src/apart.rt leaves open.
 use Rattle.std.proofs.Common.{◌≡◌, ◌⊎◌, ℕ, List, get_or, sym, ap, subst}
 use Rattle.std.specs.Prelude.{◌↔◌, Contains}
 use Rattle.std.proofs.lemmas.List.{take_all}

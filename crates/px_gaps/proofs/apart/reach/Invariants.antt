@@ -1,4 +1,3 @@
--- What the loops of `reach` in src/apart.rt keep true.
 use Rattle.std.specs.Prelude.{◌↔◌, ◌⊎◌, ℕ, take, Contains}
 use Rattle.px_terms.specs.declared.term.Term.TheVariants.{Var}
 use Rattle.px_gaps.proofs.apart.reach.Given as goal

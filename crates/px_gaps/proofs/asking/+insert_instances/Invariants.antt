@@ -1,4 +1,3 @@
--- What the loops of `insert_instances` in src/asking.rt keep true.
 use Rattle.px_question.specs.Settings.{setting_of}
 use Rattle.px_gaps.specs.Bindings.{open_term_count}
 use Rattle.px_gaps.specs.Provable.{FindsProvable}

@@ -1,4 +1,3 @@
--- Proofs of the goals that `insert_form` of src/asking.rt leaves open.
 use Rattle.std.proofs.Common.{◌≡◌, List, ℕ, length, sym, ap, subst, arith}
 use Rattle.px_question.specs.Settings.{setting_of}
 use Rattle.px_terms.specs.Validity.{IsAtomOf}

@@ -1,4 +1,3 @@
--- Proofs of the goals that `insert_provable` of src/asking.rt leaves open.
 use Rattle.px_question.specs.Settings.{setting_of}
 use Rattle.px_terms.specs.ValidityLaws.{atom_of-is_ground}
 use Rattle.px_gaps.proofs.Choosing.{said, said_not}

@@ -1,4 +1,3 @@
--- Proofs of the goals that `provable_of` of src/asking.rt leaves open.
 use Rattle.std.proofs.Common.{◌+◌, [], List, subst, take}
 use Rattle.std.proofs.lemmas.List.{take_all}
 use Rattle.std.proofs.lemmas.Result.{err_from_is_err_and}

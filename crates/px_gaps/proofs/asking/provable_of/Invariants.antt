@@ -1,4 +1,3 @@
--- What the loops of `provable_of` in src/asking.rt keep true.
 use Rattle.std.proofs.Common.{[], take}
 use Rattle.px_question.specs.Settings.{setting_of}
 use Rattle.px_gaps.specs.Forms.{IsStoodFor}

@@ -1,4 +1,3 @@
--- What the loops of `can_choose` in src/bindings.rt keep true.
 use Rattle.std.specs.Prelude.{◌<◌, ℕ, List, slice_index}
 use Rattle.px_gaps.specs.Bindings.{Avoids, open_term_count}
 use Rattle.px_gaps.proofs.bindings.+can_choose.Given as goal

@@ -1,4 +1,3 @@
--- Proofs of the goals that `can_avoid` of src/bindings.rt leaves open.
 use Rattle.std.proofs.Common.{List, length, sym, subst}
 use Rattle.px_terms.specs.Substitution.{substitute_atom}
 use Rattle.px_terms.specs.declared.term.Term.{Term}

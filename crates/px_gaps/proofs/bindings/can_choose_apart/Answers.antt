@@ -1,4 +1,3 @@
--- Proofs of the goals that `can_choose_apart` of src/bindings.rt leaves open.
 use Rattle.std.proofs.Common.{◌≡◌, ◌∙◌, ℕ, List, ◌++◌, length, sym, ap, subst, inl, inr}
 use Rattle.std.specs.Prelude.{All, Contains}
 use Rattle.px_base.specs.ListLaws.{All-at, All-each}

@@ -1,4 +1,3 @@
--- What the loops of `can_choose_apart` in src/bindings.rt keep true.
 use Rattle.std.specs.Prelude.{length, Contains}
 use Rattle.px_terms.specs.declared.atom.Atom.{Atom}
 use Rattle.px_gaps.specs.Bindings.{ArePlain, CanAvoid}

@@ -1,4 +1,3 @@
--- What the loops of `first_objects` in src/bindings.rt keep true.
 use Rattle.std.proofs.Common.{◌≡◌, take}
 use Rattle.px_question.specs.Answers.{object_terms}
 use Rattle.px_gaps.specs.Bindings.{first_values}

@@ -1,4 +1,3 @@
--- Proofs of the goals that `first_open` of src/bindings.rt leaves open.
 use Rattle.px_terms.specs.Instances.{IsGround}
 use Rattle.px_terms.specs.Substitution.{substitute_atom}
 use Rattle.px_terms.specs.declared.atom.Atom.{Atom}

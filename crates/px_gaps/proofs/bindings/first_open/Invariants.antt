@@ -1,4 +1,3 @@
--- What the loops of `first_open` in src/bindings.rt keep true.
 use Rattle.px_terms.specs.Instances.{IsGround}
 use Rattle.px_terms.specs.Substitution.{substitute_atom}
 use Rattle.px_terms.specs.declared.atom.Atom.{Atom}

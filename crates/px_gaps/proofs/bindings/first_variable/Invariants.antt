@@ -1,4 +1,3 @@
--- What the loops of `first_variable` in src/bindings.rt keep true.
 use Rattle.std.specs.Prelude.{◌≡◌, ℕ}
 use Rattle.px_terms.specs.declared.term.Term.TheVariants.{Var}
 use Rattle.px_base.proofs.Loops.{AllBefore}

@@ -1,4 +1,3 @@
--- Proofs of the goals that `meets_under` of src/bindings.rt leaves open.
 use Rattle.std.proofs.Common.{sym, subst}
 use Rattle.std.specs.Prelude.{Contains}
 use Rattle.px_terms.specs.Substitution.{substitute_atom}

@@ -1,4 +1,3 @@
--- What the loops of `meets_under` in src/bindings.rt keep true.
 use Rattle.std.specs.Prelude.{Contains}
 use Rattle.px_terms.specs.Substitution.{substitute_atom}
 use Rattle.px_base.proofs.Loops.{AllBefore}

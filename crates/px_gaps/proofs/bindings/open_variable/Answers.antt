@@ -1,4 +1,3 @@
--- Proofs of the goals that `open_variable` of src/bindings.rt leaves open.
 use Rattle.std.proofs.Common.{◌≡◌, ◌∙◌, ℕ, Some, List, ap, map, slice_get, subst}
 use Rattle.std.specs.Prelude.{All, Contains}
 use Rattle.px_terms.specs.Instances.{IsGround}

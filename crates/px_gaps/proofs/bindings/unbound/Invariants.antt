@@ -1,4 +1,3 @@
--- What the loops of `unbound` in src/bindings.rt keep true.
 use Rattle.px_gaps.specs.Bindings.{AreUnbound}
 use Rattle.px_gaps.proofs.bindings.unbound.Given as goal
 

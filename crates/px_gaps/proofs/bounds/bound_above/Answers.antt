@@ -1,4 +1,3 @@
--- Proofs of the goals that `bound_above` of src/bounds.rt leaves open.
 use Rattle.std.proofs.Common.{◌≡◌}
 use Rattle.px_gaps.specs.Bounds.{IsBoundAbove, bound_either}
 use Rattle.px_gaps.specs.declared.bounds.Bound.{Bound}

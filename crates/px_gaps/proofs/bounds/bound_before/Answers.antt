@@ -1,4 +1,3 @@
--- Proofs of the goals that `bound_before` of src/bounds.rt leaves open.
 use Rattle.std.proofs.Common.{◌≡◌, ◌∙◌, ◌-◌, ◌+◌, ◌<◌, ℕ, drop, get_or, length, subst, sym, arith}
 use Rattle.px_gaps.specs.Bounds.{IsBoundBefore}
 use Rattle.px_gaps.proofs.BoundLoops.{before-cons, before-nil, preds_of}

@@ -1,4 +1,3 @@
--- What the loops of `bound_before` in src/bounds.rt keep true.
 use Rattle.std.proofs.Common.{◌-◌, drop, length}
 use Rattle.px_gaps.specs.Bounds.{IsBoundBefore}
 use Rattle.px_gaps.proofs.BoundLoops.{preds_of}

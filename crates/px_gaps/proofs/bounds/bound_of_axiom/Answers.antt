@@ -1,4 +1,3 @@
--- Proofs of the goals that `bound_of_axiom` of src/bounds.rt leaves open.
 use Rattle.std.proofs.Common.{[], arith}
 use Rattle.px_terms.specs.declared.clause.Clause.{Clause}
 use Rattle.px_gaps.proofs.BoundLoops.{clause-at, places-all, places-init, places-next}

@@ -1,4 +1,3 @@
--- Proofs of the goals that `bound_of_axioms` of src/bounds.rt leaves open.
 use Rattle.std.proofs.Common.{arith}
 use Rattle.px_gaps.proofs.BoundLoops.{axioms-all, axioms-init, axioms-next}
 use Rattle.px_gaps.proofs.bounds.bound_of_axioms.Goals as goal

@@ -1,4 +1,3 @@
--- What the loops of `bound_of_axioms` in src/bounds.rt keep true.
 use Rattle.std.proofs.Common.{◌<◌}
 use Rattle.px_gaps.specs.Bounds.{IsUseBoundBy}
 use Rattle.px_gaps.proofs.bounds.bound_of_axioms.Given as goal

@@ -1,4 +1,3 @@
--- Proofs of the goals that `bound_of_formula` of src/bounds.rt leaves open.
 use Rattle.std.proofs.Common.{◌≡◌, ◌∙◌, ◌-◌, ◌+◌, ◌<◌, ℕ, drop, get_or, length, map, subst, sym, arith}
 use Rattle.px_terms.specs.declared.atom.Atom.{Atom}
 use Rattle.px_gaps.specs.Bounds.{IsBoundBy}

@@ -1,4 +1,3 @@
--- What the loops of `bound_of_formula` in src/bounds.rt keep true.
 use Rattle.std.proofs.Common.{◌-◌, drop, length, map}
 use Rattle.px_terms.specs.declared.atom.Atom.{Atom}
 use Rattle.px_gaps.specs.Bounds.{IsBoundBy}

@@ -1,4 +1,3 @@
--- Proofs of the goals that `bound_of_leaves` of src/bounds.rt leaves open.
 use Rattle.std.proofs.Common.{[]}
 use Rattle.px_terms.specs.declared.atom.Atom.{Atom}
 use Rattle.px_gaps.proofs.AddableLaws.{addable-alike}

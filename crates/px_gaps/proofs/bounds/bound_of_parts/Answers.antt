@@ -1,4 +1,3 @@
--- Proofs of the goals that `bound_of_parts` of src/bounds.rt leaves open.
 use Rattle.std.proofs.Common.{◌+◌, List, drop, refl, subst, take}
 use Rattle.std.specs.Prelude.{remove}
 use Rattle.px_terms.specs.declared.clause.Lit.{Lit}

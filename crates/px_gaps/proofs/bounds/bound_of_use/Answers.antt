@@ -1,4 +1,3 @@
--- Proofs of the goals that `bound_of_use` of src/bounds.rt leaves open.
 use Rattle.px_gaps.specs.Bounds.{IsBoundBy, IsBoundOfUse}
 use Rattle.std.specs.Prelude.{remove}
 use Rattle.px_terms.specs.declared.clause.Clause.{Clause}

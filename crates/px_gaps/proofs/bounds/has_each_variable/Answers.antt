@@ -1,4 +1,3 @@
--- Proofs of the goals that `has_each_variable` of src/bounds.rt leaves open.
 use Rattle.std.proofs.Common.{ℕ, List, inl, inr, subst, sym}
 use Rattle.std.specs.Prelude.{Contains}
 use Rattle.px_terms.specs.declared.term.Term.{Term}

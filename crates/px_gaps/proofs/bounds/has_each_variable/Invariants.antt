@@ -1,4 +1,3 @@
--- What the loops of `has_each_variable` in src/bounds.rt keep true.
 use Rattle.std.proofs.Common.{◌<◌, ℕ}
 use Rattle.std.specs.Prelude.{Contains}
 use Rattle.px_terms.specs.declared.term.Term.TheVariants.{Var}

@@ -1,4 +1,3 @@
--- Proofs of the goals that `next_table` of src/bounds.rt leaves open.
 use Rattle.std.proofs.Common.{◌∷◌, [], Option, length, ap, arith}
 use Rattle.std.proofs.lemmas.List.{length-append}
 use Rattle.px_gaps.specs.declared.bounds.Bound.{Bound}

@@ -1,4 +1,3 @@
--- What the loops of `next_table` in src/bounds.rt keep true.
 use Rattle.std.proofs.Common.{◌≡◌, length}
 use Rattle.px_gaps.specs.Bounds.{AreBoundsAbove}
 use Rattle.px_gaps.proofs.bounds.next_table.Given as goal

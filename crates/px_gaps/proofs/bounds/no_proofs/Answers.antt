@@ -1,4 +1,3 @@
--- Proofs of the goals that `no_proofs` of src/bounds.rt leaves open.
 use Rattle.std.proofs.Common.{Some, length}
 use Rattle.px_gaps.specs.declared.bounds.Bound.{Bound}
 use Rattle.px_gaps.proofs.AtomBounds.{table-push}

@@ -1,4 +1,3 @@
--- What the loops of `no_proofs` in src/bounds.rt keep true.
 use Rattle.px_gaps.specs.Bounds.{AreBounds}
 use Rattle.px_gaps.proofs.bounds.no_proofs.Given as goal
 

@@ -1,4 +1,3 @@
--- Proofs of the goals that `push_open` of src/choices.rt leaves open.
 use Rattle.std.proofs.Common.{◌≡◌, ◌∙◌, ◌<◌, List, length, map, set, sym, subst, arith}
 use Rattle.std.specs.Prelude.{All}
 use Rattle.std.proofs.lemmas.List.{length-set}

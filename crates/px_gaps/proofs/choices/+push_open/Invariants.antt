@@ -1,4 +1,3 @@
--- What the loops of `push_open` in src/choices.rt keep true.
 use Rattle.std.specs.Prelude.{◌↔◌, ◌⊎◌, ℕ, List, map, Contains}
 use Rattle.px_prover.specs.Patterns.{object_under}
 use Rattle.px_terms.specs.Sorts.{ObjectsFit}

@@ -1,4 +1,3 @@
--- What the loops of `choices_of` in src/choices.rt keep true.
 use Rattle.std.specs.Prelude.{◌↔◌, ℕ, List, take, Contains}
 use Rattle.px_prover.specs.declared.pattern.GapPattern.{GapPattern}
 use Rattle.px_terms.specs.Sorts.{ObjectsFit}

@@ -1,4 +1,3 @@
--- Proofs of the goals that `first_of` of src/choices.rt leaves open.
 use Rattle.std.proofs.Common.{◌∙◌, get_or, sym}
 use Rattle.px_terms.specs.declared.term.Term.TheVariants.{Obj}
 use Rattle.px_gaps.specs.Choices.{IsClosed}

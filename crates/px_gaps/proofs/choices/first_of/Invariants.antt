@@ -1,4 +1,3 @@
--- What the loops of `first_of` in src/choices.rt keep true.
 use Rattle.px_gaps.specs.Choices.{IsClosed}
 use Rattle.px_base.proofs.Loops.{AllBefore}
 use Rattle.px_gaps.proofs.choices.first_of.Given as goal

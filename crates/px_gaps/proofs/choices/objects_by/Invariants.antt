@@ -1,4 +1,3 @@
--- What the loops of `objects_by` in src/choices.rt keep true.
 use Rattle.std.proofs.Common.{◌≡◌, map, take}
 use Rattle.px_terms.specs.Language.{substitute, object_of}
 use Rattle.px_gaps.proofs.choices.objects_by.Given as goal

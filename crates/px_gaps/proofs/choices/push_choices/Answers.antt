@@ -1,4 +1,3 @@
--- Proofs of the goals that `push_choices` of src/choices.rt leaves open.
 use Rattle.std.proofs.Common.{◌⊎◌, ◌∙◌, ℕ, List, length, map, sym, subst, ap}
 use Rattle.std.specs.Prelude.{◌↔◌, All, Contains}
 use Rattle.px_prover.specs.Patterns.{object_under}

@@ -1,4 +1,3 @@
--- Proofs of the goals that `push_objects` of src/choices.rt leaves open.
 use Rattle.std.proofs.Common.{◌∙◌, ℕ, List, map, subst, sym}
 use Rattle.px_terms.specs.Language.{object_of, substitute}
 use Rattle.px_terms.specs.Sorts.{ObjectsFit}

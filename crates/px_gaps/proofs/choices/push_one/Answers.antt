@@ -1,4 +1,3 @@
--- Proofs of the goals that `push_one` of src/choices.rt leaves open.
 use Rattle.std.proofs.Common.{map}
 use Rattle.px_prover.specs.Patterns.{object_under}
 use Rattle.px_terms.specs.Language.{substitute, object_of}

@@ -1,4 +1,3 @@
--- Proofs of the goals that `gaps` of src/differences.rt leaves open.
 use Rattle.std.proofs.Common.{◌≡◌, ◌∙◌, List, sym, subst}
 use Rattle.std.specs.Prelude.{◌↔◌, All, Contains}
 use Rattle.px_prover.specs.PatternLists.{lists_of}

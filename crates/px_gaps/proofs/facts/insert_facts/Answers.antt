@@ -1,4 +1,3 @@
--- Proofs of the goals that `insert_facts` of src/facts.rt leaves open.
 use Rattle.std.proofs.Common.{◌⊎◌, ◌∙◌, List, subst}
 use Rattle.std.specs.Prelude.{◌↔◌, Contains}
 use Rattle.std.proofs.lemmas.List.{take_all}

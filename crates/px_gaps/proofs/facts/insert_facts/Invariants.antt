@@ -1,4 +1,3 @@
--- What the loops of `insert_facts` in src/facts.rt keep true.
 use Rattle.std.proofs.Common.{◌⊎◌, take}
 use Rattle.std.specs.Prelude.{◌↔◌, Contains}
 use Rattle.px_terms.specs.declared.atom.Atom.{Atom}

@@ -1,4 +1,3 @@
--- Proofs of the goals that `insert_instance` of src/facts.rt leaves open.
 use Rattle.std.proofs.Common.{subst, sym, inl, inr}
 use Rattle.px_gaps.specs.Forms.{IsInstanceIn}
 use Rattle.px_gaps.proofs.Grows.{inserted, nothing_comes}

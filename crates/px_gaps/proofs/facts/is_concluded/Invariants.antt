@@ -1,4 +1,3 @@
--- What the loops of `is_concluded` in src/facts.rt keep true.
 use Rattle.px_terms.specs.declared.clause.Clause.{Clause}
 use Rattle.px_gaps.specs.Concluding.{Asserts}
 use Rattle.px_base.proofs.Loops.{AllBefore}

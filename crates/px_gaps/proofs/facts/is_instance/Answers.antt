@@ -1,4 +1,3 @@
--- Proofs of the goals that `is_instance` of src/facts.rt leaves open.
 use Rattle.std.proofs.Common.{◌≡◌, ◌∙◌, List, ap, length, subst, sym, arith}
 use Rattle.std.specs.Prelude.{All}
 use Rattle.px_terms.specs.Language.{IsObjectBelow}

@@ -1,4 +1,3 @@
--- What the loops of `form_of` in src/forms.rt keep true.
 use Rattle.std.proofs.Common.{◌≡◌, map, take, length}
 use Rattle.px_gaps.specs.Forms.{named_by}
 use Rattle.px_gaps.proofs.forms.form_of.Given as goal

@@ -1,4 +1,3 @@
--- Proofs of the goals that `forms_of` of src/forms.rt leaves open.
 use Rattle.std.proofs.Common.{◌≡◌, ◌⊎◌, List, subst, arith}
 use Rattle.std.specs.Prelude.{◌↔◌, Contains}
 use Rattle.std.proofs.lemmas.List.{take_all}

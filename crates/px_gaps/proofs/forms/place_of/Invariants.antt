@@ -1,4 +1,3 @@
--- What the loops of `place_of` in src/forms.rt keep true.
 use Rattle.std.proofs.Common.{◌≡◌, ◌+◌, drop}
 use Rattle.px_gaps.specs.Forms.{place_in}
 use Rattle.px_gaps.proofs.forms.place_of.Given as goal

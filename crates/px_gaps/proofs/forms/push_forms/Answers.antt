@@ -1,4 +1,3 @@
--- Proofs of the goals that `push_forms` of src/forms.rt leaves open.
 use Rattle.std.proofs.Common.{◌≡◌, ◌⊎◌, List, sym, subst, arith}
 use Rattle.std.specs.Prelude.{◌↔◌, Contains}
 use Rattle.std.proofs.lemmas.List.{take_all}

@@ -1,4 +1,3 @@
--- Proofs of the goals that `ask_closings` of src/gap_answer.rt leaves open.
 use Rattle.std.proofs.Common.{List, sym, subst}
 use Rattle.std.proofs.lemmas.Result.{err_from_is_err_and}
 use Rattle.px_prover.specs.declared.pattern.GapPattern.{GapPattern}

@@ -1,4 +1,3 @@
--- Proofs of the goals that `try_formula` of src/knowing.rt leaves open.
 use Rattle.std.proofs.Common.{ap, sym, subst}
 use Rattle.px_question.specs.Limits.{IsLimited}
 use Rattle.px_question.specs.Settings.{setting_of}

@@ -1,4 +1,3 @@
--- Proofs of the goals that `addable_alike` of src/laws.rt leaves open.
 use Rattle.px_gaps.proofs.AddableLaws.{addable-alike}
 use Rattle.px_gaps.proofs.laws.addable_alike.Goals as goal
 

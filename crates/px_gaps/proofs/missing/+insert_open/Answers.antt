@@ -1,4 +1,3 @@
--- Proofs of the goals that `insert_open` of src/missing.rt leaves open.
 use Rattle.std.proofs.Common.{◌≡◌, ◌∙◌, ◌<◌, List, length, set, sym, subst, arith}
 use Rattle.px_question.specs.Answers.{object_terms}
 use Rattle.px_terms.specs.Substitution.{substitute_atom}

@@ -1,4 +1,3 @@
--- What the loops of `insert_open` in src/missing.rt keep true.
 use Rattle.std.specs.Prelude.{◌↔◌, ◌⊎◌, Contains}
 use Rattle.px_question.specs.Answers.{object_terms}
 use Rattle.px_terms.specs.Substitution.{substitute_atom}

@@ -1,4 +1,3 @@
--- Proofs of the goals that `insert_missing` of src/missing.rt leaves open.
 use Rattle.std.proofs.Common.{◌⊎◌, ◌∙◌, ℕ, List, length, ap, sym, subst, arith}
 use Rattle.std.specs.Prelude.{◌↔◌, Contains}
 use Rattle.std.proofs.lemmas.List.{take_all}

@@ -1,4 +1,3 @@
--- What the loops of `insert_missing` in src/missing.rt keep true.
 use Rattle.std.specs.Prelude.{◌↔◌, ◌⊎◌, take, Contains}
 use Rattle.px_terms.specs.declared.atom.Atom.{Atom}
 use Rattle.px_gaps.specs.Closings.{OneOf}

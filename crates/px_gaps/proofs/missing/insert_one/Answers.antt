@@ -1,4 +1,3 @@
--- Proofs of the goals that `insert_one` of src/missing.rt leaves open.
 use Rattle.px_question.specs.Answers.{object_terms}
 use Rattle.px_terms.specs.Substitution.{substitute_atom}
 use Rattle.px_gaps.proofs.Choosing.{atom-fixed, none-open, one-put, one-there, said, said_not}

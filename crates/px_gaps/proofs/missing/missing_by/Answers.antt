@@ -1,4 +1,3 @@
--- Proofs of the goals that `missing_by` of src/missing.rt leaves open.
 use Rattle.std.proofs.Common.{List, subst, arith}
 use Rattle.std.specs.Prelude.{◌↔◌, Contains}
 use Rattle.std.proofs.lemmas.List.{take_all}

@@ -1,4 +1,3 @@
--- What the loops of `missing_by` in src/missing.rt keep true.
 use Rattle.std.specs.Prelude.{◌↔◌, take, Contains}
 use Rattle.px_prover.specs.declared.pattern.GapPattern.{GapPattern}
 use Rattle.px_terms.specs.declared.atom.Atom.{Atom}

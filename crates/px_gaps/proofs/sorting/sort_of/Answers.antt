@@ -1,4 +1,3 @@
--- Proofs of the goals that `sort_of` of src/sorting.rt leaves open.
 use Rattle.std.proofs.Common.{ℕ, subst, sym}
 use Rattle.std.specs.Prelude.{slice_index}
 use Rattle.px_terms.specs.Sorts.{FitsSort}

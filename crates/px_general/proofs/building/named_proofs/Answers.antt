@@ -1,4 +1,3 @@
--- Proofs of the goals that `named_proofs` of src/building.rt leaves open.
 use Rattle.std.proofs.Common.{length}
 use Rattle.px_terms.specs.Language.{IsVariableBelow}
 use Rattle.px_proof.specs.Derivation.{terms_of}

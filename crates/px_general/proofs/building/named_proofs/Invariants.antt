@@ -1,4 +1,3 @@
--- What the loops of `named_proofs` in src/building.rt keep true.
 use Rattle.std.proofs.Common.{◌≡◌, take, map}
 use Rattle.px_proof.specs.ProofTerm.{derivation_of}
 use Rattle.px_proof.specs.Substitution.{derivation_under}

@@ -1,4 +1,3 @@
--- What the loops of `named_steps` in src/building.rt keep true.
 use Rattle.std.proofs.Common.{◌≡◌, take, map}
 use Rattle.px_terms.specs.Substitution.{substitute_instance}
 use Rattle.px_general.proofs.building.named_steps.Given as goal

@@ -1,4 +1,3 @@
--- Proofs of the goals that `generalise` of src/generalising.rt leaves open.
 use Rattle.px_table.specs.KernelLaws.{kernels_carry}
 use Rattle.px_general.proofs.generalising.generalise.Goals as goal
 

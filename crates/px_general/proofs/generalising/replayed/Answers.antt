@@ -1,4 +1,3 @@
--- Proofs of the goals that `replayed` of src/generalising.rt leaves open.
 use Rattle.std.proofs.Common.{◌∙◌, ◌++◌, List, ap, subst, replicate}
 use Rattle.px_base.proofs.Loops.{ok_map}
 use Rattle.px_terms.specs.declared.atom.Atom.{Atom}

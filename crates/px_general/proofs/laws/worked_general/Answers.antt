@@ -1,4 +1,3 @@
--- Proofs of the goals that `worked_general` of src/laws.rt leaves open.
 use Rattle.px_general.proofs.Touching.{general_facts}
 use Rattle.px_general.proofs.laws.worked_general.Goals as goal
 

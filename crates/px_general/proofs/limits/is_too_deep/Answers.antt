@@ -1,4 +1,3 @@
--- Proofs of the goals that `is_too_deep` of src/limits.rt leaves open.
 use Rattle.std.proofs.Common.{◌<◌, List, subst, sym}
 use Rattle.std.specs.Prelude.{Any}
 use Rattle.px_proof.specs.declared.proof.Proof.{Proof}

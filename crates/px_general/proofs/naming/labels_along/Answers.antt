@@ -1,4 +1,3 @@
--- Proofs of the goals that `labels_along` of src/naming.rt leaves open.
 use Rattle.std.proofs.Common.{◌≡◌, ◌∙◌, List, [], length, sym, subst, arith}
 use Rattle.px_terms.specs.declared.term.Term.{Term}
 use Rattle.px_general.specs.Naming.{AreLabels}

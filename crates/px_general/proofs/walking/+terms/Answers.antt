@@ -1,4 +1,3 @@
--- Proofs of the goals that `terms` of src/walking.rt leaves open.
 use Rattle.std.proofs.Common.{◌∙◌, ◌++◌, ap, sym, arith}
 use Rattle.px_general.proofs.WalkSteps.{collected_all, each-terms, proof_terms}
 use Rattle.px_general.proofs.walking.+terms.Goals as goal

@@ -1,4 +1,3 @@
--- What the loops of `terms` in src/walking.rt keep true.
 use Rattle.std.proofs.Common.{◌≡◌, ◌++◌, take}
 use Rattle.std.specs.Prelude.{flat_map}
 use Rattle.px_general.proofs.WalkSteps.{proof_terms}

@@ -1,4 +1,3 @@
--- What the loops of `add_args` in src/walking.rt keep true.
 use Rattle.std.proofs.Common.{◌≡◌, ◌++◌, take}
 use Rattle.px_general.specs.Naming.{args_of_leaves}
 use Rattle.px_general.proofs.walking.add_args.Given as goal

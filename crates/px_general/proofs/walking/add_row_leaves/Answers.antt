@@ -1,4 +1,3 @@
--- Proofs of the goals that `add_row_leaves` of src/walking.rt leaves open.
 use Rattle.std.proofs.Common.{◌∙◌, ◌++◌, List, ap, arith}
 use Rattle.px_proof.specs.declared.proof.Leaf.{Leaf}
 use Rattle.px_general.specs.Naming.{args_of_leaves}

@@ -1,4 +1,3 @@
--- Proofs of the goals that `add_rows` of src/walking.rt leaves open.
 use Rattle.std.proofs.Common.{◌∙◌, ◌++◌, List, ap, arith}
 use Rattle.px_proof.specs.declared.proof.Proof.{Proof}
 use Rattle.px_general.proofs.WalkSteps.{collected, collected_all, row_terms_of, rows-terms}

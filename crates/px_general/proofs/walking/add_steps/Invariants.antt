@@ -1,4 +1,3 @@
--- What the loops of `add_steps` in src/walking.rt keep true.
 use Rattle.std.proofs.Common.{◌≡◌, ◌++◌, take}
 use Rattle.px_general.specs.General.{step_terms}
 use Rattle.px_general.proofs.walking.add_steps.Given as goal

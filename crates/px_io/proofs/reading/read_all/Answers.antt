@@ -1,4 +1,3 @@
--- Proofs of the goals that `read_all` of src/reading.rt leaves open.
 use Rattle.std.proofs.Common.{◌++◌, take, arith}
 use Rattle.std.proofs.lemmas.Grind.{common_steps}
 use Rattle.std.proofs.KnownBytes.{Consumes-trans}

@@ -1,4 +1,3 @@
--- What the loops of `read_all` in src/reading.rt keep true.
 use Rattle.std.proofs.Common.{◌≡◌, ◌+◌, ◌-◌, ◌≤◌, length}
 use Rattle.std.specs.Io.KnownBytes.{Consumes}
 use Rattle.px_io.proofs.reading.read_all.Given as goal

@@ -1,4 +1,3 @@
--- Proofs of the goals that `put` of src/writing.rt leaves open.
 use Rattle.std.proofs.Common.{◌++◌, take, append_assoc, arith}
 use Rattle.std.proofs.lemmas.Grind.{common_steps}
 use Rattle.std.proofs.KnownBytes.{Appends-trans}

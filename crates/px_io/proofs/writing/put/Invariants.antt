@@ -1,4 +1,3 @@
--- What the loops of `put` in src/writing.rt keep true.
 use Rattle.std.proofs.Common.{◌≡◌, ℕ, List, length}
 use Rattle.px_io.specs.Writing.{AppendsFront}
 use Rattle.px_io.proofs.writing.put.Given as goal

@@ -1,4 +1,3 @@
--- Proofs of the goals that `lacks` of src/lacking.rt leaves open.
 use Rattle.std.proofs.Common.{subst}
 use Rattle.px_entries.specs.Entries.{IsEntry}
 use Rattle.px_lacks.proofs.lacking.lacks.Goals as goal

@@ -1,4 +1,3 @@
--- Proofs of the goals that `lacks_of_prefix` of src/lacking.rt leaves open.
 use Rattle.std.proofs.Common.{◌∙◌, ◌<◌, ◌≤◌, ◌+◌, take, ap, sym, subst, arith, add-one}
 use Rattle.px_table.specs.Kernels.{steps_under}
 use Rattle.px_entries.specs.Entries.{initial_atoms}

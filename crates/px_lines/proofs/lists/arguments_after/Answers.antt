@@ -1,4 +1,3 @@
--- Proofs of the goals that `arguments_after` of src/lists.rt leaves open.
 use Rattle.px_lines.proofs.Common.{◌≡◌, ◌∙◌, ◌++◌, ◌∷◌, [], false, map, arith, ◌==◌, common_steps, map-append, argument_of, lexemes_in, argument_view}
 use Rattle.px_lines.proofs.Walks.{items-closed, items-wrong, items-more, items-none, item-shorter}
 use Rattle.px_lines.proofs.lists.arguments_after.Goals as goal

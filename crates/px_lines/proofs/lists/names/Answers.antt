@@ -1,4 +1,3 @@
--- Proofs of the goals that `names` of src/lists.rt leaves open.
 use Rattle.px_lines.proofs.Common.{◌∙◌, sym, ap, if_whole, lexemes_in, arith, common_steps}
 use Rattle.px_lines.proofs.Walks.{name-advances, things-more, things-none, things-end, names-are}
 use Rattle.px_lines.proofs.lists.names.Goals as goal

@@ -1,4 +1,3 @@
--- What the loops of `names_among` in src/lists.rt keep true.
 use Rattle.px_lines.proofs.Common.{◌≡◌, ◌++◌, drop, map, option_map, names_among, argument_view, text_of}
 use Rattle.px_lines.proofs.lists.names_among.Given as goal
 

@@ -1,4 +1,3 @@
--- Proofs of the goals that `numbers` of src/lists.rt leaves open.
 use Rattle.px_lines.proofs.Common.{◌∙◌, Some, sym, ap, if_whole, lexemes_in, arith, common_steps}
 use Rattle.px_lines.proofs.Walks.{number-advances, things-more, things-none, things-end, numbers-are, map-same}
 use Rattle.px_lines.proofs.lists.numbers.Goals as goal

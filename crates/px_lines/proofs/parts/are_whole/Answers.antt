@@ -1,4 +1,3 @@
--- Proofs of the goals that `are_whole` of src/parts.rt leaves open.
 use Rattle.px_lines.proofs.Common.{arith, drop, length-drop, length-map, map, part_view}
 use Rattle.px_lines.proofs.RowProofs.{too-many-owed}
 use Rattle.px_lines.proofs.parts.are_whole.Goals as goal

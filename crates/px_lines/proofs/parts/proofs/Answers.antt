@@ -1,4 +1,3 @@
--- Proofs of the goals that `proofs` of src/parts.rt leaves open.
 use Rattle.px_lines.proofs.Common.{◌∙◌, sym, arith, common_steps}
 use Rattle.px_lines.proofs.Walks.{part-advances, things-fewer, things-more, things-none, things-end}
 use Rattle.px_lines.proofs.parts.proofs.Goals as goal

@@ -1,4 +1,3 @@
--- Proofs of the goals that `formed_line` of src/reading.rt leaves open.
 use Rattle.px_lines.proofs.Common.{◌∙◌, sym}
 use Rattle.px_lines.specs.LineViews.{line_view}
 use Rattle.px_lines.proofs.FormedLines.{lexed-read, formed-none, formed-some, formed-not}

@@ -1,4 +1,3 @@
--- Proofs of the goals that `one_items` of src/reading.rt leaves open.
 use Rattle.px_lines.proofs.Common.{◌∙◌, arith, common_steps, lexemes_in}
 use Rattle.px_lines.proofs.Ones.{ones-ended, ones-more, ones-end}
 use Rattle.px_script.specs.declared.kinds.One.TheVariants as one

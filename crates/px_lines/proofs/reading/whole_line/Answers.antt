@@ -1,4 +1,3 @@
--- Proofs of the goals that `whole_line` of src/reading.rt leaves open.
 use Rattle.px_lines.proofs.Views.{known-word}
 use Rattle.px_lines.proofs.reading.whole_line.Goals as goal
 

@@ -1,4 +1,3 @@
--- Proofs of the goals that `atoms` of src/series.rt leaves open.
 use Rattle.px_lines.proofs.Common.{◌∙◌, sym, arith, common_steps}
 use Rattle.px_lines.proofs.Walks.{atom-advances, things-fewer, things-more, things-none, things-end}
 use Rattle.px_lines.proofs.series.atoms.Goals as goal

@@ -1,4 +1,3 @@
--- Proofs of the goals that `bindings` of src/series.rt leaves open.
 use Rattle.px_lines.proofs.Common.{◌∙◌, sym, arith, common_steps}
 use Rattle.px_lines.proofs.Walks.{binding-advances, things-more, things-none, things-end}
 use Rattle.px_lines.proofs.series.bindings.Goals as goal

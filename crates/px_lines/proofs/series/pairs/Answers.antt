@@ -1,4 +1,3 @@
--- Proofs of the goals that `pairs` of src/series.rt leaves open.
 use Rattle.px_lines.proofs.Common.{◌∙◌, sym, arith, common_steps}
 use Rattle.px_lines.proofs.Walks.{pair-advances, things-more, things-none, things-end}
 use Rattle.px_lines.proofs.series.pairs.Goals as goal

@@ -1,4 +1,3 @@
--- Proofs of the goals that `parameter_of` of src/series.rt leaves open.
 use Rattle.px_lines.proofs.Common.{◌∙◌, arith, lit<, strip_prefix_char, starts_char}
 use Rattle.px_base.specs.Answers.{both_answers}
 use Rattle.px_lines.proofs.Parameters.{no-letter, no-digit, no-number, a-number}

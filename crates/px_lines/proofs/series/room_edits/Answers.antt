@@ -1,4 +1,3 @@
--- Proofs of the goals that `room_edits` of src/series.rt leaves open.
 use Rattle.px_lines.proofs.Common.{◌∙◌, sym, arith, common_steps}
 use Rattle.px_lines.proofs.Walks.{room-edit-advances, things-more, things-none, things-end}
 use Rattle.px_lines.proofs.series.room_edits.Goals as goal

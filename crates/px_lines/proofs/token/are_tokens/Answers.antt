@@ -1,4 +1,3 @@
--- Proofs of the goals that `are_tokens` of src/token.rt leaves open.
 use Rattle.px_lines.proofs.Common.{◌∙◌, sym}
 use Rattle.px_lines.proofs.Scans.{scan-found, scan-ignored, scan-bad, whole-lexed, not-lexed, found-fewer}
 use Rattle.px_lines.specs.Tokens.{lexemes_in}

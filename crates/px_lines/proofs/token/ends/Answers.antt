@@ -1,4 +1,3 @@
--- Proofs of the goals that `ends` of src/token.rt leaves open.
 use Rattle.px_lines.proofs.Scans.{end-there, no-end}
 use Rattle.px_lines.proofs.token.ends.Goals as goal
 

@@ -1,4 +1,3 @@
--- Proofs of the goals that `name_at` of src/token.rt leaves open.
 use Rattle.px_lines.proofs.Common.{◌≡◌, ◌∙◌, ◌∷◌, sym, ap, true, arith, refl, encode_utf8_all, chars, encodes-chars, starts_name, front_while, after_while, starts-continues}
 use Rattle.unicode_ident.specs.Ident.{is_xid_continue}
 use Rattle.px_lines.proofs.token.name_at.Goals as goal

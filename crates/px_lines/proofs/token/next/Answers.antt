@@ -1,4 +1,3 @@
--- Proofs of the goals that `next` of src/token.rt leaves open.
 use Rattle.px_lines.proofs.Scans.{next-there, next-bad}
 use Rattle.px_lines.proofs.token.next.Goals as goal
 

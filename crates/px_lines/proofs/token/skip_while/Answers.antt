@@ -1,4 +1,3 @@
--- Proofs of the goals that `skip_while` of src/token.rt leaves open.
 use Rattle.px_lines.proofs.Common.{◌≡◌, ◌++◌, [], true, refl, arith, encode_utf8, chars-nil, is_of}
 use Rattle.px_lines.proofs.Texts.{front-grows}
 use Rattle.px_lines.proofs.token.skip_while.Goals as goal

@@ -1,4 +1,3 @@
--- What the loops of `skip_while` in src/token.rt keep true.
 use Rattle.px_lines.proofs.Common.{◌≡◌, ◌++◌, ℕ, List, length, true, list_all, IsUtf8, chars, is_of}
 use Rattle.px_lines.proofs.token.skip_while.Given as goal
 

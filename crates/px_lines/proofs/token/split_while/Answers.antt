@@ -1,4 +1,3 @@
--- Proofs of the goals that `split_while` of src/token.rt leaves open.
 use Rattle.px_lines.proofs.Common.{◌≡◌, arith, common_steps, is_of}
 use Rattle.px_lines.proofs.Texts.{front-ends, cut-boundary, cut-front}
 use Rattle.px_lines.proofs.token.split_while.Goals as goal

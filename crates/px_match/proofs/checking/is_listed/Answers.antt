@@ -1,4 +1,3 @@
--- Proofs of the goals that `is_listed` of src/checking.rt leaves open.
 use Rattle.std.specs.Prelude.{◌<◌, length}
 use Rattle.std.proofs.Common.{rules, refl, sym, ◌∙◌}
 use Rattle.px_match.proofs.Renewed.{met}

@@ -1,4 +1,3 @@
--- Proofs of the goals that `least` of src/filling.rt leaves open.
 use Rattle.px_match.proofs.Walked.{walked_past}
 use Rattle.px_match.proofs.filling.least.Goals as goal
 

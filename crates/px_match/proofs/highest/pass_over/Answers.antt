@@ -1,4 +1,3 @@
--- Proofs of the goals that `pass_over` of src/highest.rt leaves open.
 use Rattle.std.specs.Prelude.{◌≡◌, ◌<◌, ◌≤◌, ◌-◌, ℕ, List, All, Contains, length}
 use Rattle.std.proofs.Common.{rules, sym, ap, subst, get_or, arith}
 use Rattle.px_table.specs.declared.mark.Mark.{Mark}

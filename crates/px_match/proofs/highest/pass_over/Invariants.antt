@@ -1,4 +1,3 @@
--- What the loops of `pass_over` in src/highest.rt keep true.
 use Rattle.std.specs.Prelude.{◌≤◌, ◌<◌, ℕ, List, All, Contains}
 use Rattle.px_table.specs.Kernels.{kernel_under}
 use Rattle.px_match.proofs.highest.pass_over.Given as goal

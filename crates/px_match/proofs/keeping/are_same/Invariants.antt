@@ -1,4 +1,3 @@
--- What the loops of `are_same` in src/keeping.rt keep true.
 use Rattle.std.proofs.Common.{◌≡◌, drop}
 use Rattle.std.specs.Cmp.Lexicographic.{pointwise}
 use Rattle.px_terms.specs.Order.{term_eq}

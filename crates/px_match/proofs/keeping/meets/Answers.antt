@@ -1,4 +1,3 @@
--- Proofs of the goals that `meets` of src/keeping.rt leaves open.
 use Rattle.std.proofs.Common.{refl, sym, ◌∙◌}
 use Rattle.px_match.proofs.Renewed.{met}
 use Rattle.px_match.proofs.keeping.meets.Goals as goal

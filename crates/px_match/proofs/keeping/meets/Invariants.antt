@@ -1,4 +1,3 @@
--- What the loops of `meets` in src/keeping.rt keep true.
 use Rattle.std.specs.Prelude.{◌-◌, length}
 use Rattle.px_match.proofs.keeping.meets.Given as goal
 

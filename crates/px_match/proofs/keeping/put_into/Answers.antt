@@ -1,4 +1,3 @@
--- Proofs of the goals that `put_into` of src/keeping.rt leaves open.
 use Rattle.std.specs.Prelude.{◌<◌, length}
 use Rattle.std.proofs.Common.{◌∙◌, arith}
 use Rattle.std.proofs.lemmas.List.{length-set}

@@ -1,4 +1,3 @@
--- Proofs of the goals that `put_new` of src/keeping.rt leaves open.
 use Rattle.std.proofs.Common.{sym, ap, subst, ◌+◌, arith}
 use Rattle.std.specs.Prelude.{List, length}
 use Rattle.px_ops.specs.ModelValue.{ModelValue}

@@ -1,4 +1,3 @@
--- What the loops of `put_new` in src/keeping.rt keep true.
 use Rattle.px_match.proofs.Renewed.{IsComing}
 use Rattle.px_match.proofs.keeping.put_new.Given as goal
 

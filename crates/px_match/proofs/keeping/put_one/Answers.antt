@@ -1,4 +1,3 @@
--- Proofs of the goals that `put_one` of src/keeping.rt leaves open.
 use Rattle.std.proofs.Common.{sym, ap, ◌∙◌}
 use Rattle.px_terms.specs.AtomSets.{with_atom}
 use Rattle.px_match.specs.Keeping.{covers}

@@ -1,4 +1,3 @@
--- Proofs of the goals that `renew` of src/keeping.rt leaves open.
 use Rattle.std.specs.Prelude.{length}
 use Rattle.px_match.proofs.Renewed.{matches_of}
 use Rattle.px_match.proofs.keeping.renew.Goals as goal

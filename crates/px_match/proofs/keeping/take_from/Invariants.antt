@@ -1,4 +1,3 @@
--- What the loops of `take_from` in src/keeping.rt keep true.
 use Rattle.std.specs.Prelude.{◌≡◌, ◌<◌, ◌≤◌, ℕ, length}
 use Rattle.std.proofs.Common.{get_or}
 use Rattle.px_ops.specs.ModelValue.{ModelValue}

@@ -1,4 +1,3 @@
--- Proofs of the goals that `take_gone` of src/keeping.rt leaves open.
 use Rattle.std.specs.Prelude.{length}
 use Rattle.std.proofs.Common.{refl, ap, ◌∙◌, arith}
 use Rattle.px_match.proofs.Renewed.{found_next, found_taken, kept_taken, left_less}

@@ -1,4 +1,3 @@
--- What the loops of `take_gone` in src/keeping.rt keep true.
 use Rattle.std.specs.Prelude.{◌≡◌, ◌-◌, ℕ, length}
 use Rattle.px_match.specs.Keeping.{AreKept}
 use Rattle.px_match.proofs.Renewed.{AreFound}

@@ -1,4 +1,3 @@
--- Proofs of the goals that `take_one` of src/keeping.rt leaves open.
 use Rattle.std.proofs.Common.{sym, ap, ◌∙◌}
 use Rattle.px_ops.specs.Models.{without_atom}
 use Rattle.px_match.specs.Keeping.{covers}

@@ -1,4 +1,3 @@
--- Proofs of the goals that `is_proper` of src/known.rt leaves open.
 use Rattle.std.specs.Prelude.{◌≡◌}
 use Rattle.std.proofs.Common.{rules, refl}
 use Rattle.px_match.proofs.Proper.{proper_same}

@@ -1,4 +1,3 @@
--- Proofs of the goals that `danger_kernels` of src/laws.rt leaves open.
 use Rattle.px_match.proofs.DangerLaws.{danger_kernels}
 use Rattle.px_match.proofs.laws.danger_kernels.Goals as goal
 

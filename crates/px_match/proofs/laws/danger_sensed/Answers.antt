@@ -1,4 +1,3 @@
--- Proofs of the goals that `danger_sensed` of src/laws.rt leaves open.
 use Rattle.px_match.proofs.DangerSensing.{danger_sensed}
 use Rattle.px_match.proofs.laws.danger_sensed.Goals as goal
 

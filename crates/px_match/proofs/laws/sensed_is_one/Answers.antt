@@ -1,4 +1,3 @@
--- Proofs of the goals that `sensed_is_one` of src/laws.rt leaves open.
 use Rattle.px_match.proofs.Sensing.{sensed_is_one}
 use Rattle.px_match.proofs.laws.sensed_is_one.Goals as goal
 

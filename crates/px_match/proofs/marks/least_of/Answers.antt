@@ -1,4 +1,3 @@
--- Proofs of the goals that `least_of` of src/marks.rt leaves open.
 use Rattle.std.proofs.Common.{sym, ap, ◌∙◌}
 use Rattle.px_ops.specs.ModelValue.{ModelValue}
 use Rattle.px_match.proofs.Passed.{mark_holds}

@@ -1,4 +1,3 @@
--- What the loops of `lists_of` in src/matcher.rt keep true.
 use Rattle.px_match.specs.Keeping.{AreEmpty}
 use Rattle.px_match.proofs.matcher.lists_of.Given as goal
 

@@ -1,4 +1,3 @@
--- What the loops of `has_meeting` in src/meeting.rt keep true.
 use Rattle.px_match.specs.Reasons.{Grown}
 use Rattle.px_match.proofs.meeting.has_meeting.Given as goal
 

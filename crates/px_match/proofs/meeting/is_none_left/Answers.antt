@@ -1,4 +1,3 @@
--- Proofs of the goals that `is_none_left` of src/meeting.rt leaves open.
 use Rattle.std.proofs.Common.{Some}
 use Rattle.px_match.proofs.Left.{left_then}
 use Rattle.px_match.proofs.meeting.is_none_left.Goals as goal

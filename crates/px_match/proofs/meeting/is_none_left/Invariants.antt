@@ -1,4 +1,3 @@
--- What the loops of `is_none_left` in src/meeting.rt keep true.
 use Rattle.std.specs.Prelude.{◌-◌, Some, IsTrue}
 use Rattle.px_match.specs.Asking.{IsLeft}
 use Rattle.px_match.specs.Reasons.{Grown}

@@ -1,4 +1,3 @@
--- Proofs of the goals that `least_left` of src/meeting.rt leaves open.
 use Rattle.std.proofs.Common.{List, subst}
 use Rattle.std.specs.Prelude.{All, length}
 use Rattle.px_terms.specs.declared.term.Term.{Term}

@@ -1,4 +1,3 @@
--- Proofs of the goals that `least_left_by_marks` of src/meeting.rt leaves open.
 use Rattle.std.specs.Prelude.{Some}
 use Rattle.std.proofs.Common.{arith}
 use Rattle.px_match.proofs.Left.{left_then}

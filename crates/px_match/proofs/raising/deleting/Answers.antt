@@ -1,4 +1,3 @@
--- Proofs of the goals that `deleting` of src/raising.rt leaves open.
 use Rattle.std.proofs.Common.{◌≡◌, ◌<◌, ◌+◌, ◌∙◌, sym, ap, subst, get_or, length, arith}
 use Rattle.std.specs.Prelude.{List, All, Contains}
 use Rattle.px_base.specs.ListLaws.{All-at}

@@ -1,4 +1,3 @@
--- Proofs of the goals that `has_clash` of src/raising.rt leaves open.
 use Rattle.std.specs.Prelude.{List, All, length}
 use Rattle.std.proofs.Common.{subst}
 use Rattle.px_terms.specs.declared.term.Term.{Term}

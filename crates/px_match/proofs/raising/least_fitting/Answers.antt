@@ -1,4 +1,3 @@
--- Proofs of the goals that `least_fitting` of src/raising.rt leaves open.
 use Rattle.std.specs.Prelude.{List, ℕ, slice_index}
 use Rattle.std.proofs.Common.{◌∙◌, ap, arith}
 use Rattle.px_match.specs.Reasons.{object_at}

@@ -1,4 +1,3 @@
--- What the loops of `least_fitting` in src/raising.rt keep true.
 use Rattle.std.specs.Prelude.{ℕ, ◌<◌, ◌≤◌}
 use Rattle.px_terms.specs.Sorts.{FitsSort}
 use Rattle.px_match.proofs.raising.least_fitting.Given as goal

@@ -1,4 +1,3 @@
--- Proofs of the goals that `try_object` of src/raising.rt leaves open.
 use Rattle.std.proofs.Common.{sym, ◌∙◌}
 use Rattle.px_match.proofs.raising.try_object.Goals as goal
 

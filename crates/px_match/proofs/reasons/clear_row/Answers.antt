@@ -1,4 +1,3 @@
--- Proofs of the goals that `clear_row` of src/reasons.rt leaves open.
 use Rattle.std.specs.Prelude.{◌+◌, ◌*◌}
 use Rattle.std.proofs.Common.{arith}
 use Rattle.px_match.proofs.Floors.{cells_apart}

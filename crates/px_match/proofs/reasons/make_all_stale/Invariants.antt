@@ -1,4 +1,3 @@
--- What the loops of `make_all_stale` in src/reasons.rt keep true.
 use Rattle.std.proofs.Common.{ℕ, ◌<◌}
 use Rattle.px_match.specs.Reasons.{IsStale}
 use Rattle.px_match.proofs.reasons.make_all_stale.Given as goal

@@ -1,4 +1,3 @@
--- What the loops of `make_stale_after` in src/reasons.rt keep true.
 use Rattle.std.proofs.Common.{ℕ, ◌<◌}
 use Rattle.px_match.specs.Reasons.{Grown, IsReason, IsStale}
 use Rattle.px_match.proofs.reasons.make_stale_after.Given as goal

@@ -1,4 +1,3 @@
--- What the loops of `first_near` in src/seeking.rt keep true.
 use Rattle.std.specs.Prelude.{◌≤◌, ◌-◌, length}
 use Rattle.px_match.specs.Seeking.{IsNoneBefore}
 use Rattle.px_match.proofs.seeking.first_near.Given as goal

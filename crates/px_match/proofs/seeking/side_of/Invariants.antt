@@ -1,4 +1,3 @@
--- What the loops of `side_of` in src/seeking.rt keep true.
 use Rattle.px_match.proofs.Sides.{IsSideFrom}
 use Rattle.px_match.proofs.seeking.side_of.Given as goal
 

@@ -1,4 +1,3 @@
--- Proofs of the goals that `search` of src/turns.rt leaves open.
 use Rattle.std.specs.Prelude.{length}
 use Rattle.std.proofs.Common.{refl}
 use Rattle.px_match.specs.Asking.{IsFitFor}

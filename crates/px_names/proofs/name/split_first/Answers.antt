@@ -1,4 +1,3 @@
--- Proofs of the goals that `split_first` of src/name.rt leaves open.
 use Rattle.std.proofs.Common.{◌≡◌, [], arith}
 use Rattle.std.proofs.lemmas.Str.{chars_past_char, chars-nil}
 use Rattle.std.proofs.lemmas.Grind.{common_steps}

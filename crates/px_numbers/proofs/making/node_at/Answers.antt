@@ -1,4 +1,3 @@
--- Proofs of the goals that `node_at` of src/making.rt leaves open.
 use Rattle.std.proofs.Common.{◌≡◌, ◌∙◌}
 use Rattle.px_numbers.specs.NumberLaws.{one_model}
 use Rattle.px_numbers.proofs.making.node_at.Goals as goal

@@ -1,4 +1,3 @@
--- Proofs of the goals that `model_of` of src/numbers.rt leaves open.
 use Rattle.std.proofs.Common.{arith}
 use Rattle.px_numbers.proofs.NumberSteps.{number_within, built_none, built_more, built_all}
 use Rattle.px_numbers.proofs.numbers.model_of.Goals as goal

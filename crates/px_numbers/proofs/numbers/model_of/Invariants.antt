@@ -1,4 +1,3 @@
--- What the loops of `model_of` in src/numbers.rt keep true.
 use Rattle.px_numbers.proofs.NumberSteps.{IsBuilt}
 use Rattle.px_numbers.proofs.numbers.model_of.Given as goal
 

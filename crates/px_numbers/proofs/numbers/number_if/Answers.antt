@@ -1,4 +1,3 @@
--- Proofs of the goals that `number_if` of src/numbers.rt leaves open.
 use Rattle.std.proofs.Common.{◌∙◌, Some, ap, sym}
 use Rattle.px_terms.specs.OrderLaws.{atom_eq-decides}
 use Rattle.px_terms.specs.declared.atom.Atom.{Atom}

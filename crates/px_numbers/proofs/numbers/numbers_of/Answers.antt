@@ -1,4 +1,3 @@
--- Proofs of the goals that `numbers_of` of src/numbers.rt leaves open.
 use Rattle.std.proofs.Common.{◌≡◌, ◌+◌, ◌++◌, ℕ, List, [], ◌∷◌, take, subst, sym, ap, ◌∙◌}
 use Rattle.std.proofs.lemmas.List.{take_more}
 use Rattle.px_terms.specs.declared.atom.Atom.{Atom}

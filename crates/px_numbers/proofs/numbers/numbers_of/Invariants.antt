@@ -1,4 +1,3 @@
--- What the loops of `numbers_of` in src/numbers.rt keep true.
 use Rattle.std.proofs.Common.{take}
 use Rattle.px_ops.specs.Keeping.{AreOnce, KeepsPlaces}
 use Rattle.px_numbers.specs.Numbers.{AreNumbersOf}

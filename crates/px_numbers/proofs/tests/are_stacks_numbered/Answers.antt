@@ -1,4 +1,3 @@
--- Proofs of the goals that `are_stacks_numbered` of src/tests.rt leaves open.
 use Rattle.std.proofs.Common.{[], refl}
 use Rattle.px_numbers.proofs.tests.are_stacks_numbered.Goals as goal
 

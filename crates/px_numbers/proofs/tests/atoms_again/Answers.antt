@@ -1,4 +1,3 @@
--- Proofs of the goals that `atoms_again` of src/tests.rt leaves open.
 use Rattle.px_numbers.proofs.tests.atoms_again.Goals as goal
 
 pub model-requires : goal.model-requires

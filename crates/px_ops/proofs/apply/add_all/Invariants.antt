@@ -1,4 +1,3 @@
--- What the loops of `add_all` in src/apply.rt keep true.
 use Rattle.std.proofs.Common.{◌≡◌, ◌+◌, ◌≤◌, ◌++◌, take}
 use Rattle.px_terms.specs.Operators.{atoms_of}
 use Rattle.px_terms.specs.AtomSets.{atom_set}

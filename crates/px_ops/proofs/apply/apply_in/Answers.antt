@@ -1,4 +1,3 @@
--- Proofs of the goals that `apply_in` of src/apply.rt leaves open.
 use Rattle.px_terms.specs.ValidityLaws.{result_of-is_result}
 use Rattle.px_ops.proofs.apply.apply_in.Goals as goal
 

@@ -1,4 +1,3 @@
--- Proofs of the goals that `apply_op` of src/apply.rt leaves open.
 use Rattle.px_ops.proofs.OperatorLemmas.{result_is_short}
 use Rattle.px_ops.proofs.apply.apply_op.Goals as goal
 

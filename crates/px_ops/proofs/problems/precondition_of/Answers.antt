@@ -1,4 +1,3 @@
--- Proofs of the goals that `precondition_of` of src/problems.rt leaves open.
 use Rattle.std.proofs.Common.{◌≡◌, ◌<◌, length, get_or, sym, arith}
 use Rattle.std.proofs.lemmas.List.{length-map}
 use Rattle.std.proofs.lemmas.Option.{get_or_from_slice_get}

@@ -1,4 +1,3 @@
--- What the loops of `precondition_of` in src/problems.rt keep true.
 use Rattle.std.proofs.Common.{◌≡◌, take}
 use Rattle.px_terms.specs.Operators.{atoms_of}
 use Rattle.px_ops.proofs.problems.precondition_of.Given as goal

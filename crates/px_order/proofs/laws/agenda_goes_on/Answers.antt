@@ -1,4 +1,3 @@
--- Proofs of the goals that `agenda_goes_on` of src/laws.rt leaves open.
 use Rattle.px_order.proofs.LawProofs.{agenda_goes_on}
 use Rattle.px_order.proofs.laws.agenda_goes_on.Goals as goal
 

@@ -1,4 +1,3 @@
--- Proofs of the goals that `all_is_found` of src/laws.rt leaves open.
 use Rattle.px_order.proofs.LawProofs.{all_is_found}
 use Rattle.px_order.proofs.laws.all_is_found.Goals as goal
 

@@ -1,4 +1,3 @@
--- Proofs of the goals that `asked_by_run` of src/laws.rt leaves open.
 use Rattle.px_order.proofs.LawProofs.{asked_by_run}
 use Rattle.px_order.proofs.laws.asked_by_run.Goals as goal
 

@@ -1,4 +1,3 @@
--- Proofs of the goals that `blind_ends` of src/laws.rt leaves open.
 use Rattle.px_order.proofs.LawProofs.{blind_ends}
 use Rattle.px_order.proofs.laws.blind_ends.Goals as goal
 

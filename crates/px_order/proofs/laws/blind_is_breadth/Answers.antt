@@ -1,4 +1,3 @@
--- Proofs of the goals that `blind_is_breadth` of src/laws.rt leaves open.
 use Rattle.px_order.proofs.LawProofs.{blind_is_breadth}
 use Rattle.px_order.proofs.laws.blind_is_breadth.Goals as goal
 

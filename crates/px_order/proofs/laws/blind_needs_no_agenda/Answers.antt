@@ -1,4 +1,3 @@
--- Proofs of the goals that `blind_needs_no_agenda` of src/laws.rt leaves open.
 use Rattle.px_order.proofs.LawProofs.{blind_needs_no_agenda}
 use Rattle.px_order.proofs.laws.blind_needs_no_agenda.Goals as goal
 

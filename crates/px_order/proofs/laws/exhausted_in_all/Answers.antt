@@ -1,4 +1,3 @@
--- Proofs of the goals that `exhausted_in_all` of src/laws.rt leaves open.
 use Rattle.px_order.proofs.LawProofs.{exhausted_in_all}
 use Rattle.px_order.proofs.laws.exhausted_in_all.Goals as goal
 

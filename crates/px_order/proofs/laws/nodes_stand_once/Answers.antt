@@ -1,4 +1,3 @@
--- Proofs of the goals that `nodes_stand_once` of src/laws.rt leaves open.
 use Rattle.px_order.proofs.LawProofs.{nodes_stand_once}
 use Rattle.px_order.proofs.laws.nodes_stand_once.Goals as goal
 

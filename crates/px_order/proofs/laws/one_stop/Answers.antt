@@ -1,4 +1,3 @@
--- Proofs of the goals that `one_stop` of src/laws.rt leaves open.
 use Rattle.px_order.proofs.LawProofs.{one_stop}
 use Rattle.px_order.proofs.laws.one_stop.Goals as goal
 

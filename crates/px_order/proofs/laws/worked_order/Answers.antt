@@ -1,4 +1,3 @@
--- Proofs of the goals that `worked_order` of src/laws.rt leaves open.
 use Rattle.px_order.proofs.Worked.{order_facts}
 use Rattle.px_order.proofs.laws.worked_order.Goals as goal
 

@@ -1,4 +1,3 @@
--- Proofs of the goals that `act_by` of src/acting.rt leaves open.
 use Rattle.px_match.specs.MatcherValue.{kernel_with}
 use Rattle.px_planex.proofs.Guarding.{guard_never}
 use Rattle.px_planex.proofs.acting.act_by.Goals as goal

@@ -1,4 +1,3 @@
--- What the loops of `row_holds` in src/acting.rt keep true.
 use Rattle.std.proofs.Common.{◌≡◌}
 use Rattle.std.specs.Prelude.{Contains}
 use Rattle.px_base.proofs.Loops.{AllBefore}

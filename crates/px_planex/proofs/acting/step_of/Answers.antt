@@ -1,4 +1,3 @@
--- Proofs of the goals that `step_of` of src/acting.rt leaves open.
 use Rattle.px_planex.proofs.Taking.{instance_here, step_fits, step_here}
 use Rattle.px_planex.proofs.acting.step_of.Goals as goal
 

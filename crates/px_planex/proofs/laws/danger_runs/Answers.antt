@@ -1,4 +1,3 @@
--- Proofs of the goals that `danger_runs` of src/laws.rt leaves open.
 use Rattle.px_planex.proofs.DangerRunning.{danger_runs}
 use Rattle.px_planex.proofs.laws.danger_runs.Goals as goal
 

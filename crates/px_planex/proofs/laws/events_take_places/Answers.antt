@@ -1,4 +1,3 @@
--- Proofs of the goals that `events_take_places` of src/laws.rt leaves open.
 use Rattle.px_planex.proofs.Places.{events_take_places}
 use Rattle.px_planex.proofs.laws.events_take_places.Goals as goal
 

@@ -1,4 +1,3 @@
--- Proofs of the goals that `goal_is_reached` of src/laws.rt leaves open.
 use Rattle.px_planex.proofs.Alternating.{goal_is_reached}
 use Rattle.px_planex.proofs.laws.goal_is_reached.Goals as goal
 

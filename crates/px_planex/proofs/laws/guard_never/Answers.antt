@@ -1,4 +1,3 @@
--- Proofs of the goals that `guard_never` of src/laws.rt leaves open.
 use Rattle.px_planex.proofs.Guarding.{guard_never}
 use Rattle.px_planex.proofs.laws.guard_never.Goals as goal
 

@@ -1,4 +1,3 @@
--- Proofs of the goals that `runs_are_one` of src/laws.rt leaves open.
 use Rattle.px_planex.proofs.OneRun.{runs_are_one}
 use Rattle.px_planex.proofs.laws.runs_are_one.Goals as goal
 

@@ -1,4 +1,3 @@
--- Proofs of the goals that `runs_are_traces` of src/laws.rt leaves open.
 use Rattle.px_planex.proofs.TracedRuns.{runs_are_traces}
 use Rattle.px_planex.proofs.laws.runs_are_traces.Goals as goal
 

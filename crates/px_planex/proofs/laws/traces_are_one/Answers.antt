@@ -1,4 +1,3 @@
--- Proofs of the goals that `traces_are_one` of src/laws.rt leaves open.
 use Rattle.px_planex.proofs.OneTrace.{traces_are_one}
 use Rattle.px_planex.proofs.laws.traces_are_one.Goals as goal
 

@@ -1,4 +1,3 @@
--- Proofs of the goals that `traces_exist` of src/laws.rt leaves open.
 use Rattle.px_planex.proofs.Existing.{traces_exist}
 use Rattle.px_planex.proofs.laws.traces_exist.Goals as goal
 

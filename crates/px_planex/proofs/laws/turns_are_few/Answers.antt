@@ -1,4 +1,3 @@
--- Proofs of the goals that `turns_are_few` of src/laws.rt leaves open.
 use Rattle.px_planex.proofs.TurnBound.{turns_are_few}
 use Rattle.px_planex.proofs.laws.turns_are_few.Goals as goal
 

@@ -1,4 +1,3 @@
--- Proofs of the goals that `words` of src/block_text.rt leaves open.
 use Rattle.std.proofs.Common.{◌∙◌, ap}
 use Rattle.px_base.proofs.Loops.{on_ok}
 use Rattle.px_proof.specs.LayerLaws.{derivation_of-step}

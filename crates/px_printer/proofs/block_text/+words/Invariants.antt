@@ -1,4 +1,3 @@
--- What the loops of `words` in src/block_text.rt keep true.
 use Rattle.std.proofs.Common.{◌≡◌, ◌++◌, map, drop}
 use Rattle.std.specs.Prelude.{string_bytes}
 use Rattle.px_proof.specs.Derivation.{derivations}

@@ -1,4 +1,3 @@
--- What the loops of `push_step_lines` in src/block_text.rt keep true.
 use Rattle.std.proofs.Common.{◌≡◌, ◌++◌, take}
 use Rattle.std.specs.List.{flat_map}
 use Rattle.std.specs.Prelude.{string_bytes}

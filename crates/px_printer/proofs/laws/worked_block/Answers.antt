@@ -1,4 +1,3 @@
--- Proofs of the goals that `worked_block` of src/laws.rt leaves open.
 use Rattle.px_printer.proofs.WorkedOut.{worked_block}
 use Rattle.px_printer.proofs.laws.worked_block.Goals as goal
 

@@ -1,4 +1,3 @@
--- Proofs of the goals that `worked_texts` of src/laws.rt leaves open.
 use Rattle.px_printer.proofs.WorkedOut.{worked_texts}
 use Rattle.px_printer.proofs.laws.worked_texts.Goals as goal
 

@@ -1,4 +1,3 @@
--- What the loops of `write_rest` in src/shown.rt keep true.
 use Rattle.std.proofs.Common.{take, map}
 use Rattle.std.specs.Fmt.{HasWritten, IsPlainFormatter}
 use Rattle.px_printer.specs.Texts.{term_text, after_commas}

@@ -1,4 +1,3 @@
--- What the loops of `push_after_spaces` in src/table_text.rt keep true.
 use Rattle.std.proofs.Common.{◌≡◌, ◌++◌, take, map}
 use Rattle.std.specs.Prelude.{string_bytes}
 use Rattle.px_printer.specs.Texts.{after_spaces, atom_text}

@@ -1,4 +1,3 @@
--- What the loops of `push_marks` in src/table_text.rt keep true.
 use Rattle.std.proofs.Common.{◌≡◌, ◌++◌, take}
 use Rattle.std.specs.Prelude.{string_bytes}
 use Rattle.px_printer.specs.Rows.{mark_lines}

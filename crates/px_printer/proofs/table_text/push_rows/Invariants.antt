@@ -1,4 +1,3 @@
--- What the loops of `push_rows` in src/table_text.rt keep true.
 use Rattle.std.proofs.Common.{◌≡◌, ◌++◌, ◌+◌, drop}
 use Rattle.std.specs.Prelude.{string_bytes}
 use Rattle.px_printer.specs.Rows.{step_rows}

@@ -1,4 +1,3 @@
--- What the loops of `push_atoms` in src/text.rt keep true.
 use Rattle.std.proofs.Common.{◌≡◌, ◌++◌, take, map}
 use Rattle.std.specs.Prelude.{string_bytes}
 use Rattle.px_printer.specs.declared.spelling.Spelling.TheVariants.{InRows}

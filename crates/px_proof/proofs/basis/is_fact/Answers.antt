@@ -1,4 +1,3 @@
--- Proofs of the goals that `is_fact` of src/basis.rt leaves open.
 use Rattle.std.proofs.lemmas.List.Elements.{Decides-contains, contains_decides}
 use Rattle.px_terms.specs.Order.{atom_eq}
 use Rattle.px_terms.specs.OrderLaws.{atom_eq-decides}

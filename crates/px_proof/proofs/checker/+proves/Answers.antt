@@ -1,4 +1,3 @@
--- Proofs of the goals that `proves` of src/checker.rt leaves open.
 use Rattle.std.proofs.Common.{rules, ◌≡◌, slice_get, map, ◌∙◌, arith, Some, sym, ap, length, ◌<◌}
 use Rattle.std.proofs.lemmas.List.{length-map}
 use Rattle.px_proof.specs.Basis.{rules_of}

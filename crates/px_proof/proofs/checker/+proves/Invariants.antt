@@ -1,4 +1,3 @@
--- What the loops of `proves` in src/checker.rt keep true.
 use Rattle.std.proofs.Common.{◌↔◌, map, drop}
 use Rattle.px_proof.specs.Basis.{rules_of}
 use Rattle.px_proof.specs.Derivation.{derivations}

@@ -1,4 +1,3 @@
--- Proofs of the goals that `check` of src/checker.rt leaves open.
 use Rattle.std.specs.Prelude.{[]}
 use Rattle.px_terms.specs.Language.{IsObject}
 use Rattle.px_proof.specs.LayerLaws.{path_literals-root}

@@ -1,4 +1,3 @@
--- Proofs of the goals that `is_tree` of src/checker.rt leaves open.
 use Rattle.std.specs.Prelude.{[]}
 use Rattle.px_proof.specs.LayerLaws.{path_literals-root}
 use Rattle.px_proof.specs.Derivation.{leaves_of, leaf_atoms}

@@ -1,4 +1,3 @@
--- Proofs of the goals that `part_at` of src/checker.rt leaves open.
 use Rattle.std.proofs.Common.{arith, add-one, ap, sym, ◌∙◌, Some}
 use Rattle.px_proof.proofs.Parts.{part_before, part_after}
 use Rattle.px_proof.specs.Literals.{complement_of, substitute_literal}

@@ -1,4 +1,3 @@
--- Proofs of the goals that `uses_clause` of src/checker.rt leaves open.
 use Rattle.std.proofs.Common.{arith, ◌∙◌}
 use Rattle.px_proof.specs.Basis.{rules_of}
 use Rattle.px_proof.proofs.Uses.{no_clause, plain_lits, uses_exact}

@@ -1,4 +1,3 @@
--- Proofs of the goals that `grafts` of src/grafting.rt leaves open.
 use Rattle.std.proofs.Common.{rules, ◌≤◌, ◌+◌, length, map, drop, ap, sym, subst, arith}
 use Rattle.std.specs.Prelude.{All}
 use Rattle.std.proofs.lemmas.List.{drop_all}

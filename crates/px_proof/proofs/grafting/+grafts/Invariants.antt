@@ -1,4 +1,3 @@
--- What the loops of `grafts` in src/grafting.rt keep true.
 use Rattle.std.proofs.Common.{◌≡◌, ◌+◌, ◌++◌, map, drop}
 use Rattle.px_proof.specs.ProofTerm.{derivation_of}
 use Rattle.px_proof.proofs.Grafts.{all_take, each_grafted}

@@ -1,4 +1,3 @@
--- Proofs of the goals that `graft` of src/grafting.rt leaves open.
 use Rattle.std.proofs.Common.{◌≡◌, map}
 use Rattle.std.specs.List.{flat_map}
 use Rattle.px_proof.specs.Derivation.{Derivation, leaves_of}

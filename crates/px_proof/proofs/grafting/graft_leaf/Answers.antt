@@ -1,4 +1,3 @@
--- Proofs of the goals that `graft_leaf` of src/grafting.rt leaves open.
 use Rattle.std.proofs.Common.{◌∙◌, ap, map, drop, length}
 use Rattle.px_proof.specs.ProofTerm.{derivation_of}
 use Rattle.px_proof.proofs.Grafts.{place_first, place_later, one_left}

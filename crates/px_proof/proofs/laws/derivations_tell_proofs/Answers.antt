@@ -1,4 +1,3 @@
--- Proofs of the goals that `derivations_tell_proofs` of src/laws.rt leaves open.
 use Rattle.px_proof.specs.LayerLaws.{derivations_tell_proofs}
 use Rattle.px_proof.proofs.laws.derivations_tell_proofs.Goals as goal
 

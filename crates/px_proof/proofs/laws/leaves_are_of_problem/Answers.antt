@@ -1,4 +1,3 @@
--- Proofs of the goals that `leaves_are_of_problem` of src/laws.rt leaves open.
 use Rattle.px_proof.specs.LeafRange.{leaves_are_of_problem}
 use Rattle.px_proof.proofs.laws.leaves_are_of_problem.Goals as goal
 

@@ -1,4 +1,3 @@
--- Proofs of the goals that `paths_may_be_longer` of src/laws.rt leaves open.
 use Rattle.px_proof.specs.ProvesLaws.{stays_under_longer_paths}
 use Rattle.px_proof.proofs.laws.paths_may_be_longer.Goals as goal
 

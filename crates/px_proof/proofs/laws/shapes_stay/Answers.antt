@@ -1,4 +1,3 @@
--- Proofs of the goals that `shapes_stay` of src/laws.rt leaves open.
 use Rattle.px_proof.specs.SubstitutionLaws.{skeleton-under}
 use Rattle.px_proof.proofs.laws.shapes_stay.Goals as goal
 

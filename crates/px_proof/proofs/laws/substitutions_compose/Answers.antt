@@ -1,4 +1,3 @@
--- Proofs of the goals that `substitutions_compose` of src/laws.rt leaves open.
 use Rattle.px_proof.specs.SubstitutionLaws.{derivation_twice}
 use Rattle.px_proof.proofs.laws.substitutions_compose.Goals as goal
 

@@ -1,4 +1,3 @@
--- Proofs of the goals that `lent_literal_at` of src/path.rt leaves open.
 use Rattle.std.proofs.Common.{◌∙◌, sym}
 use Rattle.px_proof.specs.LayerLaws.{path_literals-under}
 use Rattle.px_proof.specs.PlaceLaws.{slice_get-rest}

@@ -1,4 +1,3 @@
--- What the loops of `copies` in src/proof.rt keep true.
 use Rattle.std.proofs.Common.{◌≡◌, take}
 use Rattle.px_proof.proofs.proof.+copies.Given as goal
 

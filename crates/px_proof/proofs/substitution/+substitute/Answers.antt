@@ -1,4 +1,3 @@
--- Proofs of the goals that `substitute` of src/substitution.rt leaves open.
 use Rattle.std.proofs.Common.{rules, ◌≡◌, length, map, take, ap, sym, ◌∙◌, subst, arith}
 use Rattle.std.specs.Prelude.{All}
 use Rattle.std.proofs.Math.Seq.{take-length}

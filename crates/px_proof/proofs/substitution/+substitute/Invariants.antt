@@ -1,4 +1,3 @@
--- What the loops of `substitute` in src/substitution.rt keep true.
 use Rattle.std.proofs.Common.{◌≡◌, map, take}
 use Rattle.px_proof.specs.ProofTerm.{derivation_of}
 use Rattle.px_proof.specs.Substitution.{derivation_under}

@@ -1,4 +1,3 @@
--- Proofs of the goals that `substitute` of src/substitution.rt leaves open.
 use Rattle.px_proof.specs.ProofTerm.{derivation_of}
 use Rattle.px_proof.specs.Substitution.{derivation_under, StaysProof, StaysTree, ProvesFromFacts}
 use Rattle.px_proof.specs.SubstitutionLaws.{stays_proof, stays_tree, proves_from_facts}

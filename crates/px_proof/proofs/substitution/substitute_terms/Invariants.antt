@@ -1,4 +1,3 @@
--- What the loops of `substitute_terms` in src/substitution.rt keep true.
 use Rattle.std.proofs.Common.{◌≡◌, map, take}
 use Rattle.px_terms.specs.Language.{substitute}
 use Rattle.px_proof.proofs.substitution.substitute_terms.Given as goal

@@ -1,4 +1,3 @@
--- Proofs of the goals that `height` of src/traversal.rt leaves open.
 use Rattle.std.proofs.Common.{◌<◌, arith, subst}
 use Rattle.px_proof.specs.declared.proof.Proof.{Proof}
 use Rattle.px_proof.specs.Derivation.{height}

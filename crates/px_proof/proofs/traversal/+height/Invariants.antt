@@ -1,4 +1,3 @@
--- What the loops of `height` in src/traversal.rt keep true.
 use Rattle.std.proofs.Common.{ℕ, ◌<◌, ◌≤◌, get_or}
 use Rattle.px_proof.specs.declared.proof.Proof.{Proof}
 use Rattle.px_proof.specs.Derivation.{height}

@@ -1,4 +1,3 @@
--- What the loops of `leaves` in src/traversal.rt keep true.
 use Rattle.std.proofs.Common.{◌≡◌, ◌++◌, map, drop}
 use Rattle.px_proof.specs.Derivation.{all_leaves_of, derivations}
 use Rattle.px_proof.specs.ProofTerm.{derivation_of}

@@ -1,4 +1,3 @@
--- Proofs of the goals that `same_shape` of src/traversal.rt leaves open.
 use Rattle.px_proof.proofs.Inside.{as_many}
 use Rattle.px_proof.proofs.traversal.+same_shape.Goals as goal
 

@@ -1,4 +1,3 @@
--- What the loops of `same_shape` in src/traversal.rt keep true.
 use Rattle.std.proofs.Common.{◌≡◌, ◌↔◌, map, drop}
 use Rattle.px_proof.specs.Derivation.{skeletons, derivations}
 use Rattle.px_proof.specs.ProofTerm.{derivation_of}

@@ -1,4 +1,3 @@
--- Proofs of the goals that `try_ancestor` of src/ancestors.rt leaves open.
 use Rattle.px_proof.specs.Literals.{complement_of}
 use Rattle.px_proof.specs.declared.shape.Tick.TheVariants.{Anc}
 use Rattle.px_proof_state.specs.Matches.{ClosesBy}

@@ -1,4 +1,3 @@
--- Proofs of the goals that `try_ancestors` of src/ancestors.rt leaves open.
 use Rattle.std.proofs.Common.{◌+◌, ◌-◌, ◌<◌, arith}
 use Rattle.px_proof_state.proofs.AncestorRange.{way-found, way-next, way-end, way-in, way-within}
 use Rattle.px_unify.specs.Changes.{variables_of}

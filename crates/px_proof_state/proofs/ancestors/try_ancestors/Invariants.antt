@@ -1,4 +1,3 @@
--- What the loops of `try_ancestors` in src/ancestors.rt keep true.
 use Rattle.px_proof_state.proofs.AncestorRange.{IsOnTheWayUp}
 use Rattle.px_proof_state.proofs.ancestors.try_ancestors.Given as goal
 

@@ -1,4 +1,3 @@
--- Proofs of the goals that `are_apart` of src/apart.rt leaves open.
 use Rattle.px_proof_state.proofs.ApartLemmas.{place-apart}
 use Rattle.px_proof_state.proofs.apart.are_apart.Goals as goal
 

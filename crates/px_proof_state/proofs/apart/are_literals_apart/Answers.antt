@@ -1,4 +1,3 @@
--- Proofs of the goals that `are_literals_apart` of src/apart.rt leaves open.
 use Rattle.std.proofs.Common.{ap}
 use Rattle.px_terms.specs.declared.clause.Lit.{Lit}
 use Rattle.px_proof_state.proofs.apart.are_literals_apart.Goals as goal

@@ -1,4 +1,3 @@
--- Proofs of the goals that `followed` of src/apart.rt leaves open.
 use Rattle.std.proofs.Common.{arith, length, ap, ◌∙◌}
 use Rattle.std.proofs.lemmas.List.{length-set}
 use Rattle.px_proof_state.proofs.ApartLemmas.{followed-next, followed-atom}

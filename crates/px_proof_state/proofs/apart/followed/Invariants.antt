@@ -1,4 +1,3 @@
--- What the loops of `followed` in src/apart.rt keep true.
 use Rattle.std.proofs.Common.{◌≡◌, ◌≤◌, List, length, map, take}
 use Rattle.px_terms.specs.declared.term.Term.{Term}
 use Rattle.px_terms.specs.Language.{substitute}

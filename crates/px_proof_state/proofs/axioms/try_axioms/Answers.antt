@@ -1,4 +1,3 @@
--- Proofs of the goals that `try_axioms` of src/axioms.rt leaves open.
 use Rattle.std.proofs.Common.{◌+◌, ◌<◌, length, arith}
 use Rattle.px_terms.specs.declared.clause.Clause.{Clause}
 use Rattle.px_proof.specs.PlaceLaws.{All-got}

@@ -1,4 +1,3 @@
--- What the loops of `try_axioms` in src/axioms.rt keep true.
 use Rattle.std.proofs.Common.{◌≡◌, ℕ, ◌<◌, ◌≤◌}
 use Rattle.px_proof_state.specs.Axioms.{NeverAxiom}
 use Rattle.px_proof_state.proofs.axioms.try_axioms.Given as goal

@@ -1,4 +1,3 @@
--- Proofs of the goals that `try_clause` of src/axioms.rt leaves open.
 use Rattle.std.proofs.Common.{◌+◌, false, true, length, arith}
 use Rattle.px_terms.specs.declared.clause.Clause.{Clause}
 use Rattle.px_proof_state.specs.Places.{NeverStep, ComesStep}

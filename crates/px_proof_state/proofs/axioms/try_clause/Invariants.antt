@@ -1,4 +1,3 @@
--- What the loops of `try_clause` in src/axioms.rt keep true.
 use Rattle.std.proofs.Common.{◌≡◌, ℕ, ◌<◌, ◌≤◌}
 use Rattle.px_proof_state.specs.Places.{NeverStep}
 use Rattle.px_proof_state.proofs.axioms.try_clause.Given as goal

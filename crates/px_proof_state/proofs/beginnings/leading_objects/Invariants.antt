@@ -1,4 +1,3 @@
--- What the loops of `leading_objects` in src/beginnings.rt keep true.
 use Rattle.std.proofs.Common.{ℕ, ◌<◌, get_or}
 use Rattle.px_terms.specs.declared.term.Term.{Term}
 use Rattle.px_terms.specs.Language.{IsObject}

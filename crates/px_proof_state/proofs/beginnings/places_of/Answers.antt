@@ -1,4 +1,3 @@
--- Proofs of the goals that `places_of` of src/beginnings.rt leaves open.
 use Rattle.std.proofs.Common.{rules}
 use Rattle.std.proofs.lemmas.List.Sorted.{IsPartitionPoint-from_clause}
 use Rattle.px_proof_state.proofs.BeginningLemmas.{has-its-facts, is_before, is_not_after, parted-before, parted-not_after}

@@ -1,4 +1,3 @@
--- Proofs of the goals that `try_fact` of src/facts.rt leaves open.
 use Rattle.px_proof.specs.Literals.{positive_of}
 use Rattle.px_proof.specs.declared.shape.Tick.TheVariants.{Fact}
 use Rattle.px_proof_state.specs.Matches.{ClosesBy}

@@ -1,4 +1,3 @@
--- Proofs of the goals that `try_facts` of src/facts.rt leaves open.
 use Rattle.std.proofs.Common.{◌+◌, arith, refl}
 use Rattle.px_proof_state.proofs.FactPlaces.{never-before, never-after}
 use Rattle.px_proof_state.proofs.Trying.{fact-comes, fact-never}

@@ -1,4 +1,3 @@
--- What the loops of `try_facts` in src/facts.rt keep true.
 use Rattle.std.proofs.Common.{◌≡◌, ℕ, ◌<◌, ◌≤◌}
 use Rattle.px_proof_state.specs.Ranges.{NeverFact}
 use Rattle.px_proof_state.proofs.facts.try_facts.Given as goal

@@ -1,4 +1,3 @@
--- Proofs of the goals that `matches` of src/matching.rt leaves open.
 use Rattle.std.proofs.Common.{refl}
 use Rattle.px_proof_state.proofs.Literals.{found, not_found, same_sign}
 use Rattle.px_proof_state.proofs.matching.matches.Goals as goal

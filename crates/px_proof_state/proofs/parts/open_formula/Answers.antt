@@ -1,4 +1,3 @@
--- Proofs of the goals that `open_formula` of src/parts.rt leaves open.
 use Rattle.std.proofs.Common.{◌≡◌, ◌-◌, ℕ, length, ◌++◌, ◌∷◌, [], ◌∙◌, arith, ap}
 use Rattle.px_proof.specs.Literals.{positive_of}
 use Rattle.px_proof_state.proofs.Opening.{asked-start, asked-next}

@@ -1,4 +1,3 @@
--- What the loops of `open_formula` in src/parts.rt keep true.
 use Rattle.std.proofs.Common.{◌-◌, length}
 use Rattle.px_proof_state.proofs.Opening.{AreAsked}
 use Rattle.px_proof_state.proofs.parts.open_formula.Given as goal

@@ -1,4 +1,3 @@
--- Proofs of the goals that `push_parts` of src/parts.rt leaves open.
 use Rattle.std.proofs.Common.{◌≡◌, ◌+◌, ◌-◌, ◌<◌, ◌++◌, ◌∷◌, [], ◌∙◌, length, suc, ℕ, arith, ap}
 use Rattle.px_proof.specs.Literals.{substitute_literal, complement_of}
 use Rattle.px_proof_state.specs.Steps.{no_literal}

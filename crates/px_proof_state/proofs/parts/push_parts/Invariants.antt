@@ -1,4 +1,3 @@
--- What the loops of `push_parts` in src/parts.rt keep true.
 use Rattle.std.proofs.Common.{◌-◌, length}
 use Rattle.px_proof_state.proofs.Opening.{AreOpened}
 use Rattle.px_proof_state.proofs.parts.push_parts.Given as goal

@@ -1,4 +1,3 @@
--- Proofs of the goals that `variables_after` of src/parts.rt leaves open.
 use Rattle.std.proofs.Common.{arith, refl, ◌∙◌}
 use Rattle.std.proofs.lemmas.List.{length-set}
 use Rattle.px_proof_state.proofs.NewVariables.{variables-next}

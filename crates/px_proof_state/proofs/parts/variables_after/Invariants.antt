@@ -1,4 +1,3 @@
--- What the loops of `variables_after` in src/parts.rt keep true.
 use Rattle.std.proofs.Common.{◌≡◌, ◌≤◌, take, length}
 use Rattle.px_terms.specs.Substitution.{variables_from}
 use Rattle.px_proof_state.proofs.parts.variables_after.Given as goal

@@ -1,4 +1,3 @@
--- Proofs of the goals that `matches_fresh` of src/stepping.rt leaves open.
 use Rattle.std.proofs.Common.{◌≡◌, ◌+◌, arith, ap, ◌∙◌}
 use Rattle.px_unify.specs.ChangeLaws.{variables-fresh}
 use Rattle.px_unify.specs.Changes.{variables_of}

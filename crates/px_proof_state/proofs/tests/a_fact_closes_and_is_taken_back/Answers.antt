@@ -1,4 +1,3 @@
--- Proofs of the goals that `a_fact_closes_and_is_taken_back` of src/tests.rt leaves open.
 use Rattle.std.specs.Prelude.{[], ◌∷◌}
 use Rattle.std.specs.List.Sorted.{IsStrictlySortedBy}
 use Rattle.px_terms.specs.AtomSets.{IsAtomSet}

@@ -1,4 +1,3 @@
--- Proofs of the goals that `an_ancestor_closes` of src/tests.rt leaves open.
 use Rattle.std.proofs.Common.{rules, ◌≡◌, ◌∙◌, ◌≤◌, ℕ, zero, suc, List, [], ◌∷◌, length, get_or, sym, arith}
 use Rattle.std.proofs.lemmas.Option.{slice_get-get_or}
 use Rattle.px_proof.specs.Literals.{positive_of}

@@ -1,4 +1,3 @@
--- Proofs of the goals that `walk_to_end` of src/gather.rt leaves open.
 use Rattle.std.proofs.Common.{List, [], ◌∷◌, ◌++◌, ◌+◌, ◌<◌, refl, length, arith, ap, subst, sym, ◌∙◌}
 use Rattle.px_proof.specs.declared.shape.Tick.{Tick}
 use Rattle.px_proof_walk.specs.Order.{IsNext, NoneAfter}

@@ -1,4 +1,3 @@
--- Proofs of the goals that `advance` of src/steps.rt leaves open.
 use Rattle.std.proofs.Common.{◌∷◌, [], length, ap, arith, length-append}
 use Rattle.px_proof_walk.proofs.Ordering.{onward-start, turn-next, turn-none, turn-retract}
 use Rattle.px_proof_walk.proofs.steps.advance.Goals as goal

@@ -1,4 +1,3 @@
--- What the loops of `advance` in src/steps.rt keep true.
 use Rattle.std.proofs.Common.{length, ◌≤◌}
 use Rattle.px_proof_walk.specs.Order.{IsOnTheWay}
 use Rattle.px_proof_walk.proofs.steps.advance.Given as goal

@@ -1,4 +1,3 @@
--- Proofs of the goals that `walk_to_finished` of src/steps.rt leaves open.
 use Rattle.std.proofs.Common.{[], ◌∷◌, ◌++◌, ◌+◌, ◌<◌, refl, length, arith, ◌∙◌, subst, sym}
 use Rattle.px_proof_walk.proofs.Visits.{seen-start, seen-next, none-comes, limit-comes, length-seen}
 use Rattle.px_proof_walk.proofs.Trails.{trail-next, trail-visits}

@@ -1,4 +1,3 @@
--- What the loops of `walk_to_finished` in src/steps.rt keep true.
 use Rattle.std.proofs.Common.{◌≡◌, ◌<◌, ◌≤◌, List, length}
 use Rattle.px_proof.specs.declared.shape.Tick.{Tick}
 use Rattle.px_proof_walk.specs.Search.{AreSeen}

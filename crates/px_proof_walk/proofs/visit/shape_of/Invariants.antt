@@ -1,4 +1,3 @@
--- What the loops of `shape_of` in src/visit.rt keep true.
 use Rattle.std.proofs.Common.{◌≡◌, ◌++◌, replicate}
 use Rattle.px_proof.specs.declared.shape.Tick.TheVariants.{Open}
 use Rattle.px_proof_walk.proofs.visit.shape_of.Given as goal

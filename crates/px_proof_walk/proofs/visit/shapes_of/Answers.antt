@@ -1,4 +1,3 @@
--- Proofs of the goals that `shapes_of` of src/visit.rt leaves open.
 use Rattle.std.proofs.Common.{[], ap, ◌∙◌}
 use Rattle.std.proofs.lemmas.List.{take_all}
 use Rattle.px_proof_walk.proofs.Trails.{along-more, along-visits, led-more, shapes_along}

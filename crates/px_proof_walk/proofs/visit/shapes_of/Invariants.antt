@@ -1,4 +1,3 @@
--- What the loops of `shapes_of` in src/visit.rt keep true.
 use Rattle.std.proofs.Common.{◌≡◌, [], take}
 use Rattle.px_proof_walk.proofs.Trails.{led_to, shapes_along}
 use Rattle.px_proof_walk.proofs.visit.shapes_of.Given as goal

@@ -1,4 +1,3 @@
--- Proofs of the goals that `try_gap` of src/attempts.rt leaves open.
 use Rattle.std.proofs.Common.{true, false}
 use Rattle.px_prover.specs.Asking.{setting_in}
 use Rattle.px_prover.specs.Standing.{ticks_in}

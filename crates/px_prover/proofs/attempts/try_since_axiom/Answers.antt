@@ -1,4 +1,3 @@
--- Proofs of the goals that `try_since_axiom` of src/attempts.rt leaves open.
 use Rattle.px_prover.specs.Asking.{setting_in}
 use Rattle.px_prover.specs.Standing.{ticks_in}
 use Rattle.px_prover.specs.Tries.{TriesSince}

@@ -1,4 +1,3 @@
--- Proofs of the goals that `build` of src/building.rt leaves open.
 use Rattle.std.proofs.Common.{◌-◌, ◌<◌, ℕ, length, map, reverse, get_or, arith, ap, ◌∙◌, refl}
 use Rattle.px_prover.proofs.Making.{built-start, built-room, built-there, built-next, built-end}
 use Rattle.px_proof.specs.PlaceLaws.{slice_get-read}

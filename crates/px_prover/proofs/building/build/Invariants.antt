@@ -1,4 +1,3 @@
--- What the loops of `build` in src/building.rt keep true.
 use Rattle.std.proofs.Common.{◌≡◌, ◌+◌, ◌-◌, length, map, drop, reverse}
 use Rattle.px_proof.specs.ProofTerm.{derivation_of}
 use Rattle.px_question.specs.Settings.{setting_of}

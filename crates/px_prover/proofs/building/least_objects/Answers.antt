@@ -1,4 +1,3 @@
--- Proofs of the goals that `least_objects` of src/building.rt leaves open.
 use Rattle.std.proofs.Common.{arith}
 use Rattle.px_prover.proofs.Making.{least-push}
 use Rattle.px_prover.proofs.building.least_objects.Goals as goal

@@ -1,4 +1,3 @@
--- What the loops of `least_objects` in src/building.rt keep true.
 use Rattle.std.proofs.Common.{◌≡◌, ◌<◌, ◌≤◌, ℕ, length}
 use Rattle.std.specs.Prelude.{slice_index}
 use Rattle.px_prover.specs.Building.{IsLeastAt}

@@ -1,4 +1,3 @@
--- Proofs of the goals that `push_step` of src/building.rt leaves open.
 use Rattle.std.proofs.Common.{◌-◌, length, ◌∙◌}
 use Rattle.px_prover.proofs.Making.{lits-some, parts-are, pushed-step}
 use Rattle.px_prover.proofs.building.push_step.Goals as goal

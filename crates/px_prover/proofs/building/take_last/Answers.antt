@@ -1,4 +1,3 @@
--- Proofs of the goals that `take_last` of src/building.rt leaves open.
 use Rattle.std.proofs.Common.{rules, ◌≡◌, ◌+◌, length, arith}
 use Rattle.px_prover.proofs.Making.{popped-some, popped-none}
 use Rattle.px_prover.proofs.building.take_last.Goals.{in-Some+in_ok-push-in-Some, in-None}

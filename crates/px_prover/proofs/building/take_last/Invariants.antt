@@ -1,4 +1,3 @@
--- What the loops of `take_last` in src/building.rt keep true.
 use Rattle.std.proofs.Common.{◌≡◌, take, drop, reverse}
 use Rattle.px_prover.proofs.building.take_last.Given as goal
 

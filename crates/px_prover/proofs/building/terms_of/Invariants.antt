@@ -1,4 +1,3 @@
--- What the loops of `terms_of` in src/building.rt keep true.
 use Rattle.std.proofs.Common.{◌≡◌, take}
 use Rattle.px_question.specs.Answers.{object_terms}
 use Rattle.px_prover.proofs.building.terms_of.Given as goal

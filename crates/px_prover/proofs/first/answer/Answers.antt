@@ -1,4 +1,3 @@
--- Proofs of the goals that `answer` of src/first.rt leaves open.
 use Rattle.std.proofs.Common.{ap, ◌∙◌, refl, map}
 use Rattle.px_proof.specs.ProofTerm.{derivation_of}
 use Rattle.px_prover.specs.Asking.{setting_in}

@@ -1,4 +1,3 @@
--- Proofs of the goals that `prove` of src/first.rt leaves open.
 use Rattle.std.proofs.Common.{◌≡◌, ◌≤◌, arith, sym, false, [], subst, List, ℕ, map, ◌<◌}
 use Rattle.std.specs.Prelude.{All}
 use Rattle.px_terms.specs.Limits.{most_formula_variables}

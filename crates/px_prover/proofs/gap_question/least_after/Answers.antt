@@ -1,4 +1,3 @@
--- Proofs of the goals that `least_after` of src/gap_question.rt leaves open.
 use Rattle.std.proofs.Common.{true}
 use Rattle.px_prover.specs.GapAsking.{gap_setting}
 use Rattle.px_prover.proofs.LastPlaces.{going-later}

@@ -1,4 +1,3 @@
--- What the loops of `atoms_under` in src/gathering.rt keep true.
 use Rattle.std.proofs.Common.{◌≡◌, map, take}
 use Rattle.px_terms.specs.Substitution.{substitute_atom}
 use Rattle.px_prover.proofs.gathering.atoms_under.Given as goal

@@ -1,4 +1,3 @@
--- Proofs of the goals that `free_of` of src/gathering.rt leaves open.
 use Rattle.px_prover.proofs.Noting.{over-both}
 use Rattle.px_prover.proofs.gathering.free_of.Goals as goal
 

@@ -1,4 +1,3 @@
--- Proofs of the goals that `missing_atoms` of src/gathering.rt leaves open.
 use Rattle.std.proofs.Common.{arith}
 use Rattle.px_prover.specs.GapAsking.{gap_setting}
 use Rattle.px_prover.proofs.Missing.{missing-open, missing-start, missing-next, missing-end}

@@ -1,4 +1,3 @@
--- What the loops of `missing_atoms` in src/gathering.rt keep true.
 use Rattle.std.proofs.Common.{map, take}
 use Rattle.px_prover.specs.GapAsking.{gap_setting}
 use Rattle.px_prover.specs.Gathering.{AreMissing}

@@ -1,4 +1,3 @@
--- Proofs of the goals that `note_atoms` of src/gathering.rt leaves open.
 use Rattle.std.proofs.Common.{List, arith, length, subst}
 use Rattle.std.specs.Prelude.{Contains}
 use Rattle.px_prover.specs.Gathering.{NotesEnds}

@@ -1,4 +1,3 @@
--- What the loops of `note_atoms` in src/gathering.rt keep true.
 use Rattle.std.specs.Prelude.{take}
 use Rattle.px_prover.specs.Gathering.{IsArgument, NotesEnds}
 use Rattle.px_prover.proofs.gathering.note_atoms.Given as goal

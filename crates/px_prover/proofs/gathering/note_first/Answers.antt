@@ -1,4 +1,3 @@
--- Proofs of the goals that `note_first` of src/gathering.rt leaves open.
 use Rattle.std.proofs.Common.{◌≡◌, ℕ, arith, subst}
 use Rattle.px_prover.specs.Gathering.{IsFirstVariable, NotesEnds}
 use Rattle.px_prover.proofs.Noting.{first-start, first-next}

@@ -1,4 +1,3 @@
--- What the loops of `note_first` in src/gathering.rt keep true.
 use Rattle.px_prover.specs.Gathering.{IsFirstVariable, NotesEnds}
 use Rattle.px_prover.proofs.gathering.note_first.Given as goal
 

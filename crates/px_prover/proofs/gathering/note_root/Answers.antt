@@ -1,4 +1,3 @@
--- Proofs of the goals that `note_root` of src/gathering.rt leaves open.
 use Rattle.px_prover.proofs.Noting.{root-variable, root-object, root-any}
 use Rattle.px_prover.proofs.gathering.note_root.Goals as goal
 

@@ -1,4 +1,3 @@
--- Proofs of the goals that `note_term` of src/gathering.rt leaves open.
 use Rattle.px_prover.proofs.Noting.{term-variable, term-object, term-any}
 use Rattle.px_proof.specs.PlaceLaws.{slice_get-read}
 use Rattle.px_prover.proofs.gathering.note_term.Goals as goal

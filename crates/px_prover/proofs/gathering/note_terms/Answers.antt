@@ -1,4 +1,3 @@
--- Proofs of the goals that `note_terms` of src/gathering.rt leaves open.
 use Rattle.std.proofs.Common.{refl, arith, get_or, length}
 use Rattle.px_prover.proofs.Noting.{terms-start, terms-next, terms-end, term-below}
 use Rattle.px_terms.specs.declared.term.Term.TheVariants.{Obj}

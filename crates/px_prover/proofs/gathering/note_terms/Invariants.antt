@@ -1,4 +1,3 @@
--- What the loops of `note_terms` in src/gathering.rt keep true.
 use Rattle.std.specs.Prelude.{take, Contains}
 use Rattle.px_prover.specs.Gathering.{NotesEnds}
 use Rattle.px_prover.proofs.gathering.note_terms.Given as goal

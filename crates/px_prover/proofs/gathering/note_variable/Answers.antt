@@ -1,4 +1,3 @@
--- Proofs of the goals that `note_variable` of src/gathering.rt leaves open.
 use Rattle.std.proofs.Common.{ℕ, List, eqb, subst}
 use Rattle.std.specs.Prelude.{Contains}
 use Rattle.std.proofs.lemmas.Bool.Decides.{Decides-eqb}

@@ -1,4 +1,3 @@
--- Proofs of the goals that `roots_of` of src/gathering.rt leaves open.
 use Rattle.std.proofs.Common.{arith}
 use Rattle.px_prover.proofs.Valuing.{ends-push}
 use Rattle.px_prover.proofs.gathering.roots_of.Goals as goal

@@ -1,4 +1,3 @@
--- What the loops of `roots_of` in src/gathering.rt keep true.
 use Rattle.std.proofs.Common.{◌≡◌, ◌≤◌, ℕ, Some, length, slice_get}
 use Rattle.px_terms.specs.declared.term.Term.{Term}
 use Rattle.px_unify.specs.Changes.{variables_of}

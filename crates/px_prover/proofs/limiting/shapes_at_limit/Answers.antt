@@ -1,4 +1,3 @@
--- Proofs of the goals that `shapes_at_limit` of src/limiting.rt leaves open.
 use Rattle.std.proofs.Common.{arith}
 use Rattle.px_prover.specs.GapAsking.{gap_setting}
 use Rattle.px_prover.proofs.Beginnings.{begins-possible, begins-standing, limit-told}

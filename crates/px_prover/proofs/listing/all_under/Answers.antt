@@ -1,4 +1,3 @@
--- Proofs of the goals that `all_under` of src/listing.rt leaves open.
 use Rattle.std.proofs.Common.{◌∙◌}
 use Rattle.px_prover.proofs.UnderValues.{all-next, all-over, tuples-long}
 use Rattle.px_prover.proofs.listing.all_under.Goals as goal

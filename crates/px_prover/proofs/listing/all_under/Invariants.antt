@@ -1,4 +1,3 @@
--- What the loops of `all_under` in src/listing.rt keep true.
 use Rattle.std.proofs.Common.{◌≡◌, take}
 use Rattle.px_prover.specs.PatternLists.{all_under}
 use Rattle.px_prover.proofs.listing.all_under.Given as goal

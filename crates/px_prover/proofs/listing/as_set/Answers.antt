@@ -1,4 +1,3 @@
--- Proofs of the goals that `as_set` of src/listing.rt leaves open.
 use Rattle.std.proofs.lemmas.List.Filters.{dedup_is}
 use Rattle.px_terms.specs.Order.{atom_eq}
 use Rattle.px_terms.specs.OrderLaws.{atom_eq-decides}

@@ -1,4 +1,3 @@
--- Proofs of the goals that `gap_lists` of src/listing.rt leaves open.
 use Rattle.px_prover.proofs.UnderValues.{lists-ordered, patterns-over}
 use Rattle.px_question.specs.Settings.{setting_of}
 use Rattle.px_prover.proofs.listing.gap_lists.Goals as goal

@@ -1,4 +1,3 @@
--- Proofs of the goals that `list_under` of src/listing.rt leaves open.
 use Rattle.std.proofs.Common.{◌∙◌, ◌↔◌, List, subst, sym}
 use Rattle.std.specs.Prelude.{Contains}
 use Rattle.px_prover.proofs.UnderValues.{atoms-within, list-made, terms-within}

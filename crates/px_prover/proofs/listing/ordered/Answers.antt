@@ -1,4 +1,3 @@
--- Proofs of the goals that `ordered` of src/listing.rt leaves open.
 use Rattle.std.proofs.lemmas.List.Filters.{dedup_is}
 use Rattle.px_question.specs.GapOrder.{computed_eq}
 use Rattle.px_question.proofs.GapOrderLaws.{computed_eq-decides}

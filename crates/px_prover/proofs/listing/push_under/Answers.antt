@@ -1,4 +1,3 @@
--- Proofs of the goals that `push_under` of src/listing.rt leaves open.
 use Rattle.std.proofs.Common.{arith}
 use Rattle.px_prover.proofs.UnderValues.{lists-end, lists-next, lists-start, tuple-long}
 use Rattle.px_prover.proofs.listing.push_under.Goals as goal

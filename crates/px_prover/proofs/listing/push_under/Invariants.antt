@@ -1,4 +1,3 @@
--- What the loops of `push_under` in src/listing.rt keep true.
 use Rattle.std.proofs.Common.{◌≡◌, ◌++◌, map, take}
 use Rattle.px_prover.specs.PatternLists.{list_under}
 use Rattle.px_prover.proofs.listing.push_under.Given as goal

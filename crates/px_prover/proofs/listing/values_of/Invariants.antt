@@ -1,4 +1,3 @@
--- What the loops of `values_of` in src/listing.rt keep true.
 use Rattle.std.proofs.Common.{◌≡◌, map, take}
 use Rattle.px_proof_walk.specs.Values.{value_of}
 use Rattle.px_prover.proofs.listing.values_of.Given as goal

@@ -1,4 +1,3 @@
--- Proofs of the goals that `gathered` of src/patterns.rt leaves open.
 use Rattle.std.proofs.Common.{ℕ, true, List, subst}
 use Rattle.px_proof.specs.declared.shape.Tick.{Tick}
 use Rattle.px_prover.proofs.Beginnings.{all-within, begins-possible, begins-standing}

@@ -1,4 +1,3 @@
--- Proofs of the goals that `is_last` of src/patterns.rt leaves open.
 use Rattle.std.proofs.Common.{◌-◌, ◌∙◌, length, sym}
 use Rattle.px_prover.proofs.Keeping.{last-there}
 use Rattle.px_prover.proofs.patterns.is_last.Goals as goal

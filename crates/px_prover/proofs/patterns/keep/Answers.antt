@@ -1,4 +1,3 @@
--- Proofs of the goals that `keep` of src/patterns.rt leaves open.
 use Rattle.std.proofs.Common.{List, subst}
 use Rattle.std.specs.Prelude.{Contains}
 use Rattle.px_prover.specs.declared.pattern.GapPattern.{GapPattern}

@@ -1,4 +1,3 @@
--- Proofs of the goals that `kept_patterns` of src/patterns.rt leaves open.
 use Rattle.std.proofs.Common.{◌∷◌, ◌++◌, ◌≡◌, ◌∙◌, ◌≤◌, ◌<◌, ap, arith, refl, sym, [], subst, List, ℕ, length}
 use Rattle.std.specs.Prelude.{All}
 use Rattle.px_prover.specs.Limits.{most_gap_variables}

@@ -1,4 +1,3 @@
--- Proofs of the goals that `unite` of src/patterns.rt leaves open.
 use Rattle.std.proofs.lemmas.List.Filters.{dedup_is}
 use Rattle.px_prover.specs.contracts.pattern.GapPatternPartialEq.TheImpl as pattern_equality
 use Rattle.px_prover.proofs.Ordered.{ordered-members}

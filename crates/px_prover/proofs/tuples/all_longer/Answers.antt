@@ -1,4 +1,3 @@
--- Proofs of the goals that `all_longer` of src/tuples.rt leaves open.
 use Rattle.px_prover.proofs.Tupling.{all_longer-next}
 use Rattle.px_prover.proofs.tuples.all_longer.Goals as goal
 

@@ -1,4 +1,3 @@
--- What the loops of `all_longer` in src/tuples.rt keep true.
 use Rattle.std.proofs.Common.{◌≡◌, take}
 use Rattle.px_prover.specs.Tuples.{all_longer_by}
 use Rattle.px_prover.proofs.tuples.all_longer.Given as goal

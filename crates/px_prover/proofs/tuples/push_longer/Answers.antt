@@ -1,4 +1,3 @@
--- Proofs of the goals that `push_longer` of src/tuples.rt leaves open.
 use Rattle.px_prover.proofs.Tupling.{longer-next, longer-start}
 use Rattle.px_prover.proofs.tuples.push_longer.Goals as goal
 

@@ -1,4 +1,3 @@
--- What the loops of `push_longer` in src/tuples.rt keep true.
 use Rattle.std.proofs.Common.{◌≡◌, ◌++◌}
 use Rattle.px_prover.specs.Tuples.{longer_by}
 use Rattle.px_prover.proofs.tuples.push_longer.Given as goal

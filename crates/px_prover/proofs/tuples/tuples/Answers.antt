@@ -1,4 +1,3 @@
--- Proofs of the goals that `tuples` of src/tuples.rt leaves open.
 use Rattle.px_prover.proofs.Tupling.{tuples-next, tuples-start}
 use Rattle.px_prover.proofs.tuples.tuples.Goals as goal
 

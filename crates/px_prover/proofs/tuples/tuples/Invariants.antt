@@ -1,4 +1,3 @@
--- What the loops of `tuples` in src/tuples.rt keep true.
 use Rattle.std.proofs.Common.{◌≡◌}
 use Rattle.px_prover.specs.Tuples.{tuples_of}
 use Rattle.px_prover.proofs.tuples.tuples.Given as goal

@@ -1,4 +1,3 @@
--- Proofs of the goals that `are_two_open` of src/walking.rt leaves open.
 use Rattle.std.proofs.Common.{Some, arith, slice_get, subst, ◌-◌, ◌≡◌, ◌<◌, ℕ}
 use Rattle.std.proofs.lemmas.Bool.{ltb-true}
 use borrow.Author.Tests.{ltb-false}

@@ -1,4 +1,3 @@
--- Proofs of the goals that `open_places` of src/walking.rt leaves open.
 use Rattle.std.proofs.Common.{arith}
 use Rattle.px_prover.proofs.Moves.{open-next, open-none}
 use Rattle.px_prover.proofs.walking.open_places.Goals as goal

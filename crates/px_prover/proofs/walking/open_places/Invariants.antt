@@ -1,4 +1,3 @@
--- What the loops of `open_places` in src/walking.rt keep true.
 use Rattle.std.proofs.Common.{◌≡◌, ◌≤◌, ◌+◌, length}
 use Rattle.px_proof_state.specs.Arena.{goals_at}
 use Rattle.px_prover.proofs.walking.open_places.Given as goal

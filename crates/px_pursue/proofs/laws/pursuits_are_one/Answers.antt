@@ -1,4 +1,3 @@
--- Proofs of the goals that `pursuits_are_one` of src/laws.rt leaves open.
 use Rattle.px_pursue.proofs.One.{pursuits_are_one}
 use Rattle.px_pursue.proofs.laws.pursuits_are_one.Goals as goal
 

@@ -1,4 +1,3 @@
--- Proofs of the goals that `pursuits_are_short` of src/laws.rt leaves open.
 use Rattle.px_pursue.proofs.Short.{pursuits_are_short}
 use Rattle.px_pursue.proofs.laws.pursuits_are_short.Goals as goal
 

@@ -1,4 +1,3 @@
--- Proofs of the goals that `searches_are_few` of src/laws.rt leaves open.
 use Rattle.px_pursue.proofs.Few.{searches_are_few}
 use Rattle.px_pursue.proofs.laws.searches_are_few.Goals as goal
 

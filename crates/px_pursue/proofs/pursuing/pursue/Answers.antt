@@ -1,4 +1,3 @@
--- Proofs of the goals that `pursue` of src/pursuing.rt leaves open.
 use Rattle.std.proofs.Common.{◌≡◌, ◌+◌, suc, Option, map, ◌∙◌, subst, arith}
 use Rattle.px_printer.specs.declared.pursue_end.PursueEnd.{PursueEnd}
 use Rattle.px_turns.specs.Told.{turn_told}

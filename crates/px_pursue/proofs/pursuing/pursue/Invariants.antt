@@ -1,4 +1,3 @@
--- What the loops of `pursue` in src/pursuing.rt keep true.
 use Rattle.std.proofs.Common.{◌≡◌, ◌+◌, length}
 use Rattle.px_turns.specs.Told.{AdmitSame}
 use Rattle.px_turns.specs.Vain.{count_from}

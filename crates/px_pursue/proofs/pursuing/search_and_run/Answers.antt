@@ -1,4 +1,3 @@
--- Proofs of the goals that `search_and_run` of src/pursuing.rt leaves open.
 use Rattle.std.proofs.Common.{List, [], true, false, map, sym, subst}
 use Rattle.std.proofs.lemmas.List.{append-nil}
 use Rattle.px_terms.specs.declared.atom.Atom.{Atom}

@@ -1,4 +1,3 @@
--- Proofs of the goals that `seek` of src/seeking.rt leaves open.
 use Rattle.std.proofs.Common.{[], refl}
 use Rattle.px_pursue.proofs.seeking.seek.Goals as goal
 

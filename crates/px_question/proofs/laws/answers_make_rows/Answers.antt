@@ -1,4 +1,3 @@
--- Proofs of the goals that `answers_make_rows` of src/laws.rt leaves open.
 use Rattle.px_question.proofs.RowLaws.{answers-make_rows as the_law}
 use Rattle.px_question.proofs.laws.answers_make_rows.Goals as goal
 

@@ -1,4 +1,3 @@
--- Proofs of the goals that `few_or_limited` of src/laws.rt leaves open.
 use Rattle.px_question.proofs.DeterminedLaws.{few_or_limited as the_law}
 use Rattle.px_question.proofs.laws.few_or_limited.Goals as goal
 

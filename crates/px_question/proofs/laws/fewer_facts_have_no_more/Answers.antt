@@ -1,4 +1,3 @@
--- Proofs of the goals that `fewer_facts_have_no_more` of src/laws.rt leaves open.
 use Rattle.px_question.proofs.FewerFactsLaws.{fewer_facts-have_no_more as the_law}
 use Rattle.px_question.proofs.laws.fewer_facts_have_no_more.Goals as goal
 

@@ -1,4 +1,3 @@
--- Proofs of the goals that `first_is_of_each` of src/laws.rt leaves open.
 use Rattle.px_question.proofs.FirstOfEachLaws.{first-is_of_each as the_law}
 use Rattle.px_question.proofs.laws.first_is_of_each.Goals as goal
 

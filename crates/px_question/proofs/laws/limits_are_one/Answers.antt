@@ -1,4 +1,3 @@
--- Proofs of the goals that `limits_are_one` of src/laws.rt leaves open.
 use Rattle.px_question.proofs.DeterminedLaws.{limits-are_one as the_law}
 use Rattle.px_question.proofs.laws.limits_are_one.Goals as goal
 

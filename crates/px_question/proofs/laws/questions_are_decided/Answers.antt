@@ -1,4 +1,3 @@
--- Proofs of the goals that `questions_are_decided` of src/laws.rt leaves open.
 use Rattle.px_question.proofs.DecidedLaws.{questions-are_decided as the_law}
 use Rattle.px_question.proofs.laws.questions_are_decided.Goals as goal
 

@@ -1,4 +1,3 @@
--- Proofs of the goals that `finish` of src/lines.rt leaves open.
 use Rattle.px_base.specs.Bounds.{u32_max}
 use Rattle.px_reader.proofs.Common.{◌<◌, ◌∙◌, ap, length, declared_of, option_map, IsBuilding}
 use Rattle.px_reader.proofs.Finishing.{lifted}

@@ -1,4 +1,3 @@
--- Proofs of the goals that `read_line` of src/lines.rt leaves open.
 use Rattle.px_reader.proofs.Common.{sym, ap, ◌∙◌, [], ◌∷◌, inl, refl, subst, chars, stage_view, declared_of, statement_view}
 use Rattle.std.proofs.lemmas.Str.{scalars-chars}
 use Rattle.px_script.proofs.Lexing.{found-begins, scanned-ignored}

@@ -1,4 +1,3 @@
--- Proofs of the goals that `read_statement` of src/lines.rt leaves open.
 use Rattle.px_reader.proofs.Common.{◌∙◌, sym, no-fault, stage_view, declared_of, statement_view}
 use Rattle.px_causes.proofs.Late.{early-all, early-right, early-some, few-facts, many-facts}
 use Rattle.px_reader.proofs.lines.read_statement.Goals as goal

@@ -1,4 +1,3 @@
--- Proofs of the goals that `read_closed` of src/reading.rt leaves open.
 use Rattle.px_reader.proofs.Common.{refl, open_block_view, sym, subst, length, nothing_declared, lines_in, LinesFail, stage_view, declared_of}
 use Rattle.px_reader.proofs.Outcomes.{left-open, err-carried}
 use Rattle.px_reader.proofs.reading.read_closed.Goals as goal

@@ -1,4 +1,3 @@
--- Proofs of the goals that `read_each` of src/reading.rt leaves open.
 use Rattle.px_reader.proofs.Common.{◌≡◌, ◌==◌, ◌<◌, ◌∙◌, ℕ, List, length, get_or, arith, refl, sym, ap, subst, lit<, chars, slice_split, without_return, LinesFail, lines_in, stage_view, declared_of}
 use Rattle.std.proofs.lemmas.Iterator.Consumers.{YieldsList-at, YieldsList-turn, YieldsList-end}
 use Rattle.std.proofs.lemmas.Iterator.Splits.{YieldsList-from_str_split}

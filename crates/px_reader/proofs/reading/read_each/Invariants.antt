@@ -1,4 +1,3 @@
--- What the loops of `read_each` in src/reading.rt keep true.
 use Rattle.px_reader.proofs.Common.{◌≡◌, ◌==◌, length, chars, slice_split, without_return, stage_view, declared_of}
 use Rattle.px_reader.proofs.LineSteps.{HasRead}
 use Rattle.px_reader.proofs.reading.read_each.Given as goal

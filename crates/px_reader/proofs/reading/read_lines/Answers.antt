@@ -1,4 +1,3 @@
--- Proofs of the goals that `read_lines` of src/reading.rt leaves open.
 use Rattle.px_reader.proofs.Common.{nothing_declared, lines-kept, start-in-range, declared-in-range, stage_view, declared_of}
 use Rattle.px_so_far.proofs.ProblemLemmas.{closed-problem}
 use Rattle.px_reader.proofs.reading.read_lines.Goals as goal

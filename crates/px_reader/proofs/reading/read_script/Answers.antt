@@ -1,4 +1,3 @@
--- Proofs of the goals that `read_script` of src/reading.rt leaves open.
 use Rattle.px_reader.proofs.Common.{stage_now}
 use Rattle.px_reader.proofs.Outcomes.{of-stage-read, all-scripts, all-faults}
 use Rattle.px_reader.proofs.reading.read_script.Goals as goal

@@ -1,4 +1,3 @@
--- Proofs of the goals that `read_text` of src/reading.rt leaves open.
 use Rattle.px_reader.proofs.Common.{ap, length, arith, lines_in, stage_view}
 use Rattle.px_reader.proofs.Outcomes.{text-ends, unmarked-short}
 use Rattle.px_reader.proofs.reading.read_text.Goals as goal

@@ -1,4 +1,3 @@
--- Proofs of the goals that `without_mark` of src/reading.rt leaves open.
 use Rattle.px_reader.proofs.LineLemmas.{marked, unmarked}
 use Rattle.px_reader.proofs.reading.without_mark.Goals as goal
 

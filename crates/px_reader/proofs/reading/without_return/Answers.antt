@@ -1,4 +1,3 @@
--- Proofs of the goals that `without_return` of src/reading.rt leaves open.
 use Rattle.px_reader.proofs.Common.{lit<, strip_suffix_char}
 use Rattle.px_reader.proofs.LineLemmas.{unreturned}
 use Rattle.px_reader.proofs.reading.without_return.Goals as goal

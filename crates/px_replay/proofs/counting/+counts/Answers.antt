@@ -1,4 +1,3 @@
--- Proofs of the goals that `counts` of src/counting.rt leaves open.
 use Rattle.std.proofs.Common.{◌∙◌, ap, length, arith}
 use Rattle.px_proof.specs.LayerLaws.{derivation_of-step}
 use Rattle.px_proof.specs.ProofTerm.{derivation_of}

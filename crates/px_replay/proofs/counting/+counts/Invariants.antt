@@ -1,4 +1,3 @@
--- What the loops of `counts` in src/counting.rt keep true.
 use Rattle.std.proofs.Common.{◌≡◌, ◌-◌, ◌^◌, take}
 use Rattle.std.specs.Prelude.{min}
 use Rattle.px_base.specs.Bounds.{u64_max}

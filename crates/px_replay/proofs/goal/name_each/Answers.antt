@@ -1,4 +1,3 @@
--- Proofs of the goals that `name_each` of src/goal.rt leaves open.
 use Rattle.std.proofs.Common.{◌∙◌, ◌++◌, ◌∷◌, [], ap, sym, take, get_or, arith}
 use Rattle.px_terms.specs.declared.term.Term.TheVariants.{Obj}
 use Rattle.px_replay.specs.Opened.{named_args, named_term}

@@ -1,4 +1,3 @@
--- What the loops of `name_each` in src/goal.rt keep true.
 use Rattle.std.proofs.Common.{◌≡◌, ◌+◌, length, take}
 use Rattle.std.specs.Prelude.{count_by}
 use Rattle.px_replay.specs.FreshVariables.{is_object}

@@ -1,4 +1,3 @@
--- Proofs of the goals that `named_goal` of src/goal.rt leaves open.
 use Rattle.std.specs.Prelude.{count_by}
 use Rattle.std.proofs.Common.{◌∙◌, ◌+◌, ◌++◌, ◌∷◌, [], ap, sym, take, arith}
 use Rattle.std.proofs.lemmas.List.Sums.{sum_by_more}

@@ -1,4 +1,3 @@
--- What the loops of `named_goal` in src/goal.rt keep true.
 use Rattle.std.proofs.Common.{◌≡◌, ◌+◌, take}
 use Rattle.px_replay.specs.Opened.{goal_objects, named_goal}
 use Rattle.px_replay.proofs.goal.named_goal.Given as goal

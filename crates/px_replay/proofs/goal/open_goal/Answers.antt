@@ -1,4 +1,3 @@
--- Proofs of the goals that `open_goal` of src/goal.rt leaves open.
 use Rattle.std.proofs.Common.{◌≡◌, ◌∙◌, ap, length, arith}
 use Rattle.px_base.proofs.Loops.{ok_map}
 use Rattle.px_terms.proofs.VariableLemmas.{length-variables}

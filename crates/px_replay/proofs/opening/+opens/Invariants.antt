@@ -1,4 +1,3 @@
--- What the loops of `opens` in src/opening.rt keep true.
 use Rattle.std.proofs.Common.{◌≡◌, ◌+◌, map, take, sum_by}
 use Rattle.px_proof.specs.ProofTerm.{derivation_of}
 use Rattle.px_replay.specs.FreshOf.{fresh_of_proof}

@@ -1,4 +1,3 @@
--- Proofs of the goals that `add_of` of src/opening.rt leaves open.
 use Rattle.std.proofs.Common.{◌≡◌, ◌∙◌, ap, List, map, get_or}
 use Rattle.px_terms.specs.declared.atom.Atom.{Atom}
 use Rattle.px_terms.specs.declared.problem.Schema.{Schema}

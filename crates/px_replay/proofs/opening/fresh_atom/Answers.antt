@@ -1,4 +1,3 @@
--- Proofs of the goals that `fresh_atom` of src/opening.rt leaves open.
 use Rattle.std.proofs.Common.{ap, length, arith}
 use Rattle.px_terms.proofs.VariableLemmas.{length-variables}
 use Rattle.px_replay.proofs.opening.fresh_atom.Goals as goal

@@ -1,4 +1,3 @@
--- Proofs of the goals that `open_rows` of src/opening.rt leaves open.
 use Rattle.std.proofs.Common.{ℕ, ◌∙◌, ◌+◌, ◌++◌, ◌∷◌, [], List, ap, sym, map, take, sum_by, arith}
 use Rattle.std.proofs.lemmas.List.{map-append}
 use Rattle.std.proofs.lemmas.List.Sums.{sum_by_more}

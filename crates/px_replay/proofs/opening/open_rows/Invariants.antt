@@ -1,4 +1,3 @@
--- What the loops of `open_rows` in src/opening.rt keep true.
 use Rattle.std.proofs.Common.{◌≡◌, ◌+◌, take, sum_by}
 use Rattle.px_table.specs.Tables.{rows_of}
 use Rattle.px_replay.specs.FreshOf.{row_fresh}

@@ -1,4 +1,3 @@
--- Proofs of the goals that `open_steps` of src/opening.rt leaves open.
 use Rattle.std.proofs.Common.{ℕ, ◌≡◌, ◌∙◌, ◌+◌, ◌++◌, ◌∷◌, [], ap, sym, take, length, arith}
 use Rattle.std.proofs.lemmas.List.Sums.{sum_by_more}
 use Rattle.px_terms.specs.declared.instance.OpInst.{OpInst}

@@ -1,4 +1,3 @@
--- What the loops of `open_steps` in src/opening.rt keep true.
 use Rattle.std.proofs.Common.{◌≡◌, take}
 use Rattle.px_replay.specs.Opened.{opened_steps, step_variables}
 use Rattle.px_replay.proofs.opening.open_steps.Given as goal

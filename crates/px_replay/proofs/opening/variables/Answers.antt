@@ -1,4 +1,3 @@
--- Proofs of the goals that `variables` of src/opening.rt leaves open.
 use Rattle.std.proofs.Common.{◌∙◌, ◌+◌, ◌++◌, ◌∷◌, [], ap, sym}
 use Rattle.px_terms.specs.declared.term.Term.TheVariants.{Var}
 use Rattle.px_replay.proofs.OpenSteps.{variables_from-push}

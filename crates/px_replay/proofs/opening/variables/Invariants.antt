@@ -1,4 +1,3 @@
--- What the loops of `variables` in src/opening.rt keep true.
 use Rattle.std.proofs.Common.{◌≡◌}
 use Rattle.px_terms.specs.Substitution.{variables_from}
 use Rattle.px_replay.proofs.opening.variables.Given as goal

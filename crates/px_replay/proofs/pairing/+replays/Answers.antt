@@ -1,4 +1,3 @@
--- Proofs of the goals that `replays` of src/pairing.rt leaves open.
 use Rattle.std.proofs.Common.{rules, ◌≡◌, Some, map, slice_get, ap, sym, subst, ◌∙◌, arith}
 use Rattle.px_proof.specs.Derivation.{Derivation, derivations}
 use Rattle.px_proof.specs.ProofTerm.{derivation_of}

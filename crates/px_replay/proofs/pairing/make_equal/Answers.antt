@@ -1,4 +1,3 @@
--- Proofs of the goals that `make_equal` of src/pairing.rt leaves open.
 use Rattle.std.proofs.Common.{refl}
 use Rattle.px_replay.proofs.pairing.make_equal.Goals as goal
 

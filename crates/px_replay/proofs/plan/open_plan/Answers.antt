@@ -1,4 +1,3 @@
--- Proofs of the goals that `open_plan` of src/plan.rt leaves open.
 use Rattle.std.proofs.Common.{◌∙◌, ap, sym, subst, sum_by, arith}
 use Rattle.std.specs.Prelude.{All}
 use Rattle.px_replay.specs.FreshOf.{row_fresh}

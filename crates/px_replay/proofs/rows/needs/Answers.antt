@@ -1,4 +1,3 @@
--- Proofs of the goals that `needs` of src/rows.rt leaves open.
 use Rattle.px_terms.specs.declared.term.Term.{Term}
 use Rattle.std.proofs.Common.{List, ◌∙◌, ap, sym, map, take, ◌++◌, ◌∷◌, []}
 use Rattle.std.proofs.lemmas.List.{take_more, map-append}

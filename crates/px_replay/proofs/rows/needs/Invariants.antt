@@ -1,4 +1,3 @@
--- What the loops of `needs` in src/rows.rt keep true.
 use Rattle.std.proofs.Common.{◌≡◌, map, take}
 use Rattle.px_terms.specs.Substitution.{substitute_atom}
 use Rattle.px_replay.proofs.rows.needs.Given as goal

@@ -1,4 +1,3 @@
--- Proofs of the goals that `replay_row` of src/rows.rt leaves open.
 use Rattle.std.proofs.Common.{◌≡◌, ◌<◌, Some, List, map, length, slice_get, ap, sym, ◌∙◌, subst, arith}
 use Rattle.std.proofs.lemmas.List.{length-map}
 use Rattle.px_terms.specs.declared.clause.Lit.{Lit}

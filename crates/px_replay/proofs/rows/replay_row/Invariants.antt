@@ -1,4 +1,3 @@
--- What the loops of `replay_row` in src/rows.rt keep true.
 use Rattle.std.proofs.Common.{map}
 use Rattle.px_proof.specs.ProofTerm.{derivation_of}
 use Rattle.px_replay.proofs.RowSteps.{GoesRow}

@@ -1,4 +1,3 @@
--- What the loops of `replay_rows` in src/rows.rt keep true.
 use Rattle.px_table.specs.Tables.{rows_of}
 use Rattle.px_replay.proofs.RowSteps.{GoesRows}
 use Rattle.px_replay.proofs.rows.replay_rows.Given as goal

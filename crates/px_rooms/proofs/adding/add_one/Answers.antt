@@ -1,4 +1,3 @@
--- Proofs of the goals that `add_one` of src/adding.rt leaves open.
 use Rattle.std.proofs.Common.{ap, ◌∙◌}
 use Rattle.std.proofs.lemmas.Bool.{eq-eqb}
 use Rattle.px_terms.specs.AtomSets.{with_atom}

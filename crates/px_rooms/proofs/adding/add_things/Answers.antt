@@ -1,4 +1,3 @@
--- Proofs of the goals that `add_things` of src/adding.rt leaves open.
 use Rattle.std.specs.Prelude.{◌++◌, length}
 use Rattle.std.proofs.Common.{◌≤◌, ◌+◌, take, sym, ap, ◌∙◌, subst, arith}
 use Rattle.std.proofs.lemmas.List.{append-nil, take_all}

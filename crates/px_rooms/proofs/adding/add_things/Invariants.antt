@@ -1,4 +1,3 @@
--- What the loops of `add_things` in src/adding.rt keep true.
 use Rattle.std.proofs.Common.{◌≤◌, ◌+◌, length, take}
 use Rattle.px_rooms.specs.Added.{AreAdded, of_pred}
 use Rattle.px_rooms.specs.States.{atoms_from}

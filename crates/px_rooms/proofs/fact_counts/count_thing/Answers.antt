@@ -1,4 +1,3 @@
--- Proofs of the goals that `count_thing` of src/fact_counts.rt leaves open.
 use Rattle.std.proofs.Common.{length, ap, arith}
 use Rattle.px_rooms.specs.States.{thing_atoms}
 use Rattle.px_rooms.proofs.fact_counts.count_thing.Goals as goal

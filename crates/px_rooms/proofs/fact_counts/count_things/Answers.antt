@@ -1,4 +1,3 @@
--- Proofs of the goals that `count_things` of src/fact_counts.rt leaves open.
 use Rattle.std.specs.Prelude.{◌+◌}
 use Rattle.std.proofs.Common.{length, ap, ◌∙◌, arith}
 use Rattle.std.proofs.lemmas.List.{take_all}

@@ -1,4 +1,3 @@
--- What the loops of `count_things` in src/fact_counts.rt keep true.
 use Rattle.std.proofs.Common.{◌≡◌, ◌≤◌, ◌*◌, length, take}
 use Rattle.px_rooms.specs.States.{atoms_from}
 use Rattle.px_rooms.proofs.fact_counts.count_things.Given as goal

@@ -1,4 +1,3 @@
--- Proofs of the goals that `actions_are_results` of src/laws.rt leaves open.
 use Rattle.px_rooms.proofs.Actions.{actions-follow}
 use Rattle.px_rooms.proofs.laws.actions_are_results.Goals as goal
 

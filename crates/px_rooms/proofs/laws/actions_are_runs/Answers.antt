@@ -1,4 +1,3 @@
--- Proofs of the goals that `actions_are_runs` of src/laws.rt leaves open.
 use Rattle.px_rooms.proofs.Runs.{actions-are-runs}
 use Rattle.px_rooms.proofs.laws.actions_are_runs.Goals as goal
 

@@ -1,4 +1,3 @@
--- Proofs of the goals that `buildings_are_valid` of src/laws.rt leaves open.
 use Rattle.px_rooms.proofs.Valid.{buildings_are_valid}
 use Rattle.px_rooms.proofs.laws.buildings_are_valid.Goals as goal
 

@@ -1,4 +1,3 @@
--- Proofs of the goals that `edits_are_edits` of src/laws.rt leaves open.
 use Rattle.px_rooms.proofs.Actions.{edits-follow}
 use Rattle.px_rooms.proofs.laws.edits_are_edits.Goals as goal
 

@@ -1,4 +1,3 @@
--- Proofs of the goals that `facts_are_atoms` of src/laws.rt leaves open.
 use Rattle.px_rooms.proofs.Belonging.{facts-are-atoms}
 use Rattle.px_rooms.proofs.laws.facts_are_atoms.Goals as goal
 

@@ -1,4 +1,3 @@
--- Proofs of the goals that `facts_are_few` of src/laws.rt leaves open.
 use Rattle.px_rooms.proofs.Guarding.{facts-few}
 use Rattle.px_rooms.proofs.laws.facts_are_few.Goals as goal
 

@@ -1,4 +1,3 @@
--- Proofs of the goals that `instances_are_actions` of src/laws.rt leaves open.
 use Rattle.px_rooms.proofs.Instances.{instances-are-actions}
 use Rattle.px_rooms.proofs.laws.instances_are_actions.Goals as goal
 

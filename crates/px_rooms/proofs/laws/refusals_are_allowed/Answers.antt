@@ -1,4 +1,3 @@
--- Proofs of the goals that `refusals_are_allowed` of src/laws.rt leaves open.
 use Rattle.px_rooms.proofs.Guarding.{refusals-allowed}
 use Rattle.px_rooms.proofs.laws.refusals_are_allowed.Goals as goal
 

@@ -1,4 +1,3 @@
--- Proofs of the goals that `room_edits_add_one` of src/laws.rt leaves open.
 use Rattle.px_rooms.proofs.Actions.{edits_add_one}
 use Rattle.px_rooms.proofs.laws.room_edits_add_one.Goals as goal
 

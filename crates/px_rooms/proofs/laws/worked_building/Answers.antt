@@ -1,4 +1,3 @@
--- Proofs of the goals that `worked_building` of src/laws.rt leaves open.
 use Rattle.std.proofs.Common.{refl}
 use Rattle.px_base.specs.Sets.{set_of, with_item}
 use Rattle.px_rooms.proofs.Wanted.{kind_facts, two_rooms_are}

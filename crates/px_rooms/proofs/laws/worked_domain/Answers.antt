@@ -1,4 +1,3 @@
--- Proofs of the goals that `worked_domain` of src/laws.rt leaves open.
 use Rattle.std.proofs.Common.{refl}
 use Rattle.px_rooms.proofs.laws.worked_domain.Goals as goal
 

@@ -1,4 +1,3 @@
--- Proofs of the goals that `rooms_problem` of src/problem.rt leaves open.
 use Rattle.std.specs.Prelude.{◌≡◌, IfOk}
 use Rattle.std.proofs.Common.{◌∙◌, subst, arith}
 use Rattle.px_rooms.specs.Domain.{building_problem}

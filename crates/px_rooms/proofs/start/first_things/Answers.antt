@@ -1,4 +1,3 @@
--- Proofs of the goals that `first_things` of src/start.rt leaves open.
 use Rattle.px_rooms.proofs.Starting.{add-next}
 use Rattle.px_rooms.proofs.start.first_things.Goals as goal
 

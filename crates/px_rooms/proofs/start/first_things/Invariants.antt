@@ -1,4 +1,3 @@
--- What the loops of `first_things` in src/start.rt keep true.
 use Rattle.std.proofs.Common.{◌≡◌, take}
 use Rattle.px_rooms.specs.States.{standings}
 use Rattle.px_rooms.proofs.start.first_things.Given as goal

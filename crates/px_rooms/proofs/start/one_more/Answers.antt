@@ -1,4 +1,3 @@
--- Proofs of the goals that `one_more` of src/start.rt leaves open.
 use Rattle.px_rooms.proofs.Starting.{first-robot, later-robot, second-robot}
 use Rattle.px_rooms.proofs.start.one_more.Goals as goal
 

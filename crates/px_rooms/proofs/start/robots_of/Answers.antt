@@ -1,4 +1,3 @@
--- Proofs of the goals that `robots_of` of src/start.rt leaves open.
 use Rattle.std.proofs.Common.{take}
 use Rattle.px_rooms.specs.States.{robot_rooms}
 use Rattle.px_rooms.proofs.Starting.{robots-next}

@@ -1,4 +1,3 @@
--- What the loops of `robots_of` in src/start.rt keep true.
 use Rattle.std.proofs.Common.{take}
 use Rattle.px_rooms.specs.RobotCounts.{AreRobots}
 use Rattle.px_rooms.specs.States.{robot_rooms}

@@ -1,4 +1,3 @@
--- Proofs of the goals that `with_thing` of src/start.rt leaves open.
 use Rattle.std.proofs.Common.{◌++◌, sym, subst}
 use Rattle.std.proofs.lemmas.List.{append-nil}
 use Rattle.px_rooms.specs.RobotCounts.{AreRobots}

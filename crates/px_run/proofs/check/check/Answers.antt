@@ -1,4 +1,3 @@
--- Proofs of the goals that `check` of src/check.rt leaves open.
 use Rattle.std.proofs.Common.{refl}
 use Rattle.px_run.proofs.CheckLemmas.{check-refused}
 use Rattle.px_run.proofs.check.check.Goals as goal

@@ -1,4 +1,3 @@
--- Proofs of the goals that `count_answer` of src/counts.rt leaves open.
 use Rattle.px_run.proofs.CountLemmas.{answer-counts}
 use Rattle.px_run.proofs.counts.count_answer.Goals as goal
 

@@ -1,4 +1,3 @@
--- Proofs of the goals that `counted` of src/counts.rt leaves open.
 use Rattle.std.proofs.Common.{◌<◌, ◌≤◌, ◌++◌, ◌∷◌, List, [], length, sym, subst, arith}
 use Rattle.px_script.specs.declared.command.Command.{Command}
 use Rattle.px_run.proofs.AnswerLemmas.{one-more, so-far-start}

@@ -1,4 +1,3 @@
--- What the loops of `counted` in src/counts.rt keep true.
 use Rattle.std.proofs.Common.{List}
 use Rattle.px_printer.specs.declared.reply.Reply.{Reply}
 use Rattle.px_run.specs.Sums.{IsCountOf}

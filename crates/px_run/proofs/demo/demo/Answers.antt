@@ -1,4 +1,3 @@
--- Proofs of the goals that `demo` of src/demo.rt leaves open.
 use Rattle.std.proofs.Common.{◌∙◌, ℕ, List, subst}
 use Rattle.px_script.specs.ReadScripts.{content}
 use Rattle.px_script.specs.Scripts.{IsScript}

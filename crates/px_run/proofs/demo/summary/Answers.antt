@@ -1,4 +1,3 @@
--- Proofs of the goals that `summary` of src/demo.rt leaves open.
 use Rattle.std.proofs.Common.{ap, subst}
 use Rattle.std.specs.Prelude.{IfOk}
 use Rattle.px_session.specs.Opened.{SessionValue}

@@ -1,4 +1,3 @@
--- Proofs of the goals that `texts_are_one` of src/laws.rt leaves open.
 use Rattle.px_run.proofs.OneText.{texts_are_one}
 use Rattle.px_run.proofs.laws.texts_are_one.Goals as goal
 

@@ -1,4 +1,3 @@
--- Proofs of the goals that `transcripts_carry` of src/laws.rt leaves open.
 use Rattle.px_run.proofs.Carried.{transcripts_carry}
 use Rattle.px_run.proofs.laws.transcripts_carry.Goals as goal
 

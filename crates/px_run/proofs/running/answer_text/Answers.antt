@@ -1,4 +1,3 @@
--- Proofs of the goals that `answer_text` of src/running.rt leaves open.
 use Rattle.px_run.proofs.AnswerLemmas.{text-answers}
 use Rattle.px_run.proofs.running.answer_text.Goals as goal
 

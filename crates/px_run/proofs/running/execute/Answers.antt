@@ -1,4 +1,3 @@
--- Proofs of the goals that `execute` of src/running.rt leaves open.
 use Rattle.std.proofs.Common.{◌<◌, ◌≤◌, ◌++◌, ◌∷◌, List, [], length, refl, sym, subst, ◌∙◌, arith}
 use Rattle.px_script.specs.declared.command.Command.{Command}
 use Rattle.px_session.specs.Transcripts.{texts}

@@ -1,4 +1,3 @@
--- Proofs of the goals that `lawful_reply` of src/running.rt leaves open.
 use Rattle.px_run.proofs.AnswerLemmas.{answered-of, named-of}
 use Rattle.px_run.proofs.running.lawful_reply.Goals as goal
 

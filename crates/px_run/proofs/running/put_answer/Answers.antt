@@ -1,4 +1,3 @@
--- Proofs of the goals that `put_answer` of src/running.rt leaves open.
 use Rattle.px_run.proofs.AnswerLemmas.{answer-right, wrote-none}
 use Rattle.px_run.proofs.running.put_answer.Goals as goal
 

@@ -1,4 +1,3 @@
--- Proofs of the goals that `answer` of src/top.rt leaves open.
 use Rattle.std.proofs.Common.{[], ap, subst}
 use Rattle.px_session.specs.Opened.{SessionValue}
 use Rattle.px_run.specs.Outcomes.{sink_ends, ExecutedRight}

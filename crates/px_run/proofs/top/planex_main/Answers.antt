@@ -1,4 +1,3 @@
--- Proofs of the goals that `planex_main` of src/top.rt leaves open.
 use Rattle.px_run.proofs.CheckLemmas.{check-completes, check-completes_surely, check-front, check-refuses, check-right, is_certified}
 use Rattle.px_run.proofs.DemoLemmas.{demo-completes, demo-completes_surely, demo-front, demo-right, run-right}
 use Rattle.px_run.specs.Outcomes.{source_ends}

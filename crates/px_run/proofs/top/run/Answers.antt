@@ -1,4 +1,3 @@
--- Proofs of the goals that `run` of src/top.rt leaves open.
 use Rattle.px_script.specs.ReadScripts.{content}
 use Rattle.px_run.proofs.AnswerLemmas.{wrote-none}
 use Rattle.px_run.proofs.CheckLemmas.{run-unread}

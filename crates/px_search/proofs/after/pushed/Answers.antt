@@ -1,4 +1,3 @@
--- Proofs of the goals that `pushed` of src/after.rt leaves open.
 use Rattle.px_search.proofs.StepLaws.{pushed_stands}
 use Rattle.px_search.proofs.after.pushed.Goals as goal
 

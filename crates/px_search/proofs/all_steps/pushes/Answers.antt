@@ -1,4 +1,3 @@
--- Proofs of the goals that `pushes` of src/all_steps.rt leaves open.
 use Rattle.px_diff.specs.Pushes.{LimitsRelevant}
 use Rattle.px_support.specs.Asking.{task_for}
 use Rattle.px_search.specs.Going.{LimitsNode}

@@ -1,4 +1,3 @@
--- Proofs of the goals that `alteration_at` of src/alterations.rt leaves open.
 use Rattle.px_support.specs.Asking.{task_for}
 use Rattle.px_search.proofs.AlterationLaws.{alteration-at}
 use Rattle.px_search.proofs.alterations.alteration_at.Goals as goal

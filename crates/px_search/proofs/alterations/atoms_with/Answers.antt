@@ -1,4 +1,3 @@
--- Proofs of the goals that `atoms_with` of src/alterations.rt leaves open.
 use Rattle.std.proofs.Common.{◌≡◌, ◌+◌, ◌++◌, ◌∷◌, [], List, map, take, sym, ap, ◌∙◌}
 use Rattle.std.proofs.lemmas.List.{map-append, take_more}
 use Rattle.px_terms.specs.declared.atom.Atom.{Atom}

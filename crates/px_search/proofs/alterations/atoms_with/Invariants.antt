@@ -1,4 +1,3 @@
--- What the loops of `atoms_with` in src/alterations.rt keep true.
 use Rattle.std.proofs.Common.{◌≡◌, map, take}
 use Rattle.px_terms.specs.Substitution.{substitute_atom}
 use Rattle.px_search.proofs.alterations.atoms_with.Given as goal

@@ -1,4 +1,3 @@
--- Proofs of the goals that `found_by_moves` of src/best_first.rt leaves open.
 use Rattle.std.proofs.Common.{refl, subst}
 use Rattle.px_support.specs.Asking.{task_for}
 use Rattle.px_search.specs.Looping.{StopsAt}

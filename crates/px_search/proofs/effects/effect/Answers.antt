@@ -1,4 +1,3 @@
--- Proofs of the goals that `effect` of src/effects.rt leaves open.
 use Rattle.std.proofs.Common.{◌≡◌, ◌∙◌, List, ap, subst, sym}
 use Rattle.std.specs.Prelude.{IfOk}
 use Rattle.px_terms.specs.declared.instance.OpInst.{OpInst}

@@ -1,4 +1,3 @@
--- Proofs of the goals that `result_of` of src/effects.rt leaves open.
 use Rattle.std.proofs.Common.{◌≡◌, ◌∙◌, List, subst, sym}
 use Rattle.std.specs.Prelude.{All, IfOk}
 use Rattle.px_terms.specs.declared.instance.OpInst.{OpInst}

@@ -1,4 +1,3 @@
--- Proofs of the goals that `result_of_steps` of src/effects.rt leaves open.
 use Rattle.std.proofs.Common.{◌≡◌, ◌+◌, ◌++◌, ◌∷◌, [], List, take, sym, ap, ◌∙◌, subst}
 use Rattle.std.proofs.lemmas.List.{take_more}
 use Rattle.px_terms.specs.declared.instance.OpInst.{OpInst}

@@ -1,4 +1,3 @@
--- What the loops of `result_of_steps` in src/effects.rt keep true.
 use Rattle.std.proofs.Common.{◌≡◌, take}
 use Rattle.px_terms.specs.Operators.{results_of}
 use Rattle.px_search.proofs.effects.result_of_steps.Given as goal

@@ -1,4 +1,3 @@
--- Proofs of the goals that `steps_with` of src/effects.rt leaves open.
 use Rattle.std.proofs.Common.{◌≡◌, ◌+◌, ◌++◌, ◌∷◌, [], List, map, take, sym, ap, ◌∙◌}
 use Rattle.std.proofs.lemmas.List.{map-append, take_more}
 use Rattle.px_terms.specs.declared.instance.OpInst.{OpInst}

@@ -1,4 +1,3 @@
--- What the loops of `steps_with` in src/effects.rt keep true.
 use Rattle.std.proofs.Common.{◌≡◌, map, take}
 use Rattle.px_table.specs.Kernels.{instance_under}
 use Rattle.px_search.proofs.effects.steps_with.Given as goal

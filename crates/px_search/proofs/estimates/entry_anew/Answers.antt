@@ -1,4 +1,3 @@
--- Proofs of the goals that `entry_anew` of src/estimates.rt leaves open.
 use Rattle.std.proofs.Common.{◌≡◌, ◌∙◌, ℕ, subst}
 use Rattle.px_base.proofs.Loops.{ok_map}
 use Rattle.px_entries.specs.Entries.{IsEntry}

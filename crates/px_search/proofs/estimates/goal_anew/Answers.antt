@@ -1,4 +1,3 @@
--- Proofs of the goals that `goal_anew` of src/estimates.rt leaves open.
 use Rattle.std.proofs.Common.{◌≡◌, ◌∙◌, ℕ}
 use Rattle.px_base.proofs.Loops.{ok_map}
 use Rattle.px_support.specs.Asking.{task_for}

@@ -1,4 +1,3 @@
--- Proofs of the goals that `compared` of src/merging.rt leaves open.
 use Rattle.std.proofs.Common.{ap, ◌∙◌}
 use Rattle.px_table.specs.declared.entry.Entry.{Entry}
 use Rattle.px_table.specs.EntryLaws.{entry_cmp-is}

@@ -1,4 +1,3 @@
--- Proofs of the goals that `merged` of src/merging.rt leaves open.
 use Rattle.std.proofs.Common.{drop, sym, subst, arith}
 use Rattle.std.proofs.lemmas.List.{drop_all}
 use Rattle.px_search.proofs.JoinLaws.{Joining, first_at, second_at, joined-past_first, joined-past_second, joining-start, put_rest, next-less, next-same, next-greater}

@@ -1,4 +1,3 @@
--- What the loops of `merged` in src/merging.rt keep true.
 use Rattle.std.proofs.Common.{◌+◌, ◌-◌, ◌≤◌, List, drop, length}
 use Rattle.px_table.specs.declared.entry.Entry.{Entry}
 use Rattle.px_search.specs.Offers.{ArePushes}

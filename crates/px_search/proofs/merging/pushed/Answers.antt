@@ -1,4 +1,3 @@
--- Proofs of the goals that `pushed` of src/merging.rt leaves open.
 use Rattle.px_ops.specs.KeepLaws.{place_within}
 use Rattle.px_numbers.specs.NumberLaws.{one_at}
 use Rattle.px_search.proofs.OfferLaws.{apply-pushes, push-entry}

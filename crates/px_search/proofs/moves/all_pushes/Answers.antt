@@ -1,4 +1,3 @@
--- Proofs of the goals that `all_pushes` of src/moves.rt leaves open.
 use Rattle.std.proofs.Common.{true}
 use Rattle.px_support.specs.Asking.{task_for}
 use Rattle.px_search.proofs.BeginningLaws.{all-begun}

@@ -1,4 +1,3 @@
--- Proofs of the goals that `all_entries_for` of src/offering.rt leaves open.
 use Rattle.std.proofs.Common.{true}
 use Rattle.px_support.specs.Asking.{task_for}
 use Rattle.px_search.proofs.OfferLaws.{whole-first}

@@ -1,4 +1,3 @@
--- Proofs of the goals that `moves_to` of src/origins.rt leaves open.
 use Rattle.std.proofs.Common.{◌≡◌, ◌-◌, ◌≤◌, ◌++◌, ℕ, List, [], ◌∷◌, length, reverse, slice_get, Some, ap, subst, arith}
 use Rattle.std.proofs.lemmas.List.{length-append}
 use Rattle.px_table.specs.declared.entry.Move.{Move}

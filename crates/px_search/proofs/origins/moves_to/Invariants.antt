@@ -1,4 +1,3 @@
--- What the loops of `moves_to` in src/origins.rt keep true.
 use Rattle.std.proofs.Common.{◌≡◌, ◌+◌, ◌≤◌, ◌++◌, List, length, reverse, slice_get, Some}
 use Rattle.px_table.specs.declared.entry.Move.{Move}
 use Rattle.px_search.specs.Steps.{Trace}

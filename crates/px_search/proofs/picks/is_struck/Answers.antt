@@ -1,4 +1,3 @@
--- Proofs of the goals that `is_struck` of src/picks.rt leaves open.
 use Rattle.px_search.proofs.StruckLaws.{apply_says, push_says}
 use Rattle.px_search.proofs.picks.is_struck.Goals as goal
 

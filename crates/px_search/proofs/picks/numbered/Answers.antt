@@ -1,4 +1,3 @@
--- Proofs of the goals that `numbered` of src/picks.rt leaves open.
 use Rattle.std.proofs.Common.{◌≡◌, ◌<◌, ◌++◌, ◌∷◌, [], List, length, map, take, slice_get, Some, sym, ap, ◌∙◌, subst, arith}
 use Rattle.std.proofs.lemmas.List.{take_all}
 use Rattle.px_table.specs.declared.entry.Entry.{Entry}

@@ -1,4 +1,3 @@
--- What the loops of `numbered` in src/picks.rt keep true.
 use Rattle.std.proofs.Common.{map, take}
 use Rattle.px_table.specs.declared.entry.Move.TheVariants.{Push}
 use Rattle.px_numbers.specs.Numbers.{KeepsAll}

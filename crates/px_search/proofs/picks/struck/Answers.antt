@@ -1,4 +1,3 @@
--- Proofs of the goals that `struck` of src/picks.rt leaves open.
 use Rattle.std.proofs.Common.{List, take, sym, subst, arith}
 use Rattle.std.proofs.lemmas.List.{take_all}
 use Rattle.px_table.specs.declared.entry.Move.{Move}

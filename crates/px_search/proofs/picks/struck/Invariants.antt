@@ -1,4 +1,3 @@
--- What the loops of `struck` in src/picks.rt keep true.
 use Rattle.std.proofs.Common.{List, take}
 use Rattle.px_table.specs.declared.entry.Entry.{Entry}
 use Rattle.px_table.specs.declared.entry.Move.{Move}

@@ -1,4 +1,3 @@
--- Proofs of the goals that `plan_of` of src/planning.rt leaves open.
 use Rattle.std.proofs.Common.{sym, subst}
 use Rattle.px_support.proofs.FoundByValue.{found_with_weight}
 use Rattle.px_support.specs.Asking.{task_for}

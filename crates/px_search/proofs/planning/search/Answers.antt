@@ -1,4 +1,3 @@
--- Proofs of the goals that `search` of src/planning.rt leaves open.
 use Rattle.std.proofs.Common.{◌≡◌, ◌<◌, [], length}
 use Rattle.std.specs.Prelude.{All}
 use Rattle.px_base.specs.Bounds.{u32_max}

@@ -1,4 +1,3 @@
--- Proofs of the goals that `result_anew` of src/results.rt leaves open.
 use Rattle.std.proofs.Common.{subst}
 use Rattle.px_entries.specs.Entries.{IsEntry}
 use Rattle.px_numbers.specs.Numbers.{IsModelAt}

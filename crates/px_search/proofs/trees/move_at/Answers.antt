@@ -1,4 +1,3 @@
--- Proofs of the goals that `move_at` of src/trees.rt leaves open.
 use Rattle.std.proofs.Common.{subst}
 use Rattle.std.specs.Prelude.{Option}
 use Rattle.px_numbers.specs.declared.stacks.Frame.{Frame}

@@ -1,4 +1,3 @@
--- Proofs of the goals that `tree_node` of src/trees.rt leaves open.
 use Rattle.std.proofs.Common.{◌≡◌, ◌-◌, ◌<◌, List, Some, length, slice_get, sym, subst, arith}
 use Rattle.px_support.specs.Asking.{task_for}
 use Rattle.px_search.specs.declared.step.Origin.{Origin}

@@ -1,4 +1,3 @@
--- Proofs of the goals that `tree_nodes` of src/trees.rt leaves open.
 use Rattle.std.proofs.Common.{[], ◌∷◌, ap, length, arith}
 use Rattle.std.proofs.lemmas.List.{length-append}
 use Rattle.px_support.specs.Asking.{task_for}

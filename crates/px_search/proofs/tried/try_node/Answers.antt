@@ -1,4 +1,3 @@
--- Proofs of the goals that `try_node` of src/tried.rt leaves open.
 use Rattle.std.proofs.Common.{arith}
 use Rattle.px_table.specs.declared.node.Node.{Node}
 use Rattle.px_gaps.specs.Known.{IsTriedOf}

@@ -1,4 +1,3 @@
--- Proofs of the goals that `edits_of` of src/commands.rt leaves open.
 use Rattle.std.proofs.Common.{◌∙◌, ◌++◌, List, map, refl, sym, ap}
 use Rattle.std.proofs.lemmas.List.{append-nil, take_all}
 use Rattle.px_session.specs.Sessions.{Edit, of_atoms, of_rooms}

@@ -1,4 +1,3 @@
--- What the loops of `edits_of` in src/commands.rt keep true.
 use Rattle.std.proofs.Common.{◌≡◌, ◌++◌, map, take}
 use Rattle.px_session.specs.Sessions.{of_atoms, of_rooms}
 use Rattle.px_session.proofs.commands.edits_of.Given as goal

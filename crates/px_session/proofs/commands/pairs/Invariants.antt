@@ -1,4 +1,3 @@
--- What the loops of `pairs` in src/commands.rt keep true.
 use Rattle.std.proofs.Common.{◌≡◌, take}
 use Rattle.px_session.proofs.commands.pairs.Given as goal
 

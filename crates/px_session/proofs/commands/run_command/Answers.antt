@@ -1,4 +1,3 @@
--- Proofs of the goals that `run_command` of src/commands.rt leaves open.
 use Rattle.std.specs.Prelude.{List, map, All, Contains}
 use Rattle.std.proofs.Common.{sym, ap, ◌∙◌, subst, arith}
 use Rattle.std.proofs.lemmas.List.{append-nil}

@@ -1,4 +1,3 @@
--- Proofs of the goals that `act_line` of src/duo_lines.rt leaves open.
 use Rattle.std.proofs.Common.{arith}
 use Rattle.px_planex.specs.Execution.{remembered_step}
 use Rattle.px_duo.specs.Duos.{own}

@@ -1,4 +1,3 @@
--- Proofs of the goals that `sense_line` of src/duo_lines.rt leaves open.
 use Rattle.std.proofs.Common.{refl}
 use Rattle.std.specs.Prelude.{None}
 use Rattle.px_planex.specs.declared.event.Outcome.TheVariants as outcome

@@ -1,4 +1,3 @@
--- Proofs of the goals that `take_lines` of src/duo_lines.rt leaves open.
 use Rattle.std.proofs.Common.{List, [], ◌∷◌, ◌+◌, get_or, length, sym, ap, subst, arith}
 use Rattle.std.proofs.lemmas.List.{get_or_default, length-append}
 use Rattle.px_printer.specs.declared.duo_line.DuoLine.{DuoLine}

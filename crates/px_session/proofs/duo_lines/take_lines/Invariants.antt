@@ -1,4 +1,3 @@
--- What the loops of `take_lines` in src/duo_lines.rt keep true.
 use Rattle.std.proofs.Common.{◌≡◌, ◌≤◌, length}
 use Rattle.std.specs.Prelude.{vec_capacity}
 use Rattle.px_session.proofs.DuosUnderway.{AreUnderway}

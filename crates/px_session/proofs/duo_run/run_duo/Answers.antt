@@ -1,4 +1,3 @@
--- Proofs of the goals that `run_duo` of src/duo_run.rt leaves open.
 use Rattle.std.specs.Prelude.{Err, List, Ok, OnErr, Option, Result}
 use Rattle.std.proofs.Common.{sym, ap, subst}
 use Rattle.px_terms.specs.declared.atom.Atom.{Atom}

@@ -1,4 +1,3 @@
--- Proofs of the goals that `answers_are_one` of src/laws.rt leaves open.
 use Rattle.px_session.proofs.OneTranscript.{answers_are_one}
 use Rattle.px_session.proofs.laws.answers_are_one.Goals as goal
 

@@ -1,4 +1,3 @@
--- Proofs of the goals that `causes_in_order` of src/laws.rt leaves open.
 use Rattle.px_session.proofs.InOrder.{causes_in_order}
 use Rattle.px_session.proofs.laws.causes_in_order.Goals as goal
 

@@ -1,4 +1,3 @@
--- Proofs of the goals that `certificates_are_accepted` of src/laws.rt leaves open.
 use Rattle.px_session.proofs.Certifying.{certificates_are_accepted}
 use Rattle.px_session.proofs.laws.certificates_are_accepted.Goals as goal
 

@@ -1,4 +1,3 @@
--- Proofs of the goals that `lawful_is_one` of src/laws.rt leaves open.
 use Rattle.px_session.proofs.OneReply.{lawful_is_one}
 use Rattle.px_session.proofs.laws.lawful_is_one.Goals as goal
 

@@ -1,4 +1,3 @@
--- Proofs of the goals that `refused_replies` of src/laws.rt leaves open.
 use Rattle.px_session.proofs.InOrder.{refused_replies}
 use Rattle.px_session.proofs.laws.refused_replies.Goals as goal
 

@@ -1,4 +1,3 @@
--- Proofs of the goals that `replies_are_named` of src/laws.rt leaves open.
 use Rattle.px_session.proofs.NamedReplies.{replies_are_named}
 use Rattle.px_session.proofs.laws.replies_are_named.Goals as goal
 

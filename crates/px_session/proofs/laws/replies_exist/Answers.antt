@@ -1,4 +1,3 @@
--- Proofs of the goals that `replies_exist` of src/laws.rt leaves open.
 use Rattle.px_session.proofs.ExistingReplies.{replies_exist}
 use Rattle.px_session.proofs.laws.replies_exist.Goals as goal
 

@@ -1,4 +1,3 @@
--- Proofs of the goals that `rooms_are_kept` of src/laws.rt leaves open.
 use Rattle.px_session.proofs.KeptRooms.{rooms_are_kept}
 use Rattle.px_session.proofs.laws.rooms_are_kept.Goals as goal
 

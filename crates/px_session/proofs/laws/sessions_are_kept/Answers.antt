@@ -1,4 +1,3 @@
--- Proofs of the goals that `sessions_are_kept` of src/laws.rt leaves open.
 use Rattle.px_session.proofs.Kept.{sessions_are_kept}
 use Rattle.px_session.proofs.laws.sessions_are_kept.Goals as goal
 

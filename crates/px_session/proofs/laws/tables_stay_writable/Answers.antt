@@ -1,4 +1,3 @@
--- Proofs of the goals that `tables_stay_writable` of src/laws.rt leaves open.
 use Rattle.px_session.proofs.Certifying.{tables_stay_writable}
 use Rattle.px_session.proofs.laws.tables_stay_writable.Goals as goal
 

@@ -1,4 +1,3 @@
--- Proofs of the goals that `told_duos` of src/laws.rt leaves open.
 use Rattle.px_session.proofs.ToldDuos.{told_duos}
 use Rattle.px_session.proofs.laws.told_duos.Goals as goal
 

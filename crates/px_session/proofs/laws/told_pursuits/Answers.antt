@@ -1,4 +1,3 @@
--- Proofs of the goals that `told_pursuits` of src/laws.rt leaves open.
 use Rattle.px_session.proofs.ToldPursuits.{told_pursuits}
 use Rattle.px_session.proofs.laws.told_pursuits.Goals as goal
 

@@ -1,4 +1,3 @@
--- Proofs of the goals that `told_runs` of src/laws.rt leaves open.
 use Rattle.px_session.proofs.ToldRuns.{told_runs}
 use Rattle.px_session.proofs.laws.told_runs.Goals as goal
 

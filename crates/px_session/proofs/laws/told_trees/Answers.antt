@@ -1,4 +1,3 @@
--- Proofs of the goals that `told_trees` of src/laws.rt leaves open.
 use Rattle.px_session.proofs.ToldTrees.{told_trees}
 use Rattle.px_session.proofs.laws.told_trees.Goals as goal
 

@@ -1,4 +1,3 @@
--- Proofs of the goals that `transcripts_are_one` of src/laws.rt leaves open.
 use Rattle.px_session.proofs.OneTranscript.{transcripts_are_one}
 use Rattle.px_session.proofs.laws.transcripts_are_one.Goals as goal
 

@@ -1,4 +1,3 @@
--- Proofs of the goals that `transcripts_exist` of src/laws.rt leaves open.
 use Rattle.px_session.proofs.ExistingReplies.{transcripts_exist}
 use Rattle.px_session.proofs.laws.transcripts_exist.Goals as goal
 

@@ -1,4 +1,3 @@
--- Proofs of the goals that `undisturbed_runs` of src/laws.rt leaves open.
 use Rattle.px_session.proofs.Undisturbed.{undisturbed_runs}
 use Rattle.px_session.proofs.laws.undisturbed_runs.Goals as goal
 

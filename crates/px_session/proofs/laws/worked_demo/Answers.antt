@@ -1,4 +1,3 @@
--- Proofs of the goals that `worked_demo` of src/laws.rt leaves open.
 use Rattle.px_session.proofs.WorkedAnswers.{worked_demo}
 use Rattle.px_session.proofs.laws.worked_demo.Goals as goal
 

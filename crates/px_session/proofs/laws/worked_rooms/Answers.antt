@@ -1,4 +1,3 @@
--- Proofs of the goals that `worked_rooms` of src/laws.rt leaves open.
 use Rattle.px_session.proofs.WorkedRoomRuns.{worked_rooms}
 use Rattle.px_session.proofs.laws.worked_rooms.Goals as goal
 

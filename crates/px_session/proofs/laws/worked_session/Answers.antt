@@ -1,4 +1,3 @@
--- Proofs of the goals that `worked_session` of src/laws.rt leaves open.
 use Rattle.px_session.proofs.WorkedAnswers.{worked_session}
 use Rattle.px_session.proofs.laws.worked_session.Goals as goal
 

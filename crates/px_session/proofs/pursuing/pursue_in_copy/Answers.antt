@@ -1,4 +1,3 @@
--- Proofs of the goals that `pursue_in_copy` of src/pursuing.rt leaves open.
 use Rattle.std.specs.Prelude.{List, Option, map}
 use Rattle.std.proofs.Common.{sym, ◌∙◌, subst}
 use Rattle.px_terms.specs.declared.atom.Atom.{Atom}

@@ -1,4 +1,3 @@
--- Proofs of the goals that `library_of` of src/state.rt leaves open.
 use Rattle.std.specs.Prelude.{Contains}
 use Rattle.std.proofs.Common.{refl, sym, ap, ◌∙◌, subst}
 use Rattle.px_library.specs.Libraries.{LibraryValue, with_table}

@@ -1,4 +1,3 @@
--- Proofs of the goals that `goal_place` of src/line_variables.rt leaves open.
 use Rattle.px_so_far.proofs.Common.{◌∙◌, ap, bytes_eq}
 use Rattle.std.specs.Prelude.{position}
 use Rattle.px_so_far.proofs.TableVariables.{goal-names-are, goal-place}

@@ -1,4 +1,3 @@
--- Proofs of the goals that `number_of_table` of src/line_variables.rt leaves open.
 use Rattle.px_so_far.proofs.TableVariables.{a-parameter, of-goal, of-none}
 use Rattle.px_so_far.proofs.line_variables.number_of_table.Goals as goal
 

@@ -1,4 +1,3 @@
--- Proofs of the goals that `parameter_place` of src/line_variables.rt leaves open.
 use Rattle.px_so_far.proofs.Common.{◌≡◌, ◌∙◌, sym, arith, lit<, both_answers}
 use Rattle.std.proofs.lemmas.Str.Pattern.{starts_char, strip_prefix_char}
 use Rattle.px_so_far.proofs.TableVariables.{no-letter, no-digit, no-number, a-number}

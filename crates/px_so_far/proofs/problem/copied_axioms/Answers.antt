@@ -1,4 +1,3 @@
--- Proofs of the goals that `copied_axioms` of src/problem.rt leaves open.
 use Rattle.px_so_far.proofs.Common.{◌≡◌, ◌<◌, ◌++◌, ◌∷◌, [], ◌∙◌, ap, arith, get_or, length, sym, subst, take, take_more, Err, ArePlainBelow}
 use Rattle.px_terms.specs.Clauses.{HasClauseLength}
 use Rattle.px_terms.specs.declared.clause.Clause.{Clause}

@@ -1,4 +1,3 @@
--- Proofs of the goals that `add_height` of src/proof_heights.rt leaves open.
 use Rattle.px_so_far.proofs.Common.{◌<◌, arith}
 use Rattle.std.specs.Prelude.{◌^◌}
 use Rattle.px_so_far.proofs.ProofHeights.{top-below}

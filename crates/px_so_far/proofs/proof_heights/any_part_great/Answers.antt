@@ -1,4 +1,3 @@
--- Proofs of the goals that `any_part_great` of src/proof_heights.rt leaves open.
 use Rattle.px_so_far.proofs.Common.{◌∙◌}
 use Rattle.px_so_far.proofs.ProofHeights.{great-parts}
 use Rattle.px_so_far.proofs.proof_heights.any_part_great.Goals as goal

@@ -1,4 +1,3 @@
--- Proofs of the goals that `heights` of src/proof_heights.rt leaves open.
 use Rattle.std.proofs.Common.{rules}
 use Rattle.std.specs.Prelude.{◌^◌}
 use Rattle.px_so_far.proofs.Common.{◌-◌, ◌<◌, arith, drop, length, length-drop}

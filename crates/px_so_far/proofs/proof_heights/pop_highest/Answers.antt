@@ -1,4 +1,3 @@
--- Proofs of the goals that `pop_highest` of src/proof_heights.rt leaves open.
 use Rattle.std.proofs.Common.{rules, ◌≡◌, length}
 use Rattle.px_so_far.proofs.Common.{◌∙◌}
 use Rattle.px_so_far.proofs.ProofHeights.{popped-some, popped-none}

@@ -1,4 +1,3 @@
--- Proofs of the goals that `take_last` of src/rows.rt leaves open.
 use Rattle.px_so_far.proofs.Common.{◌≡◌, ◌-◌, ◌∙◌, ap, arith, common_steps, drop, length, take}
 use Rattle.px_so_far.proofs.ProofHeights.{last-taken}
 use Rattle.px_so_far.proofs.rows.take_last.Goals as goal

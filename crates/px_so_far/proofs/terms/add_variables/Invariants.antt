@@ -1,4 +1,3 @@
--- What the loops of `add_variables` in src/terms.rt keep true.
 use Rattle.px_so_far.proofs.Common.{◌≡◌, map, take, fold, with_variable, argument_view, text_of}
 use Rattle.px_so_far.proofs.terms.add_variables.Given as goal
 

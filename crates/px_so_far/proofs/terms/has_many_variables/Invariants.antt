@@ -1,4 +1,3 @@
--- What the loops of `has_many_variables` in src/terms.rt keep true.
 use Rattle.px_so_far.proofs.Common.{◌≡◌, [], map, take, fold, with_variable, signed_view, text_of}
 use Rattle.px_so_far.proofs.AtomTests.{arguments}
 use Rattle.px_so_far.proofs.terms.has_many_variables.Given as goal

@@ -1,4 +1,3 @@
--- What the loops of `variables` in src/terms.rt keep true.
 use Rattle.px_so_far.proofs.Common.{◌≡◌, [], map, take, fold, with_variable, signed_view, text_of}
 use Rattle.px_so_far.proofs.AtomTests.{arguments}
 use Rattle.px_so_far.proofs.terms.variables.Given as goal

@@ -1,4 +1,3 @@
--- Proofs of the goals that `timed` of src/statements.rt leaves open.
 use Rattle.px_statements.proofs.Common.{◌∙◌}
 use Rattle.px_statements.proofs.Times.{same-time}
 use Rattle.px_statements.proofs.statements.timed.Goals as goal

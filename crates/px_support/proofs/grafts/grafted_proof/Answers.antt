@@ -1,4 +1,3 @@
--- Proofs of the goals that `grafted_proof` of src/grafts.rt leaves open.
 use Rattle.std.proofs.Common.{◌≡◌, ◌∙◌, List, ap, length, map, rules, sym, subst}
 use Rattle.std.proofs.lemmas.List.Elements.{filter_from_retain}
 use Rattle.std.specs.Prelude.{◌==◌, All, Contains, IfOk}

@@ -1,4 +1,3 @@
--- Proofs of the goals that `grafted_row` of src/grafts.rt leaves open.
 use Rattle.std.proofs.Common.{List, [], ◌∷◌, map, ap, ◌∙◌, subst, sym}
 use Rattle.std.proofs.lemmas.List.{map-append, take_all}
 use Rattle.std.specs.List.{AllZip}

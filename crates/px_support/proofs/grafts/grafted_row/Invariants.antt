@@ -1,4 +1,3 @@
--- What the loops of `grafted_row` in src/grafts.rt keep true.
 use Rattle.std.specs.List.{AllZip}
 use Rattle.std.specs.Prelude.{map, take}
 use Rattle.px_proof.specs.ProofTerm.{derivation_of}

@@ -1,4 +1,3 @@
--- Proofs of the goals that `learned_row` of src/grafts.rt leaves open.
 use Rattle.std.proofs.Common.{map, refl}
 use Rattle.px_proof.specs.ProofTerm.{derivation_of}
 use Rattle.px_proof.specs.Substitution.{derivation_under}

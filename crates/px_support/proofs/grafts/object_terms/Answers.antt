@@ -1,4 +1,3 @@
--- Proofs of the goals that `object_terms` of src/grafts.rt leaves open.
 use Rattle.std.proofs.Common.{List, [], ◌++◌, ◌∷◌, map, sym, ap, ◌∙◌}
 use Rattle.std.proofs.lemmas.List.{take_all}
 use Rattle.px_terms.specs.declared.term.Term.{Term}

@@ -1,4 +1,3 @@
--- What the loops of `object_terms` in src/grafts.rt keep true.
 use Rattle.std.specs.Prelude.{◌≡◌, map, take}
 use Rattle.px_terms.specs.declared.term.Term.TheVariants.{Obj}
 use Rattle.px_support.proofs.grafts.object_terms.Given as goal

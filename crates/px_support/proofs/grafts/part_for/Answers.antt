@@ -1,4 +1,3 @@
--- Proofs of the goals that `part_for` of src/grafts.rt leaves open.
 use Rattle.px_support.proofs.GraftSteps.{if_part, part-first, part-within}
 use Rattle.px_support.proofs.grafts.part_for.Goals as goal
 

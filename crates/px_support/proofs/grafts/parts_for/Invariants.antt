@@ -1,4 +1,3 @@
--- What the loops of `parts_for` in src/grafts.rt keep true.
 use Rattle.std.specs.Prelude.{map, take}
 use Rattle.px_proof.specs.ProofTerm.{derivation_of}
 use Rattle.px_support.specs.Grafted.{AreParts}

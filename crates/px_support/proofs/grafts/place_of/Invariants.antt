@@ -1,4 +1,3 @@
--- What the loops of `place_of` in src/grafts.rt keep true.
 use Rattle.px_support.proofs.GraftSteps.{NotBefore}
 use Rattle.px_support.proofs.grafts.place_of.Given as goal
 

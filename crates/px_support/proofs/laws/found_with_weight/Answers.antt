@@ -1,4 +1,3 @@
--- Proofs of the goals that `found_with_weight` of src/laws.rt leaves open.
 use Rattle.px_support.proofs.FoundByValue.{found_with_weight}
 use Rattle.px_support.proofs.laws.found_with_weight.Goals as goal
 

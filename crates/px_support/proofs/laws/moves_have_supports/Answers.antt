@@ -1,4 +1,3 @@
--- Proofs of the goals that `moves_have_supports` of src/laws.rt leaves open.
 use Rattle.px_support.proofs.Supporting.{moves_support}
 use Rattle.px_support.proofs.laws.moves_have_supports.Goals as goal
 

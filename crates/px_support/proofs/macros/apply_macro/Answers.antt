@@ -1,4 +1,3 @@
--- Proofs of the goals that `apply_macro` of src/macros.rt leaves open.
 use Rattle.std.proofs.Common.{◌∙◌, arith, get_or, refl, sym}
 use Rattle.std.proofs.lemmas.Option.{slice_get_within}
 use Rattle.std.specs.Prelude.{All}

@@ -1,4 +1,3 @@
--- Proofs of the goals that `proofs_at` of src/macros.rt leaves open.
 use Rattle.std.proofs.Common.{◌∙◌, ap, length, refl, sym}
 use Rattle.std.specs.Prelude.{Some}
 use Rattle.std.proofs.lemmas.Option.{slice_get_read}

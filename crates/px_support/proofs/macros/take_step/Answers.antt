@@ -1,4 +1,3 @@
--- Proofs of the goals that `take_step` of src/macros.rt leaves open.
 use Rattle.std.proofs.Common.{◌∙◌, ◌≤◌, ◌+◌, List, length, arith, refl, sym, subst}
 use Rattle.std.specs.Prelude.{All}
 use Rattle.px_base.specs.Bounds.{u32_max}

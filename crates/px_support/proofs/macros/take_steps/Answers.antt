@@ -1,4 +1,3 @@
--- Proofs of the goals that `take_steps` of src/macros.rt leaves open.
 use Rattle.std.proofs.Common.{arith, refl}
 use Rattle.px_support.proofs.MacroGoing.{next-findable, within-all, within-next, within-none}
 use Rattle.px_support.proofs.macros.take_steps.Goals as goal

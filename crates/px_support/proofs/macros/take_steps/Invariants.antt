@@ -1,4 +1,3 @@
--- What the loops of `take_steps` in src/macros.rt keep true.
 use Rattle.px_support.proofs.MacroGoing.{IsWithin}
 use Rattle.px_support.proofs.macros.take_steps.Given as goal
 

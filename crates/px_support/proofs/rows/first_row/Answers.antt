@@ -1,4 +1,3 @@
--- Proofs of the goals that `first_row` of src/rows.rt leaves open.
 use Rattle.std.proofs.Common.{List, map, refl, sym, subst}
 use Rattle.std.specs.Prelude.{All}
 use Rattle.px_proof.specs.declared.proof.Proof.{Proof}

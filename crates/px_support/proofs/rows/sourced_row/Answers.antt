@@ -1,4 +1,3 @@
--- Proofs of the goals that `sourced_row` of src/rows.rt leaves open.
 use Rattle.std.proofs.Common.{List, map, sym, subst}
 use Rattle.std.proofs.lemmas.List.{take_all}
 use Rattle.std.specs.List.{AllZip}

@@ -1,4 +1,3 @@
--- What the loops of `sourced_row` in src/rows.rt keep true.
 use Rattle.std.specs.Prelude.{map, take}
 use Rattle.std.specs.List.{AllZip}
 use Rattle.px_proof.specs.ProofTerm.{derivation_of}

@@ -1,4 +1,3 @@
--- Proofs of the goals that `first_place` of src/sources.rt leaves open.
 use Rattle.std.proofs.Common.{◌≤◌, sym, ◌∙◌, subst}
 use Rattle.px_support.proofs.SourceLaws.{first-here, first-later, first-none}
 use Rattle.px_support.proofs.sources.first_place.Goals as goal

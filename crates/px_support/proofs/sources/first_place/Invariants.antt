@@ -1,4 +1,3 @@
--- What the loops of `first_place` in src/sources.rt keep true.
 use Rattle.px_support.proofs.SourceLaws.{NotAmongFirst}
 use Rattle.px_support.proofs.sources.first_place.Given as goal
 

@@ -1,4 +1,3 @@
--- Proofs of the goals that `source_each` of src/sources.rt leaves open.
 use Rattle.px_support.proofs.SourceLaws.{sources-next}
 use Rattle.px_support.proofs.sources.source_each.Goals as goal
 

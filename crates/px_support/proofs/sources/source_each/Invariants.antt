@@ -1,4 +1,3 @@
--- What the loops of `source_each` in src/sources.rt keep true.
 use Rattle.std.specs.Prelude.{map, take}
 use Rattle.px_proof.specs.ProofTerm.{derivation_of}
 use Rattle.px_support.specs.Sources.{AreSources}

@@ -1,4 +1,3 @@
--- What the loops of `source_of` in src/sources.rt keep true.
 use Rattle.px_support.proofs.SourceLaws.{NotAddedByLast}
 use Rattle.px_support.proofs.sources.source_of.Given as goal
 

@@ -1,4 +1,3 @@
--- Proofs of the goals that `sourced` of src/sources.rt leaves open.
 use Rattle.std.proofs.Common.{◌≤◌, ◌+◌, ◌∙◌, List, map, sym, subst}
 use Rattle.px_base.specs.Bounds.{u32_max}
 use Rattle.px_proof.specs.declared.proof.Leaf.{Leaf}

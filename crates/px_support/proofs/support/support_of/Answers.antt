@@ -1,4 +1,3 @@
--- Proofs of the goals that `support_of` of src/support.rt leaves open.
 use Rattle.std.proofs.Common.{arith}
 use Rattle.px_support.specs.Asking.{task_for}
 use Rattle.px_support.proofs.Supported.{if_carries, if_fitting, if_instances, if_of_problem, if_supports}

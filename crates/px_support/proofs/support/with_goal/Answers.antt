@@ -1,4 +1,3 @@
--- Proofs of the goals that `with_goal` of src/support.rt leaves open.
 use Rattle.std.proofs.Common.{[], List, map, refl, sym, subst}
 use Rattle.std.specs.Prelude.{All}
 use Rattle.px_terms.specs.Validity.{IsGroundInstanceOf}

@@ -1,4 +1,3 @@
--- Proofs of the goals that `apply_entry` of src/walk.rt leaves open.
 use Rattle.std.proofs.Common.{ℕ, List, sym, subst}
 use Rattle.std.specs.Prelude.{All, IfOk}
 use Rattle.px_table.specs.declared.entry.Entry.{Entry}

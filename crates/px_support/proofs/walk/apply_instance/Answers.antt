@@ -1,4 +1,3 @@
--- Proofs of the goals that `apply_instance` of src/walk.rt leaves open.
 use Rattle.std.proofs.Common.{◌∙◌, List, map, refl, sym, subst}
 use Rattle.std.specs.Prelude.{All}
 use Rattle.px_terms.specs.declared.atom.Atom.{Atom}

@@ -1,4 +1,3 @@
--- Proofs of the goals that `apply_top` of src/walk.rt leaves open.
 use Rattle.std.proofs.Common.{◌≡◌, length, reverse, rules, refl, ap}
 use Rattle.px_support.specs.Asking.{task_for}
 use Rattle.px_support.proofs.GoingLaws.{if_taken_top, no_items, top-entry, top-findable, top-is}

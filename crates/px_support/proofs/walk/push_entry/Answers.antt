@@ -1,4 +1,3 @@
--- Proofs of the goals that `push_entry` of src/walk.rt leaves open.
 use Rattle.std.proofs.Common.{◌∙◌, ◌++◌, ◌∷◌, [], refl, ap}
 use Rattle.px_table.specs.declared.entry.Entry.{Entry}
 use Rattle.px_support.specs.Asking.{task_for}

@@ -1,4 +1,3 @@
--- Proofs of the goals that `take` of src/walk.rt leaves open.
 use Rattle.std.proofs.Common.{sym, subst}
 use Rattle.std.specs.Prelude.{IfOk}
 use Rattle.px_table.specs.declared.entry.Move.{Move}

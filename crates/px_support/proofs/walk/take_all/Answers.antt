@@ -1,4 +1,3 @@
--- Proofs of the goals that `take_all` of src/walk.rt leaves open.
 use Rattle.std.proofs.Common.{◌∙◌, reverse, arith}
 use Rattle.px_support.specs.Asking.{task_for}
 use Rattle.px_support.proofs.GoingLaws.{going-all, going-next, going-none, next-short, next-takeable}

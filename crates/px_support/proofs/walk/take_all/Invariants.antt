@@ -1,4 +1,3 @@
--- What the loops of `take_all` in src/walk.rt keep true.
 use Rattle.px_support.specs.Asking.{task_for}
 use Rattle.px_support.proofs.GoingLaws.{IsGoing}
 use Rattle.px_support.proofs.walk.take_all.Given as goal

@@ -1,4 +1,3 @@
--- What the loops of `append` in src/building.rt keep true.
 use Rattle.std.proofs.Common.{◌≡◌, ◌++◌}
 use Rattle.px_table.proofs.building.append.Given as goal
 

@@ -1,4 +1,3 @@
--- Proofs of the goals that `build` of src/building.rt leaves open.
 use Rattle.std.proofs.Common.{length, map, ap, ◌∙◌, arith}
 use Rattle.std.proofs.lemmas.List.{length-map}
 use Rattle.px_terms.specs.Language.{IsObject}

@@ -1,4 +1,3 @@
--- Proofs of the goals that `marks` of src/building.rt leaves open.
 use Rattle.std.proofs.Common.{◌+◌, ◌++◌, map, ap, ◌∙◌}
 use Rattle.std.specs.Prelude.{List}
 use Rattle.px_proof.specs.declared.proof.Proof.{Proof}

@@ -1,4 +1,3 @@
--- What the loops of `marks` in src/building.rt keep true.
 use Rattle.std.proofs.Common.{◌≡◌, take}
 use Rattle.px_table.specs.Marks.{marks_from}
 use Rattle.px_table.specs.Tables.{rows_of}

@@ -1,4 +1,3 @@
--- Proofs of the goals that `marks_of_row` of src/building.rt leaves open.
 use Rattle.std.proofs.Common.{[], map, ap, ◌∙◌}
 use Rattle.px_proof.specs.declared.proof.Proof.{Proof}
 use Rattle.std.specs.Prelude.{List}

@@ -1,4 +1,3 @@
--- What the loops of `marks_of_row` in src/building.rt keep true.
 use Rattle.std.proofs.Common.{◌≡◌, [], map, take}
 use Rattle.px_proof.specs.ProofTerm.{derivation_of}
 use Rattle.px_table.specs.Marks.{mark_eq, mark_of, row_leaves}

@@ -1,4 +1,3 @@
--- Proofs of the goals that `atom_at` of src/conclusions.rt leaves open.
 use Rattle.std.proofs.Common.{ap, ◌∙◌, arith, Some}
 use Rattle.px_table.proofs.Layers.{no_clause, plain_lits, plain_variable, concluded}
 use Rattle.px_table.proofs.conclusions.atom_at.Goals as goal

@@ -1,4 +1,3 @@
--- Proofs of the goals that `conclusion` of src/conclusions.rt leaves open.
 use Rattle.std.proofs.Common.{[], ap, ◌∙◌, subst}
 use Rattle.px_proof.specs.Derivation.{Derivation, leaves_of, leaf_atoms}
 use Rattle.px_proof.specs.Literals.{positive_of}

@@ -1,4 +1,3 @@
--- Proofs of the goals that `each_proves_some` of src/conclusions.rt leaves open.
 use Rattle.std.proofs.Common.{refl}
 use Rattle.px_base.proofs.Loops.{all_before_next, all_whole, not_all, said_no, said_yes}
 use Rattle.px_table.specs.Conclusions.{ProvesSome}

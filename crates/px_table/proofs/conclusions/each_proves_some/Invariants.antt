@@ -1,4 +1,3 @@
--- What the loops of `each_proves_some` in src/conclusions.rt keep true.
 use Rattle.std.proofs.Common.{ℕ, ◌<◌, get_or}
 use Rattle.px_proof.specs.declared.proof.Proof.{Proof}
 use Rattle.px_table.specs.Conclusions.{ProvesSome}

@@ -1,4 +1,3 @@
--- Proofs of the goals that `proves_some` of src/conclusions.rt leaves open.
 use Rattle.std.proofs.Common.{◌≡◌, sym, ◌∙◌, subst}
 use Rattle.px_terms.specs.declared.atom.Atom.{Atom}
 use Rattle.px_proof.specs.Literals.{positive_of}

@@ -1,4 +1,3 @@
--- Proofs of the goals that `choice` of src/goal_row.rt leaves open.
 use Rattle.std.proofs.Common.{◌≡◌, ◌+◌, drop, get_or, sym, ap, ◌∙◌, arith, Some, None}
 use Rattle.std.specs.Prelude.{Option}
 use Rattle.std.proofs.lemmas.Slice.Zip.{AllZip-long}

@@ -1,4 +1,3 @@
--- What the loops of `choice` in src/goal_row.rt keep true.
 use Rattle.std.proofs.Common.{◌≡◌, List, drop}
 use Rattle.px_terms.specs.declared.atom.Atom.{Atom}
 use Rattle.px_table.specs.Choices.{choice_of}

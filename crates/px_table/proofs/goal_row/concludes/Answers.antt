@@ -1,4 +1,3 @@
--- Proofs of the goals that `concludes` of src/goal_row.rt leaves open.
 use Rattle.std.proofs.Common.{◌≡◌, sym, ap, ◌∙◌}
 use borrow.Author.Tests.{eqb-true}
 use Rattle.px_terms.specs.declared.atom.Atom.{Atom}

@@ -1,4 +1,3 @@
--- Proofs of the goals that `first_beside` of src/goal_row.rt leaves open.
 use Rattle.std.proofs.Common.{sym, ◌∙◌}
 use Rattle.px_table.proofs.Choosing.{beside_end}
 use Rattle.px_table.proofs.goal_row.first_beside.Goals as goal

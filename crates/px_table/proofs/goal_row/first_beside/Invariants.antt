@@ -1,4 +1,3 @@
--- What the loops of `first_beside` in src/goal_row.rt keep true.
 use Rattle.std.proofs.Common.{◌≡◌, drop}
 use Rattle.px_table.specs.Choices.{term_beside}
 use Rattle.px_table.proofs.goal_row.first_beside.Given as goal

@@ -1,4 +1,3 @@
--- Proofs of the goals that `goal_is_proved` of src/goal_row.rt leaves open.
 use Rattle.std.proofs.Common.{◌++◌, map, sym, subst}
 use Rattle.std.specs.Prelude.{List}
 use Rattle.px_terms.specs.declared.atom.Atom.{Atom}

@@ -1,4 +1,3 @@
--- Proofs of the goals that `row_concludes` of src/goal_row.rt leaves open.
 use Rattle.std.proofs.Common.{◌<◌, length, get_or, refl, sym, ap, ◌∙◌, arith}
 use Rattle.std.proofs.lemmas.List.{length-map}
 use Rattle.std.proofs.lemmas.Slice.Zip.{AllZip-long}

@@ -1,4 +1,3 @@
--- What the loops of `row_concludes` in src/goal_row.rt keep true.
 use Rattle.std.proofs.Common.{◌≡◌, List, map, take}
 use Rattle.px_terms.specs.declared.atom.Atom.{Atom}
 use Rattle.px_table.specs.Choices.{atom_by}

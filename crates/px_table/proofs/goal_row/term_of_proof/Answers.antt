@@ -1,4 +1,3 @@
--- Proofs of the goals that `term_of_proof` of src/goal_row.rt leaves open.
 use Rattle.std.proofs.Common.{◌≡◌, sym, ap, ◌∙◌}
 use Rattle.std.specs.Prelude.{List}
 use Rattle.px_terms.specs.declared.atom.Atom.{Atom}

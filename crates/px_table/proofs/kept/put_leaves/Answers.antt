@@ -1,4 +1,3 @@
--- Proofs of the goals that `put_leaves` of src/kept.rt leaves open.
 use Rattle.std.proofs.Common.{map, take, sym, ap, ◌∙◌}
 use Rattle.px_table.specs.Marks.{mark_eq, mark_of}
 use Rattle.px_table.specs.Once.{put_each, put_once}

@@ -1,4 +1,3 @@
--- What the loops of `put_leaves` in src/kept.rt keep true.
 use Rattle.std.proofs.Common.{◌≡◌, map, take}
 use Rattle.px_table.specs.Marks.{mark_eq, mark_of}
 use Rattle.px_table.specs.Once.{put_each}

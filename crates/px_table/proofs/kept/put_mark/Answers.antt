@@ -1,4 +1,3 @@
--- Proofs of the goals that `put_mark` of src/kept.rt leaves open.
 use Rattle.std.proofs.Common.{◌∙◌}
 use Rattle.px_table.proofs.KernelSteps.{insert_key-put_once}
 use Rattle.px_table.proofs.kept.put_mark.Goals as goal

@@ -1,4 +1,3 @@
--- Proofs of the goals that `kernel` of src/kernel_atoms.rt leaves open.
 use Rattle.std.proofs.Common.{◌≡◌, ◌<◌, length, get_or, cond, ◌&&◌, sym, ap, ◌∙◌}
 use Rattle.std.specs.Prelude.{nat_le, nat_lt, List}
 use Rattle.px_terms.specs.declared.atom.Atom.{Atom}

@@ -1,4 +1,3 @@
--- What the loops of `kernel` in src/kernel_atoms.rt keep true.
 use Rattle.std.proofs.Common.{◌≡◌, take}
 use Rattle.px_table.specs.Kernels.{kernel_of}
 use Rattle.px_table.proofs.kernel_atoms.kernel.Given as goal

@@ -1,4 +1,3 @@
--- Proofs of the goals that `entries_are_ordered` of src/laws.rt leaves open.
 use Rattle.px_table.specs.EntryLaws.{entries_are_ordered}
 use Rattle.px_table.proofs.laws.entries_are_ordered.Goals as goal
 

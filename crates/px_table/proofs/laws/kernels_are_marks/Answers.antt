@@ -1,4 +1,3 @@
--- Proofs of the goals that `kernels_are_marks` of src/laws.rt leaves open.
 use Rattle.px_table.specs.KernelLaws.{kernels_are_marks}
 use Rattle.px_table.proofs.laws.kernels_are_marks.Goals as goal
 

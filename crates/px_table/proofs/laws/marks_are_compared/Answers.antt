@@ -1,4 +1,3 @@
--- Proofs of the goals that `marks_are_compared` of src/laws.rt leaves open.
 use Rattle.px_table.specs.MarkLaws.{marks_are_compared}
 use Rattle.px_table.proofs.laws.marks_are_compared.Goals as goal
 

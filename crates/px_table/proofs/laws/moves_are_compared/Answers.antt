@@ -1,4 +1,3 @@
--- Proofs of the goals that `moves_are_compared` of src/laws.rt leaves open.
 use Rattle.px_table.specs.EntryLaws.{moves_are_compared}
 use Rattle.px_table.proofs.laws.moves_are_compared.Goals as goal
 

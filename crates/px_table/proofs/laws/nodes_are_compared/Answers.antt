@@ -1,4 +1,3 @@
--- Proofs of the goals that `nodes_are_compared` of src/laws.rt leaves open.
 use Rattle.px_table.specs.NodeLaws.{node_eq-decides}
 use Rattle.px_table.proofs.laws.nodes_are_compared.Goals as goal
 

@@ -1,4 +1,3 @@
--- Proofs of the goals that `rows_meet_preconditions` of src/laws.rt leaves open.
 use Rattle.px_table.specs.KernelLaws.{rows_meet_preconditions}
 use Rattle.px_table.proofs.laws.rows_meet_preconditions.Goals as goal
 

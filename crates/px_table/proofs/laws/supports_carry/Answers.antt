@@ -1,4 +1,3 @@
--- Proofs of the goals that `supports_carry` of src/laws.rt leaves open.
 use Rattle.px_table.specs.SupportClaimLaws.{supports_carry}
 use Rattle.px_table.proofs.laws.supports_carry.Goals as goal
 

@@ -1,4 +1,3 @@
--- Proofs of the goals that `supports_refuse` of src/laws.rt leaves open.
 use Rattle.px_table.specs.SupportClaimLaws.{supports_refuse}
 use Rattle.px_table.proofs.laws.supports_refuse.Goals as goal
 

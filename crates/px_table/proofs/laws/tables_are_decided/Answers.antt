@@ -1,4 +1,3 @@
--- Proofs of the goals that `tables_are_decided` of src/laws.rt leaves open.
 use Rattle.px_table.proofs.DecidingLaws.{tables_are_decided}
 use Rattle.px_table.proofs.laws.tables_are_decided.Goals as goal
 

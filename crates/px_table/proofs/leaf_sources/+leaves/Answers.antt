@@ -1,4 +1,3 @@
--- Proofs of the goals that `leaves` of src/leaf_sources.rt leaves open.
 use Rattle.std.proofs.Common.{ap, ◌∙◌, sym, subst}
 use Rattle.std.specs.Prelude.{◌↔◌, All, IsTrue}
 use Rattle.px_terms.specs.Validity.{IsAtomOf}

@@ -1,4 +1,3 @@
--- What the loops of `leaves` in src/leaf_sources.rt keep true.
 use Rattle.std.proofs.Common.{◌↔◌, map, drop}
 use Rattle.std.specs.Prelude.{All}
 use Rattle.px_terms.specs.Validity.{IsAtomOf}

@@ -1,4 +1,3 @@
--- Proofs of the goals that `adds_mark` of src/leaf_sources.rt leaves open.
 use Rattle.std.proofs.Common.{◌≡◌, length, slice_get, Some, sym, ap, ◌∙◌, arith}
 use Rattle.std.proofs.lemmas.List.{length-map}
 use borrow.Author.Tests.{ltb-true}

@@ -1,4 +1,3 @@
--- Proofs of the goals that `leaves_are_named` of src/leaf_sources.rt leaves open.
 use Rattle.std.proofs.Common.{add-one}
 use Rattle.px_terms.specs.Validity.{IsAtomOf}
 use Rattle.px_table.specs.declared.mark.Mark.{Mark}

@@ -1,4 +1,3 @@
--- What the loops of `leaves_are_named` in src/leaf_sources.rt keep true.
 use Rattle.std.proofs.Common.{◌↔◌, suc, drop}
 use Rattle.std.specs.Prelude.{All}
 use Rattle.px_terms.specs.Validity.{IsAtomOf}

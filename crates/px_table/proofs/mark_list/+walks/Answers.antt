@@ -1,4 +1,3 @@
--- Proofs of the goals that `walks` of src/mark_list.rt leaves open.
 use Rattle.std.proofs.Common.{map, take, sym, ap, ◌∙◌, subst}
 use Rattle.px_proof.specs.Derivation.{Derivation, leaves_of}
 use Rattle.px_proof.specs.ProofTerm.{derivation_of}

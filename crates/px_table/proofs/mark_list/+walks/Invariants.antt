@@ -1,4 +1,3 @@
--- What the loops of `walks` in src/mark_list.rt keep true.
 use Rattle.std.proofs.Common.{◌≡◌, ◌≤◌, length, map, take}
 use Rattle.px_proof.specs.Derivation.{derivations, all_leaves_of}
 use Rattle.px_proof.specs.ProofTerm.{derivation_of}

@@ -1,4 +1,3 @@
--- Proofs of the goals that `after_leaf` of src/mark_list.rt leaves open.
 use Rattle.std.proofs.Common.{◌≡◌, false, take, sym, ◌∙◌}
 use Rattle.std.specs.List.{list_any}
 use Rattle.px_table.specs.Marks.{mark_eq, mark_of}

@@ -1,4 +1,3 @@
--- Proofs of the goals that `after_row` of src/mark_list.rt leaves open.
 use Rattle.std.proofs.Common.{[], map, ap, ◌∙◌, subst}
 use Rattle.std.specs.Prelude.{List}
 use Rattle.px_proof.specs.declared.proof.Leaf.{Leaf}

@@ -1,4 +1,3 @@
--- Proofs of the goals that `marks_are_leaves` of src/mark_list.rt leaves open.
 use Rattle.std.proofs.Common.{◌≡◌, ℕ, suc, ◌-◌, ◌<◌, ◌≤◌, length, map, take, drop, get_or, sym, ap, ◌∙◌, arith, add-one, length-drop, Some, None, eq-eqb}
 use Rattle.std.specs.Prelude.{List}
 use Rattle.std.proofs.lemmas.List.{drop-drop, drop_all, get_or-map, length-map, take_all}

@@ -1,4 +1,3 @@
--- What the loops of `marks_are_leaves` in src/mark_list.rt keep true.
 use Rattle.std.proofs.Common.{◌≡◌, ◌↔◌, ◌≤◌, suc, length, drop}
 use Rattle.px_table.specs.Marks.{marks_from}
 use Rattle.px_table.specs.Tables.{rows_of}

@@ -1,4 +1,3 @@
--- What the loops of `copy_entries` in src/node.rt keep true.
 use Rattle.std.proofs.Common.{◌≡◌, take}
 use Rattle.px_table.proofs.node.copy_entries.Given as goal
 

@@ -1,4 +1,3 @@
--- Proofs of the goals that `are_allowed` of src/prefix.rt leaves open.
 use Rattle.std.specs.Prelude.{slice_index}
 use Rattle.px_table.specs.Prefixes.{IsAllowedNumber}
 use Rattle.px_table.proofs.PrefixSteps.{each_next}

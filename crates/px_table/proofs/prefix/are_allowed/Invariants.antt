@@ -1,4 +1,3 @@
--- What the loops of `are_allowed` in src/prefix.rt keep true.
 use Rattle.std.proofs.Common.{ℕ, ◌<◌, slice_index}
 use Rattle.px_table.specs.Prefixes.{IsAllowedNumber}
 use Rattle.px_table.proofs.prefix.are_allowed.Given as goal

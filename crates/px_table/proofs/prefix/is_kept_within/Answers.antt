@@ -1,4 +1,3 @@
--- Proofs of the goals that `is_kept_within` of src/prefix.rt leaves open.
 use Rattle.std.proofs.Common.{arith}
 use Rattle.px_table.proofs.prefix.is_kept_within.Goals as goal
 

@@ -1,4 +1,3 @@
--- Proofs of the goals that `is_used` of src/prefix.rt leaves open.
 use Rattle.std.proofs.Common.{◌≡◌, ◌≤◌, List, take, ap, ◌∙◌, subst}
 use Rattle.std.specs.Prelude.{◌↔◌, Any, Contains, IsTrue}
 use Rattle.std.proofs.lemmas.List.{take_min}

@@ -1,4 +1,3 @@
--- What the loops of `proper_prefix` in src/prefix.rt keep true.
 use Rattle.std.proofs.Common.{ℕ, ◌<◌, ◌≤◌, get_or}
 use Rattle.px_table.specs.declared.mark.Mark.{Mark}
 use Rattle.px_table.specs.Kernels.{mark_under, steps_under}

@@ -1,4 +1,3 @@
--- Proofs of the goals that `are_kept` of src/proper_instance.rt leaves open.
 use Rattle.std.proofs.Common.{◌≡◌, ◌<◌, length, get_or}
 use Rattle.px_table.specs.declared.mark.Mark.{Mark}
 use Rattle.px_table.specs.Kernels.{mark_under, steps_under}

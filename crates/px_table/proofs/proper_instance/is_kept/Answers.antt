@@ -1,4 +1,3 @@
--- Proofs of the goals that `is_kept` of src/proper_instance.rt leaves open.
 use Rattle.std.proofs.Common.{◌≡◌, ◌<◌, length, get_or, refl, arith}
 use Rattle.px_table.specs.UnderLaws.{atom_under-is_ground}
 use Rattle.px_table.proofs.KeptSteps.{kept-next, kept-all, kept-fails}

@@ -1,4 +1,3 @@
--- What the loops of `is_kept` in src/proper_instance.rt keep true.
 use Rattle.px_table.proofs.KeptSteps.{KeptBelow}
 use Rattle.px_table.proofs.proper_instance.is_kept.Given as goal
 

@@ -1,4 +1,3 @@
--- Proofs of the goals that `proper` of src/proper_instance.rt leaves open.
 use Rattle.px_table.specs.KernelLaws.{tail_carries}
 use Rattle.px_table.proofs.proper_instance.proper.Goals as goal
 

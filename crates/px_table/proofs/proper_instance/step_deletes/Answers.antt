@@ -1,4 +1,3 @@
--- Proofs of the goals that `step_deletes` of src/proper_instance.rt leaves open.
 use Rattle.px_table.specs.UnderLaws.{step_under-objects}
 use Rattle.px_table.proofs.proper_instance.step_deletes.Goals as goal
 

@@ -1,4 +1,3 @@
--- What the loops of `copy_rows` in src/table.rt keep true.
 use Rattle.std.proofs.Common.{◌≡◌, take}
 use Rattle.px_table.proofs.table.copy_rows.Given as goal
 

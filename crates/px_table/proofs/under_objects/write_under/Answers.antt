@@ -1,4 +1,3 @@
--- Proofs of the goals that `write_under` of src/under_objects.rt leaves open.
 use Rattle.std.proofs.Common.{◌<◌, length, map, arith}
 use Rattle.px_terms.specs.declared.term.Term.TheVariants.{Obj}
 use Rattle.px_terms.specs.Language.{substitute}

@@ -1,4 +1,3 @@
--- What the loops of `write_under` in src/under_objects.rt keep true.
 use Rattle.std.proofs.Common.{◌≡◌, ◌++◌, map, take, drop}
 use Rattle.px_terms.specs.declared.term.Term.TheVariants.{Obj}
 use Rattle.px_terms.specs.Language.{substitute}

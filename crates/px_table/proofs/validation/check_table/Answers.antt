@@ -1,4 +1,3 @@
--- Proofs of the goals that `check_table` of src/validation.rt leaves open.
 use Rattle.std.proofs.Common.{map, arith}
 use Rattle.std.proofs.lemmas.List.{length-map}
 use Rattle.px_proof.specs.ProofTerm.{derivation_of}

@@ -1,4 +1,3 @@
--- Proofs of the goals that `row_proves` of src/validation.rt leaves open.
 use Rattle.std.proofs.Common.{◌≡◌, slice_get, Some, length, map, ap, ◌∙◌, arith}
 use Rattle.std.proofs.lemmas.List.{length-map}
 use Rattle.std.proofs.lemmas.Slice.Zip.{AllZip-long}

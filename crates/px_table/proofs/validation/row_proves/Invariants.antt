@@ -1,4 +1,3 @@
--- What the loops of `row_proves` in src/validation.rt keep true.
 use Rattle.std.proofs.Common.{◌↔◌, map, drop}
 use Rattle.px_terms.specs.Operators.{precondition}
 use Rattle.px_proof.specs.ProofTerm.{derivation_of}

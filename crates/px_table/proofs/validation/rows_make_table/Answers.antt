@@ -1,4 +1,3 @@
--- Proofs of the goals that `rows_make_table` of src/validation.rt leaves open.
 use Rattle.std.proofs.lemmas.Bool.Decides.{same_from_decides}
 use Rattle.px_table.specs.Deciding.{rows_are_table}
 use Rattle.px_table.specs.KernelLaws.{kernels_carry}

@@ -1,4 +1,3 @@
--- Proofs of the goals that `rows_prove` of src/validation.rt leaves open.
 use Rattle.std.proofs.Common.{◌≡◌, suc, ◌<◌, length, map, get_or, arith}
 use Rattle.std.proofs.lemmas.List.{length-map}
 use Rattle.px_proof.specs.ProofTerm.{derivation_of}

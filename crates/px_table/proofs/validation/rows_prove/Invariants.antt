@@ -1,4 +1,3 @@
--- What the loops of `rows_prove` in src/validation.rt keep true.
 use Rattle.std.proofs.Common.{◌↔◌, drop}
 use Rattle.px_proof.specs.Proves.{IsObjectOrParameter}
 use Rattle.px_table.specs.Supports.{RowsProve}

@@ -1,4 +1,3 @@
--- What the loops of `all_fit` in src/well_sorted.rt keep true.
 use Rattle.std.proofs.Common.{ℕ, ◌<◌, get_or}
 use Rattle.px_terms.specs.declared.instance.OpInst.{OpInst}
 use Rattle.px_terms.specs.Sorts.{IsWellSorted}

@@ -1,4 +1,3 @@
--- What the loops of `may_stand` in src/well_sorted.rt keep true.
 use Rattle.std.proofs.Common.{ℕ, ◌<◌}
 use Rattle.std.specs.Prelude.{slice_index, slice_index_or}
 use Rattle.px_terms.specs.Sorts.{IsOfSort}

@@ -1,4 +1,3 @@
--- Proofs of the goals that `sort_by_places` of src/well_sorted.rt leaves open.
 use Rattle.std.proofs.Common.{sym, ap, ◌∙◌, eq-eqb}
 use Rattle.std.proofs.lemmas.List.{drop_all}
 use Rattle.std.specs.Prelude.{List}

@@ -1,4 +1,3 @@
--- What the loops of `sort_by_places` in src/well_sorted.rt keep true.
 use Rattle.std.proofs.Common.{◌≡◌, drop}
 use Rattle.px_table.specs.WellSorted.{first_sort, sort_places}
 use Rattle.px_table.proofs.well_sorted.sort_by_places.Given as goal

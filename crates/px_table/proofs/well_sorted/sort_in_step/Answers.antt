@@ -1,4 +1,3 @@
--- Proofs of the goals that `sort_in_step` of src/well_sorted.rt leaves open.
 use Rattle.std.proofs.Common.{sym, ◌∙◌}
 use Rattle.std.proofs.lemmas.List.{drop_all}
 use Rattle.px_table.proofs.SortSteps.{no-sort, sort-here, sort-later}

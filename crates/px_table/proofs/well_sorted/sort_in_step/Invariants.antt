@@ -1,4 +1,3 @@
--- What the loops of `sort_in_step` in src/well_sorted.rt keep true.
 use Rattle.std.proofs.Common.{◌≡◌, drop}
 use Rattle.px_table.specs.WellSorted.{first_sort, paired}
 use Rattle.px_table.proofs.well_sorted.sort_in_step.Given as goal

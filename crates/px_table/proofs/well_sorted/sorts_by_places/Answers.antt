@@ -1,4 +1,3 @@
--- Proofs of the goals that `sorts_by_places` of src/well_sorted.rt leaves open.
 use Rattle.std.proofs.Common.{◌++◌, ◌∷◌, [], map, sym, ap, ◌∙◌, arith}
 use Rattle.std.specs.Prelude.{List, ℕ}
 use Rattle.std.specs.List.{range_with_len}

@@ -1,4 +1,3 @@
--- What the loops of `sorts_by_places` in src/well_sorted.rt keep true.
 use Rattle.std.proofs.Common.{◌≡◌, map}
 use Rattle.std.specs.List.{range_with_len}
 use Rattle.px_table.specs.WellSorted.{first_sort, sort_places}

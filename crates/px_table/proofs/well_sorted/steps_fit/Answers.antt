@@ -1,4 +1,3 @@
--- Proofs of the goals that `steps_fit` of src/well_sorted.rt leaves open.
 use Rattle.std.proofs.Common.{take, sym, subst}
 use Rattle.std.specs.Prelude.{◌↔◌, All, IsTrue, List}
 use Rattle.px_terms.specs.declared.instance.OpInst.{OpInst}

@@ -1,4 +1,3 @@
--- Proofs of the goals that `atoms_are_ordered` of src/laws.rt leaves open.
 use Rattle.px_terms.proofs.BeforeLaws.{atoms_are_ordered}
 use Rattle.px_terms.proofs.laws.atoms_are_ordered.Goals as goal
 

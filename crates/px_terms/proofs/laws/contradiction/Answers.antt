@@ -1,4 +1,3 @@
--- Proofs of the goals that `contradiction` of src/laws.rt leaves open.
 use Rattle.px_terms.proofs.ContradictionLaws.{contradiction_unmet}
 use Rattle.px_terms.proofs.laws.contradiction.Goals as goal
 

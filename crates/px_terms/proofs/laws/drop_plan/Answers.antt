@@ -1,4 +1,3 @@
--- Proofs of the goals that `drop_plan` of src/laws.rt leaves open.
 use Rattle.px_terms.specs.DropPlanLaws.{drop_plan}
 use Rattle.px_terms.proofs.laws.drop_plan.Goals as goal
 

@@ -1,4 +1,3 @@
--- Proofs of the goals that `lit_lamp` of src/laws.rt leaves open.
 use Rattle.px_terms.proofs.LampLaws.{lamp_shines}
 use Rattle.px_terms.proofs.laws.lit_lamp.Goals as goal
 

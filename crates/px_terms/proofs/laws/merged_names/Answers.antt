@@ -1,4 +1,3 @@
--- Proofs of the goals that `merged_names` of src/laws.rt leaves open.
 use Rattle.px_terms.specs.MergedNamesLaws.{merged_names}
 use Rattle.px_terms.proofs.laws.merged_names.Goals as goal
 

@@ -1,4 +1,3 @@
--- Proofs of the goals that `sorted_instances` of src/laws.rt leaves open.
 use Rattle.px_terms.proofs.SortedLaws.{sorted_instances}
 use Rattle.px_terms.proofs.laws.sorted_instances.Goals as goal
 

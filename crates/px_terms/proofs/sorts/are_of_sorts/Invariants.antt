@@ -1,4 +1,3 @@
--- What the loops of `are_of_sorts` in src/sorts.rt keep true.
 use Rattle.std.proofs.Common.{ℕ, ◌<◌}
 use Rattle.std.specs.Prelude.{slice_index, slice_index_or}
 use Rattle.px_terms.specs.Language.{object_of}

@@ -1,4 +1,3 @@
--- What the loops of `objects_fit` in src/sorts.rt keep true.
 use Rattle.std.proofs.Common.{ℕ, ◌<◌}
 use Rattle.std.specs.Prelude.{slice_index}
 use Rattle.px_terms.specs.Sorts.{FitsSort}

@@ -1,4 +1,3 @@
--- What the loops of `are_schemas_of` in src/validity.rt keep true.
 use Rattle.std.proofs.Common.{ℕ, ◌<◌}
 use Rattle.std.specs.Prelude.{slice_index_or}
 use Rattle.px_terms.specs.Operators.{no_schema}

@@ -1,4 +1,3 @@
--- Proofs of the goals that `found_have_tables` of src/laws.rt leaves open.
 use Rattle.px_totality.proofs.MadeTables.{found_have_tables}
 use Rattle.px_totality.proofs.laws.found_have_tables.Goals as goal
 

@@ -1,4 +1,3 @@
--- Proofs of the goals that `runs_end` of src/laws.rt leaves open.
 use Rattle.px_totality.proofs.EndingRuns.{runs_end}
 use Rattle.px_totality.proofs.laws.runs_end.Goals as goal
 

@@ -1,4 +1,3 @@
--- Proofs of the goals that `searches_end` of src/laws.rt leaves open.
 use Rattle.px_totality.proofs.SomeEnd.{searches_end}
 use Rattle.px_totality.proofs.laws.searches_end.Goals as goal
 

@@ -1,4 +1,3 @@
--- Proofs of the goals that `count_edits` of src/running.rt leaves open.
 use Rattle.std.proofs.Common.{◌≡◌, ◌+◌, length, take, ap, arith}
 use Rattle.px_planex.specs.Turns.{Recorded}
 use Rattle.px_turns.specs.Turning.{edits_in}

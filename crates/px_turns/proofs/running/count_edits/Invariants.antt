@@ -1,4 +1,3 @@
--- What the loops of `count_edits` in src/running.rt keep true.
 use Rattle.std.proofs.Common.{◌≡◌, take}
 use Rattle.px_turns.specs.Turning.{edits_in}
 use Rattle.px_turns.proofs.running.count_edits.Given as goal

@@ -1,4 +1,3 @@
--- Proofs of the goals that `count_places` of src/running.rt leaves open.
 use Rattle.std.proofs.Common.{◌≡◌, ◌*◌, ap, arith}
 use Rattle.px_turns.specs.Turning.{adds_most}
 use Rattle.px_turns.proofs.RunPlaces.{edits-all}

@@ -1,4 +1,3 @@
--- Proofs of the goals that `most_adds` of src/running.rt leaves open.
 use Rattle.std.proofs.Common.{◌≤◌, ◌≡◌, List, ap, subst, arith}
 use Rattle.px_terms.specs.declared.problem.Schema.{Schema}
 use Rattle.px_turns.specs.Turning.{adds_most}

@@ -1,4 +1,3 @@
--- What the loops of `most_adds` in src/running.rt keep true.
 use Rattle.std.proofs.Common.{◌≤◌, length, take, All}
 use Rattle.px_turns.specs.Turning.{adds_most}
 use Rattle.px_turns.proofs.running.most_adds.Given as goal

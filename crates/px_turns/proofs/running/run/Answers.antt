@@ -1,4 +1,3 @@
--- Proofs of the goals that `run` of src/running.rt leaves open.
 use Rattle.px_turns.proofs.Admitting.{admit-both}
 use Rattle.px_turns.proofs.running.run.Goals as goal
 

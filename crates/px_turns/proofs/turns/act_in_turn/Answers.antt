@@ -1,4 +1,3 @@
--- Proofs of the goals that `act_in_turn` of src/turns.rt leaves open.
 use Rattle.std.proofs.Common.{◌∙◌, inl, inr, arith}
 use Rattle.px_planex.specs.Execution.{remembered_step}
 use Rattle.px_turns.proofs.Acting.{act-ends}

@@ -1,4 +1,3 @@
--- Proofs of the goals that `disturb_at` of src/turns.rt leaves open.
 use Rattle.std.proofs.Common.{◌≡◌, ◌≤◌, ◌+◌, List, All, true, false, length, take, sym, ap, ◌∙◌, subst}
 use Rattle.px_planex.specs.Turns.{Recorded, edits_at}
 use Rattle.px_turns.specs.Turning.{IsDisturbed}

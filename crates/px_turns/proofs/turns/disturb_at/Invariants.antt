@@ -1,4 +1,3 @@
--- What the loops of `disturb_at` in src/turns.rt keep true.
 use Rattle.std.proofs.Common.{take}
 use Rattle.px_planex.specs.Turns.{edits_at}
 use Rattle.px_turns.specs.Turning.{IsDisturbed}

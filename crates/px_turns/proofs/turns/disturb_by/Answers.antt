@@ -1,4 +1,3 @@
--- Proofs of the goals that `disturb_by` of src/turns.rt leaves open.
 use Rattle.std.proofs.Common.{List, [], ◌∷◌, take, sym, subst}
 use Rattle.px_base.proofs.Loops.{take_next}
 use Rattle.px_turns.specs.Turning.{IsDisturbed}

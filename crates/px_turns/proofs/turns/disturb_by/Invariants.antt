@@ -1,4 +1,3 @@
--- What the loops of `disturb_by` in src/turns.rt keep true.
 use Rattle.std.proofs.Common.{take}
 use Rattle.px_turns.specs.Turning.{IsDisturbed}
 use Rattle.px_turns.proofs.turns.disturb_by.Given as goal

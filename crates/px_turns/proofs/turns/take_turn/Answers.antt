@@ -1,4 +1,3 @@
--- Proofs of the goals that `take_turn` of src/turns.rt leaves open.
 use Rattle.std.proofs.Common.{◌≤◌, ◌+◌, ap, ◌∙◌, length, arith}
 use Rattle.px_planex.specs.Executors.{PlanexValue}
 use Rattle.px_turns.specs.Turning.{places_of_action}

@@ -1,4 +1,3 @@
--- Proofs of the goals that `take_turns` of src/turns.rt leaves open.
 use Rattle.std.proofs.Common.{◌≡◌, ◌<◌, ◌+◌, ℕ, List, [], ◌∷◌, ◌++◌, length, map, sym, ap, ◌∙◌, subst, arith, append_assoc}
 use Rattle.std.specs.Prelude.{MatchBool}
 use Rattle.std.proofs.lemmas.List.{append-nil, length-append, length-map, map-append}

@@ -1,4 +1,3 @@
--- What the loops of `take_turns` in src/turns.rt keep true.
 use Rattle.std.proofs.Common.{◌≡◌, ◌+◌, ◌++◌, ◌-◌, ◌≤◌, List, length, map}
 use Rattle.std.specs.Prelude.{vec_capacity}
 use Rattle.px_printer.specs.declared.turn.Turn.{Turn}

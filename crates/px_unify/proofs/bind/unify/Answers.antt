@@ -1,4 +1,3 @@
--- Proofs of the goals that `unify` of src/bind.rt leaves open.
 use Rattle.std.proofs.Common.{◌≤◌, ◌∙◌, length, sym, refl, arith}
 use Rattle.px_unify.specs.Changes.{NarrowedBy, MakesEqual}
 use Rattle.px_unify.specs.ChangeLaws.{Binds-trans}

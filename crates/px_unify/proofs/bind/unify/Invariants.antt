@@ -1,4 +1,3 @@
--- What the loops of `unify` in src/bind.rt keep true.
 use Rattle.std.proofs.Common.{◌≡◌, map, take}
 use Rattle.px_terms.specs.Language.{substitute}
 use Rattle.px_unify.specs.Changes.{NarrowedBy, Binds, HasSolutions}

@@ -1,4 +1,3 @@
--- Proofs of the goals that `worked_words` of src/laws.rt leaves open.
 use Rattle.px_words.proofs.WorkedOut.{worked_words}
 use Rattle.px_words.proofs.laws.worked_words.Goals as goal
 

@@ -1,4 +1,3 @@
--- Proofs of the goals that `command` of src/reading.rt leaves open.
 use Rattle.std.proofs.Common.{◌≡◌, true, ap, ap₂, codes, rules, ◌∙◌}
 use Rattle.std.proofs.lemmas.Result.{IfOk-weaker}
 use Rattle.clap.specs.Simple.{app_of, app_of_fields, new_app, new_rule, on_top, with_rule}

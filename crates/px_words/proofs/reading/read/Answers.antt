@@ -1,4 +1,3 @@
--- Proofs of the goals that `read` of src/reading.rt leaves open.
 use Rattle.std.proofs.Common.{◌≡◌, ℕ, List, ap, map, ◌∙◌}
 use Rattle.std.proofs.lemmas.Result.{IfErr-weaker, IfOk-weaker}
 use Rattle.clap.specs.Matches.{found_of}

@@ -1,4 +1,3 @@
--- Proofs of the goals that `atom_edits_add_one` of src/laws.rt leaves open.
 use Rattle.px_world.proofs.EditLaws.{edits_add_one}
 use Rattle.px_world.proofs.laws.atom_edits_add_one.Goals as goal
 

@@ -1,4 +1,3 @@
--- Proofs of the goals that `worked_guard` of src/laws.rt leaves open.
 use Rattle.px_world.proofs.GuardLaws.{worked_guard}
 use Rattle.px_world.proofs.laws.worked_guard.Goals as goal
 

@@ -1,4 +1,3 @@
--- Proofs of the goals that `Duo::hand` of src/duo.rt leaves open.
 use Rattle.std.specs.Prelude.{◌≡◌}
 use Rattle.std.proofs.Common.{subst, sym}
 use Rattle.px_duo.specs.Duos.{HappensTo, both, duo_running}

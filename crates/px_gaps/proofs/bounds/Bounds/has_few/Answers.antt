@@ -1,4 +1,3 @@
--- Proofs of the goals that `Bounds::has_few` of src/bounds.rt leaves open.
 use Rattle.std.proofs.Common.{List, Option, map, subst}
 use Rattle.std.proofs.lemmas.Bool.{ltb-true}
 use Rattle.px_terms.specs.declared.atom.Atom.{Atom}

@@ -1,4 +1,3 @@
--- What the loops of `Bounds::of` in src/bounds.rt keep true.
 use Rattle.px_gaps.specs.Bounds.{AreBounds}
 use Rattle.px_gaps.proofs.bounds.Bounds.of.Given as goal
 

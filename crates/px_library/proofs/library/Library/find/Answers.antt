@@ -1,4 +1,3 @@
--- Proofs of the goals that `Library::find` of src/library.rt leaves open.
 use Rattle.std.proofs.Common.{◌≡◌, ◌<◌, ℕ, List, Some, None, get_or, length, sym, ap, subst, ◌∙◌, arith}
 use Rattle.px_proof.specs.PlaceLaws.{slice_get-read}
 use Rattle.px_library.specs.Libraries.{LibraryValue, table_named}

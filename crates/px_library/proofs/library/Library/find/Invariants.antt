@@ -1,4 +1,3 @@
--- What the loops of `Library::find` in src/library.rt keep true.
 use Rattle.px_library.proofs.Finding.{IsOtherBefore}
 use Rattle.px_library.proofs.library.Library.find.Given as goal
 

@@ -1,4 +1,3 @@
--- Proofs of the goals that `Line::has_signs` of src/reading.rt leaves open.
 use Rattle.px_lines.proofs.Common.{sym, ◌∙◌}
 use Rattle.px_script.specs.Forms.{is_signed}
 use Rattle.px_lines.proofs.Views.{all-of-line, and-then, and-else}

@@ -1,4 +1,3 @@
--- Proofs of the goals that `Matcher::best` of src/matcher.rt leaves open.
 use Rattle.std.specs.Prelude.{◌≡◌, ◌≤◌, ◌++◌, take, drop, length, Some}
 use Rattle.std.proofs.Common.{refl, sym, ap, ◌∙◌, subst, arith}
 use Rattle.px_match.specs.Matching.{KernelInstance}

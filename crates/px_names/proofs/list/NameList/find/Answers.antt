@@ -1,4 +1,3 @@
--- Proofs of the goals that `NameList::find` of src/list.rt leaves open.
 use Rattle.px_names.proofs.ListLemmas.{position-map, list_any-map}
 use Rattle.px_names.specs.NameLaws.{name_of_number}
 use Rattle.std.proofs.Common.{rules}

@@ -1,4 +1,3 @@
--- Proofs of the goals that `NameList::has` of src/list.rt leaves open.
 use Rattle.px_names.specs.NameLaws.{has_name-tells}
 use Rattle.px_names.proofs.ListLemmas.{list_any-map}
 use Rattle.std.proofs.Common.{rules}

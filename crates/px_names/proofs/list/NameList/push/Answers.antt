@@ -1,4 +1,3 @@
--- Proofs of the goals that `NameList::push` of src/list.rt leaves open.
 use Rattle.px_names.proofs.ListLemmas.{names-insert_key}
 use Rattle.std.specs.String.{string_bytes}
 use Rattle.px_names.proofs.list.NameList.push.Goals as goal

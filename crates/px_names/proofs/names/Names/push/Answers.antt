@@ -1,4 +1,3 @@
--- Proofs of the goals that `Names::push` of src/names.rt leaves open.
 use Rattle.std.proofs.Common.{rules}
 use Rattle.px_names.proofs.PushLemmas.{pushed}
 use Rattle.px_names.specs.declared.kind.Kind.TheVariants as kind

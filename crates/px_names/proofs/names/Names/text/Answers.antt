@@ -1,4 +1,3 @@
--- Proofs of the goals that `Names::text` of src/names.rt leaves open.
 use Rattle.px_names.specs.NameLaws.{number_of_name}
 use Rattle.std.proofs.Common.{rules}
 use Rattle.px_names.proofs.names.Names.text.Goals as goal

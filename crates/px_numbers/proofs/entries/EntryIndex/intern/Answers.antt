@@ -1,4 +1,3 @@
--- Proofs of the goals that `EntryIndex::intern` of src/entries.rt leaves open.
 use Rattle.std.proofs.Common.{subst}
 use Rattle.std.specs.Prelude.{IfOk}
 use Rattle.px_table.specs.EntryOrder.{entry_eq}

@@ -1,4 +1,3 @@
--- Proofs of the goals that `FirstNodes::count` of src/first_nodes.rt leaves open.
 use Rattle.std.proofs.Common.{◌∙◌, List, ap, length, sym}
 use Rattle.px_table.specs.declared.node.Node.{Node}
 use Rattle.px_numbers.specs.Nodewise.{kept_node}

@@ -1,4 +1,3 @@
--- Proofs of the goals that `FirstNodes::new` of src/first_nodes.rt leaves open.
 use Rattle.std.proofs.Common.{ap, sym, take}
 use Rattle.px_numbers.proofs.NodewiseLaws.{nodes_are, nodes_stand}
 use Rattle.px_numbers.proofs.first_nodes.FirstNodes.new.Goals as goal

@@ -1,4 +1,3 @@
--- Proofs of the goals that `FirstNodes::node` of src/first_nodes.rt leaves open.
 use Rattle.std.proofs.Common.{◌≡◌, ◌∙◌, List, Some, ap, arith, length, slice_get, subst, sym}
 use Rattle.px_base.proofs.Loops.{ok_map}
 use Rattle.px_table.specs.declared.node.Node.{Node}

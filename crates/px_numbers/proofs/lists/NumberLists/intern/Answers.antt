@@ -1,4 +1,3 @@
--- Proofs of the goals that `NumberLists::intern` of src/lists.rt leaves open.
 use Rattle.std.proofs.Common.{subst}
 use Rattle.std.specs.Prelude.{IfOk}
 use Rattle.std.specs.Prelude.{nat_eq}

@@ -1,4 +1,3 @@
--- Proofs of the goals that `NodeSet::intern` of src/nodes.rt leaves open.
 use Rattle.std.proofs.Common.{subst}
 use Rattle.std.specs.Prelude.{IfOk}
 use Rattle.px_numbers.proofs.Equality.{node_eq, node_eq-decides}

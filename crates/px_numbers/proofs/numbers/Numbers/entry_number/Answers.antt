@@ -1,4 +1,3 @@
--- Proofs of the goals that `Numbers::entry_number` of src/numbers.rt leaves open.
 use Rattle.std.proofs.Common.{subst}
 use Rattle.px_numbers.specs.Numbers.{Kept, KeepsAll}
 use Rattle.px_numbers.proofs.NumberSteps.{keeps_same, result_places, result_once}

@@ -1,4 +1,3 @@
--- Proofs of the goals that `Numbers::is_stacked` of src/numbers.rt leaves open.
 use Rattle.std.proofs.Common.{◌≡◌, ◌-◌, ◌<◌, Some, length, slice_get, subst, sym, arith}
 use Rattle.px_base.proofs.Loops.{is_false, is_true}
 use Rattle.px_numbers.specs.Numbers.{Kept, AreEachOnce}

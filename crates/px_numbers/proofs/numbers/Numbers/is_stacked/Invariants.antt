@@ -1,4 +1,3 @@
--- What the loops of `Numbers::is_stacked` in src/numbers.rt keep true.
 use Rattle.std.proofs.Common.{List}
 use Rattle.px_table.specs.declared.entry.Entry.{Entry}
 use Rattle.px_numbers.specs.Numbers.{IsStackAt}

@@ -1,4 +1,3 @@
--- Proofs of the goals that `Numbers::model` of src/numbers.rt leaves open.
 use Rattle.std.proofs.Common.{◌≡◌, ℕ, List, subst, sym}
 use Rattle.std.specs.Prelude.{IfOk}
 use Rattle.px_base.proofs.Loops.{ok_map}

@@ -1,4 +1,3 @@
--- Proofs of the goals that `Numbers::model_number` of src/numbers.rt leaves open.
 use Rattle.std.proofs.Common.{ℕ, List, subst}
 use Rattle.px_base.proofs.Loops.{ok_map}
 use Rattle.px_ops.specs.Keeping.{Keeps}

@@ -1,4 +1,3 @@
--- Proofs of the goals that `Numbers::top` of src/numbers.rt leaves open.
 use Rattle.std.proofs.Common.{◌-◌, ◌<◌, length, subst, sym, arith}
 use Rattle.px_numbers.specs.Numbers.{Kept}
 use Rattle.px_numbers.proofs.NumberSteps.{stack_split}

@@ -1,4 +1,3 @@
--- Proofs of the goals that `StackIndex::intern` of src/stacks.rt leaves open.
 use Rattle.std.proofs.Common.{subst}
 use Rattle.std.specs.Prelude.{IfOk}
 use Rattle.px_numbers.proofs.Equality.{frame_eq, frame_eq-decides}

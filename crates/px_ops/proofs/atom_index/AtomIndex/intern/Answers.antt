@@ -1,4 +1,3 @@
--- Proofs of the goals that `AtomIndex::intern` of src/atom_index.rt leaves open.
 use Rattle.std.proofs.Common.{List, sym, subst}
 use Rattle.std.specs.Prelude.{Contains, IfOk}
 use Rattle.px_terms.specs.declared.atom.Atom.{Atom}

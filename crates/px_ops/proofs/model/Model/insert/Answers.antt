@@ -1,4 +1,3 @@
--- Proofs of the goals that `Model::insert` of src/model.rt leaves open.
 use Rattle.px_ops.proofs.ModelLemmas.{with_atom-there, missing, found_there}
 use Rattle.px_ops.proofs.model.Model.insert.Goals as goal
 

@@ -1,4 +1,3 @@
--- Proofs of the goals that `Model::place_from_end` of src/model.rt leaves open.
 use Rattle.std.proofs.Common.{◌≡◌, ◌∙◌, ◌-◌, ◌<◌, ℕ, is_lt, List, length, ap, arith, get_or, sym, subst}
 use Rattle.std.specs.declared.cmp.Ordering.TheVariants.{Less}
 use Rattle.px_terms.specs.Order.{atom_cmp}

@@ -1,4 +1,3 @@
--- Proofs of the goals that `Model::put` of src/model.rt leaves open.
 use Rattle.std.proofs.Common.{◌≤◌, ◌-◌, length, is_ok, min, arith}
 use Rattle.std.specs.Prelude.{vec_capacity}
 use Rattle.px_base.specs.Bounds.{u32_max}

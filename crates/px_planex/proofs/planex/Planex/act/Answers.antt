@@ -1,4 +1,3 @@
--- Proofs of the goals that `Planex::act` of src/planex.rt leaves open.
 use Rattle.std.specs.Prelude.{◌≡◌, MatchBool, Some, option_map}
 use Rattle.std.proofs.Common.{sym, ap, ◌∙◌, subst, inl, inr}
 use Rattle.px_match.specs.MatcherValue.{kernel_with}

@@ -1,4 +1,3 @@
--- Proofs of the goals that `Planex::sense` of src/planex.rt leaves open.
 use Rattle.std.specs.Prelude.{◌≡◌, None, length}
 use Rattle.std.proofs.Common.{refl, ap, ◌∙◌, arith}
 use Rattle.px_match.specs.Matching.{IsHighest, NoKernelFits}

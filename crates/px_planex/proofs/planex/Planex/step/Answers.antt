@@ -1,4 +1,3 @@
--- Proofs of the goals that `Planex::step` of src/planex.rt leaves open.
 use Rattle.std.specs.Prelude.{◌≤◌, ◌+◌, length}
 use Rattle.std.proofs.Common.{subst, sym}
 use Rattle.px_planex.specs.Executors.{places_of, running}

@@ -1,4 +1,3 @@
--- Proofs of the goals that `ProofState::close_by_step` of src/open.rt leaves open.
 use Rattle.std.proofs.Common.{rules, ◌≡◌, ◌+◌, ◌-◌, ◌≤◌, ◌∷◌, [], false, true, ℕ, List, ◌++◌, length, take, get_or, reverse, arith, ap, sym, ◌∙◌, refl}
 use Rattle.px_proof.specs.Literals.{substitute_literal}
 use Rattle.px_proof.specs.declared.shape.Tick.{Tick}

@@ -1,4 +1,3 @@
--- Proofs of the goals that `ProofStateWalkGapQuestion::is_finished` of src/gap_question.rt leaves open.
 use Rattle.std.proofs.Common.{◌≡◌, ℕ, arith, sym, ◌∙◌, true}
 use Rattle.std.specs.Prelude.{nat_eq}
 use Rattle.px_prover.specs.GapAsking.{gap_setting}

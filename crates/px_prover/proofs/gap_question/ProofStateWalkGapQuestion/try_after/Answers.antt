@@ -1,4 +1,3 @@
--- Proofs of the goals that `ProofStateWalkGapQuestion::try_after` of src/gap_question.rt leaves open.
 use Rattle.std.proofs.Common.{◌≡◌, Bool, true, Some, subst, sym, arith}
 use Rattle.px_proof.specs.declared.shape.Tick.{Tick}
 use Rattle.px_prover.specs.Asking.{setting_in, IsPossibleIn}

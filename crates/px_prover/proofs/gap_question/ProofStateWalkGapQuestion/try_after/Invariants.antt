@@ -1,4 +1,3 @@
--- What the loops of `ProofStateWalkGapQuestion::try_after` in src/gap_question.rt keep true.
 use Rattle.std.proofs.Common.{◌≡◌, true}
 use Rattle.px_prover.specs.GapAsking.{gap_setting}
 use Rattle.px_prover.specs.Passed.{AreSmall}

@@ -1,4 +1,3 @@
--- Proofs of the goals that `PatternsGatherGapQuestionProofState::gather` of src/patterns.rt leaves open.
 use Rattle.std.proofs.Common.{Bool, true, false, Some, refl, subst, sym}
 use Rattle.px_proof.specs.declared.shape.Tick.{Tick}
 use Rattle.px_prover.specs.Asking.{setting_in, IsPossibleIn}

@@ -1,4 +1,3 @@
--- What the loops of `PatternsGatherGapQuestionProofState::gather` in src/patterns.rt keep true.
 use Rattle.std.proofs.Common.{◌≡◌, List, true}
 use Rattle.px_prover.specs.GapAsking.{gap_setting}
 use Rattle.px_prover.specs.Passed.{AreSmall}

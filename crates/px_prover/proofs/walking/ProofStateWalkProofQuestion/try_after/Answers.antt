@@ -1,4 +1,3 @@
--- Proofs of the goals that `ProofStateWalkProofQuestion::try_after` of src/walking.rt leaves open.
 use Rattle.std.proofs.Common.{arith}
 use Rattle.px_prover.specs.Asking.{setting_in, IsPossibleIn}
 use Rattle.px_prover.specs.Standing.{ticks_in, IsStanding}

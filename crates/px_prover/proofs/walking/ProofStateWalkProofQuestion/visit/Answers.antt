@@ -1,4 +1,3 @@
--- Proofs of the goals that `ProofStateWalkProofQuestion::visit` of src/walking.rt leaves open.
 use Rattle.px_prover.specs.Asking.{setting_in}
 use Rattle.px_prover.proofs.Moves.{standing-sound, visit-made}
 use Rattle.px_prover.proofs.walking.ProofStateWalkProofQuestion.visit.Goals as goal

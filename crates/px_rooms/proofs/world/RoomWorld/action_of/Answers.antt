@@ -1,4 +1,3 @@
--- Proofs of the goals that `RoomWorld::action_of` of src/world.rt leaves open.
 use Rattle.std.specs.Prelude.{◌≤◌}
 use Rattle.std.proofs.Common.{sym, ap, ◌∙◌, arith}
 use Rattle.px_rooms.specs.Changes.{instance_of_action}

@@ -1,4 +1,3 @@
--- Proofs of the goals that `RoomWorld::follow` of src/world.rt leaves open.
 use Rattle.std.proofs.Common.{ap, ◌∙◌, sym, subst}
 use Rattle.px_terms.specs.Operators.{result_of}
 use Rattle.px_rooms.specs.Following.{IsMet}

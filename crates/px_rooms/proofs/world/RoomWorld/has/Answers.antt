@@ -1,4 +1,3 @@
--- Proofs of the goals that `RoomWorld::has` of src/world.rt leaves open.
 use Rattle.std.proofs.lemmas.List.Elements.{Decides-contains, contains_decides}
 use Rattle.std.specs.Prelude.{◌↔◌, IsTrue, Contains}
 use Rattle.std.proofs.Common.{sym, ◌∙◌, subst}

@@ -1,4 +1,3 @@
--- Proofs of the goals that `RoomWorld::known` of src/world.rt leaves open.
 use Rattle.px_rooms.proofs.Worlds.{world-state}
 use Rattle.px_rooms.proofs.world.RoomWorld.known.Goals as goal
 

@@ -1,4 +1,3 @@
--- Proofs of the goals that `RoomWorld::meets` of src/world.rt leaves open.
 use Rattle.std.specs.Prelude.{Contains}
 use Rattle.std.proofs.Common.{refl, arith}
 use Rattle.px_terms.specs.Operators.{atoms_of}

@@ -1,4 +1,3 @@
--- What the loops of `RoomWorld::meets` in src/world.rt keep true.
 use Rattle.std.specs.Prelude.{Contains}
 use Rattle.px_terms.specs.Operators.{atoms_of}
 use Rattle.px_rooms.specs.States.{rendering}

@@ -1,4 +1,3 @@
--- Proofs of the goals that `RoomWorld::new` of src/world.rt leaves open.
 use Rattle.std.specs.Prelude.{All, length}
 use Rattle.std.proofs.Common.{sym, ap, ◌∙◌, subst, arith}
 use Rattle.px_rooms.specs.States.{IsRoomAt, StandsRight}

@@ -1,4 +1,3 @@
--- Proofs of the goals that `RoomWorld::render` of src/world.rt leaves open.
 use Rattle.std.specs.Prelude.{length}
 use Rattle.std.proofs.Common.{ap, arith}
 use Rattle.px_rooms.specs.States.{RoomState}

@@ -1,4 +1,3 @@
--- Proofs of the goals that `RoomWorldRegrow::atom_count` of src/world.rt leaves open.
 use Rattle.std.proofs.Common.{length, ap, ◌∙◌}
 use Rattle.px_rooms.specs.States.{atoms_from}
 use Rattle.px_rooms.proofs.Counting.{counted-all}

@@ -1,4 +1,3 @@
--- Proofs of the goals that `RoomWorldWorld::disturb` of src/world.rt leaves open.
 use Rattle.std.proofs.Common.{ap, ◌∙◌}
 use Rattle.px_rooms.specs.States.{rendering}
 use Rattle.px_rooms.proofs.Actions.{edit-leaves, edit-number, left-admits}

@@ -1,4 +1,3 @@
--- Proofs of the goals that `RoomWorldWorld::holds` of src/world.rt leaves open.
 use Rattle.px_rooms.proofs.Worlds.{rendering-ascending, rendering-ground}
 use Rattle.px_rooms.proofs.world.RoomWorldWorld.holds.Goals as goal
 

@@ -1,4 +1,3 @@
--- Proofs of the goals that `RoomWorldWorld::sense` of src/world.rt leaves open.
 use Rattle.std.specs.Prelude.{◌≡◌, ◌≤◌, ◌+◌, length}
 use Rattle.std.proofs.Common.{ap, ◌∙◌, subst, arith}
 use Rattle.px_terms.specs.AtomSets.{atom_set}

@@ -1,4 +1,3 @@
--- What the loops of `RoomWorldWorld::sense` in src/world.rt keep true.
 use Rattle.std.proofs.Common.{◌≡◌, ◌≤◌, ◌+◌, length}
 use Rattle.px_terms.specs.AtomSets.{atom_set}
 use Rattle.px_rooms.specs.States.{all_atoms}

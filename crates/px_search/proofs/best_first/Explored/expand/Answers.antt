@@ -1,4 +1,3 @@
--- Proofs of the goals that `Explored::expand` of src/best_first.rt leaves open.
 use Rattle.std.proofs.Common.{◌≡◌, ℕ, [], length, sym, ◌∙◌, subst, arith}
 use Rattle.px_diff.specs.Outcomes.{AtStop}
 use Rattle.px_diff.specs.declared.move_err.MoveErr.{MoveErr}

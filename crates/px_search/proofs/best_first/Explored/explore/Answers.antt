@@ -1,4 +1,3 @@
--- Proofs of the goals that `Explored::explore` of src/best_first.rt leaves open.
 use Rattle.std.proofs.Common.{refl, subst}
 use Rattle.px_ends.specs.Tasks.{initial_node}
 use Rattle.px_support.specs.Asking.{task_for}

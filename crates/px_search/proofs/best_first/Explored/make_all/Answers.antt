@@ -1,4 +1,3 @@
--- Proofs of the goals that `Explored::make_all` of src/best_first.rt leaves open.
 use Rattle.std.proofs.Common.{◌≡◌, ℕ, length, arith, subst}
 use Rattle.px_ops.specs.KeepLaws.{place_within}
 use Rattle.px_support.specs.Asking.{task_for}

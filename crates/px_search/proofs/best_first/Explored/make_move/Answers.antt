@@ -1,4 +1,3 @@
--- Proofs of the goals that `Explored::make_move` of src/best_first.rt leaves open.
 use Rattle.std.proofs.Common.{◌≤◌, length, refl, arith}
 use Rattle.px_support.specs.Asking.{task_for}
 use Rattle.px_search.proofs.GoingLaws.{trying-within}

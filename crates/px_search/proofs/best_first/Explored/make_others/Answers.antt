@@ -1,4 +1,3 @@
--- Proofs of the goals that `Explored::make_others` of src/best_first.rt leaves open.
 use Rattle.std.proofs.Common.{true, length, take, refl, subst, arith}
 use Rattle.px_table.specs.declared.node.Node.{Node}
 use Rattle.px_diff.specs.Outcomes.{AtStop}

@@ -1,4 +1,3 @@
--- Proofs of the goals that `Explored::new` of src/best_first.rt leaves open.
 use Rattle.px_search.proofs.best_first.Explored.new.Goals as goal
 
 pub returns : goal.returns

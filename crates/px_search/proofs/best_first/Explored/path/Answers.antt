@@ -1,4 +1,3 @@
--- Proofs of the goals that `Explored::path` of src/best_first.rt leaves open.
 use Rattle.std.proofs.Common.{◌≡◌, List, Some, length, slice_get}
 use Rattle.px_base.proofs.Loops.{ok_map}
 use Rattle.px_table.specs.declared.entry.Move.{Move}

@@ -1,4 +1,3 @@
--- Proofs of the goals that `Explored::shape_limit` of src/best_first.rt leaves open.
 use Rattle.std.proofs.Common.{subst, sym}
 use Rattle.px_table.specs.declared.node.Node.{Node}
 use Rattle.px_ends.specs.ByValue.{IsShapeLimit}

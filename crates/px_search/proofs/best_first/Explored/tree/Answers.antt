@@ -1,4 +1,3 @@
--- Proofs of the goals that `Explored::tree` of src/trees.rt leaves open.
 use Rattle.std.proofs.Common.{List, arith, subst, sym}
 use Rattle.px_tree.specs.declared.nodes.TreeNode.{TreeNode}
 use Rattle.px_ends.specs.Trees.{IsTree}

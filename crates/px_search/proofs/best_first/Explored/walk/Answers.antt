@@ -1,4 +1,3 @@
--- Proofs of the goals that `Explored::walk` of src/best_first.rt leaves open.
 use Rattle.std.proofs.Common.{◌<◌, ◌∷◌, ◌∙◌, ℕ, sym, subst, arith}
 use Rattle.px_order.specs.Places.{place-within-list}
 use Rattle.px_ends.proofs.PickCounts.{picks_left}

@@ -1,4 +1,3 @@
--- What the loops of `Explored::walk` in src/best_first.rt keep true.
 use Rattle.std.proofs.Common.{◌≡◌, ◌-◌, ℕ, List, length}
 use Rattle.px_support.specs.Asking.{task_for}
 use Rattle.px_search.specs.Looping.{GoesOn, IsExploring}

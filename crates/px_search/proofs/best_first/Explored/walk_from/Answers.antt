@@ -1,4 +1,3 @@
--- Proofs of the goals that `Explored::walk_from` of src/best_first.rt leaves open.
 use Rattle.px_support.specs.Asking.{task_for}
 use Rattle.px_search.proofs.LoopLaws.{start-from}
 use Rattle.px_search.proofs.best_first.Explored.walk_from.Goals as goal

@@ -1,4 +1,3 @@
--- Proofs of the goals that `Estimates::entry` of src/estimates.rt leaves open.
 use Rattle.px_support.specs.Asking.{task_for}
 use Rattle.px_search.specs.Estimating.{IsCountAt}
 use Rattle.px_search.proofs.NoteLaws.{place_eq, place_eq-decides}

@@ -1,4 +1,3 @@
--- Proofs of the goals that `Estimates::goal` of src/estimates.rt leaves open.
 use Rattle.std.proofs.Common.{ℕ, Bool}
 use Rattle.std.specs.Prelude.{◌==◌}
 use Rattle.std.proofs.lemmas.Bool.Decides.{Decides-eqb}

@@ -1,4 +1,3 @@
--- Proofs of the goals that `Estimates::needs` of src/estimates.rt leaves open.
 use Rattle.std.proofs.Common.{◌∙◌, List, ap}
 use Rattle.px_terms.specs.declared.atom.Atom.{Atom}
 use Rattle.px_table.specs.declared.node.Node.{Node}

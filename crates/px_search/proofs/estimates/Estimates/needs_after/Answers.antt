@@ -1,4 +1,3 @@
--- Proofs of the goals that `Estimates::needs_after` of src/estimates.rt leaves open.
 use Rattle.std.proofs.Common.{◌≡◌, ◌+◌, ℕ}
 use Rattle.px_base.proofs.Loops.{ok_map}
 use Rattle.px_table.specs.declared.entry.Move.{Move}

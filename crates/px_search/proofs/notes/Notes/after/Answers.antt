@@ -1,4 +1,3 @@
--- Proofs of the goals that `Notes::after` of src/notes.rt leaves open.
 use Rattle.std.proofs.Common.{◌∷◌, Some, slice_get, ◌≡◌}
 use Rattle.px_table.specs.declared.entry.Entry.{Entry}
 use Rattle.px_table.specs.declared.entry.Move.{Move}

@@ -1,4 +1,3 @@
--- Proofs of the goals that `Notes::all_steps_from` of src/notes.rt leaves open.
 use Rattle.std.proofs.Common.{◌∙◌, List, refl, sym, subst}
 use Rattle.px_table.specs.declared.entry.Entry.{Entry}
 use Rattle.px_table.specs.declared.node.Node.{Node}

@@ -1,4 +1,3 @@
--- Proofs of the goals that `Notes::applied` of src/notes.rt leaves open.
 use Rattle.px_support.specs.Asking.{task_for}
 use Rattle.px_search.proofs.StepLaws.{entry_on_top, result_stands}
 use Rattle.px_search.proofs.notes.Notes.applied.Goals as goal

@@ -1,4 +1,3 @@
--- Proofs of the goals that `Notes::begun_from` of src/notes.rt leaves open.
 use Rattle.px_numbers.specs.NumberLaws.{stands-grows}
 use Rattle.px_base.proofs.Loops.{ok_map}
 use Rattle.px_support.specs.Asking.{task_for}

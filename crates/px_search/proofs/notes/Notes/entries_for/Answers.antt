@@ -1,4 +1,3 @@
--- Proofs of the goals that `Notes::entries_for` of src/notes.rt leaves open.
 use Rattle.px_support.specs.Asking.{task_for}
 use Rattle.px_search.proofs.OfferLaws.{some-first}
 use Rattle.px_search.proofs.notes.Notes.entries_for.Goals as goal

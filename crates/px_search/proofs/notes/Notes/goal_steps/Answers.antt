@@ -1,4 +1,3 @@
--- Proofs of the goals that `Notes::goal_steps` of src/notes.rt leaves open.
 use Rattle.std.proofs.Common.{true, ◌∷◌, [], List, sym, subst}
 use Rattle.px_table.specs.declared.node.Node.{Node}
 use Rattle.px_gaps.specs.Known.{IsKnownOf, IsOpenWith}

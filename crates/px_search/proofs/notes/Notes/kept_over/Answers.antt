@@ -1,4 +1,3 @@
--- Proofs of the goals that `Notes::kept_over` of src/notes.rt leaves open.
 use Rattle.std.proofs.Common.{◌∷◌, ◌∙◌, [], List, sym, subst}
 use Rattle.px_table.specs.declared.entry.Entry.{Entry}
 use Rattle.px_support.specs.Asking.{task_for}

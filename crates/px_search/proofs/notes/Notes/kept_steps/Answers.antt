@@ -1,4 +1,3 @@
--- Proofs of the goals that `Notes::kept_steps` of src/notes.rt leaves open.
 use Rattle.std.proofs.Common.{List, subst, sym}
 use Rattle.px_support.specs.Asking.{task_for}
 use Rattle.px_search.specs.Notes.{IsStepsAt}

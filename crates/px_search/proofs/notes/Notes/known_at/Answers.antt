@@ -1,4 +1,3 @@
--- Proofs of the goals that `Notes::known_at` of src/notes.rt leaves open.
 use Rattle.std.proofs.Common.{◌∷◌, [], refl}
 use Rattle.px_table.specs.declared.node.Node.{Node}
 use Rattle.px_entries.specs.Entries.{IsEntry, obligations_of}

@@ -1,4 +1,3 @@
--- Proofs of the goals that `Notes::known_top` of src/notes.rt leaves open.
 use Rattle.px_search.proofs.notes.Notes.known_top.Goals as goal
 
 pub known_below-requires-clause-never : goal.known_below-requires-clause-never

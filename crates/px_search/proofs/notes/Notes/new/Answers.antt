@@ -1,4 +1,3 @@
--- Proofs of the goals that `Notes::new` of src/notes.rt leaves open.
 use Rattle.px_search.specs.Notes.{IsAlteredAt, IsResultAt, IsStepsAt}
 use Rattle.px_search.specs.Offers.{IsOfferAt}
 use Rattle.px_search.proofs.Pairs.{each-none}

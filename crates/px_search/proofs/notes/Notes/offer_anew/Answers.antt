@@ -1,4 +1,3 @@
--- Proofs of the goals that `Notes::offer_anew` of src/notes.rt leaves open.
 use Rattle.std.proofs.Common.{◌∙◌, ◌∷◌, [], List, sym, subst}
 use Rattle.px_support.specs.Asking.{task_for}
 use Rattle.px_search.specs.Offers.{IsOffered, IsOfferAt}

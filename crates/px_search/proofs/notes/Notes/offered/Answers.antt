@@ -1,4 +1,3 @@
--- Proofs of the goals that `Notes::offered` of src/notes.rt leaves open.
 use Rattle.px_support.specs.Asking.{task_for}
 use Rattle.px_search.specs.Offers.{IsOfferedWhole}
 use Rattle.px_search.proofs.NoteLaws.{answer-grown}

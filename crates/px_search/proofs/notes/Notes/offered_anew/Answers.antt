@@ -1,4 +1,3 @@
--- Proofs of the goals that `Notes::offered_anew` of src/notes.rt leaves open.
 use Rattle.px_support.specs.Asking.{task_for}
 use Rattle.px_search.proofs.NoteLaws.{grown-numbers}
 use Rattle.px_search.proofs.notes.Notes.offered_anew.Goals as goal

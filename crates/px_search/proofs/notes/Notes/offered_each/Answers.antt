@@ -1,4 +1,3 @@
--- Proofs of the goals that `Notes::offered_each` of src/notes.rt leaves open.
 use Rattle.std.proofs.Common.{◌≡◌, ◌<◌, length, ◌∙◌, ◌∷◌, [], Bool, true, List, take, Some, slice_get, sym, ap, subst, arith}
 use Rattle.px_terms.specs.declared.atom.Atom.{Atom}
 use Rattle.px_order.specs.Places.{at_index}

@@ -1,4 +1,3 @@
--- What the loops of `Notes::offered_each` in src/notes.rt keep true.
 use Rattle.std.proofs.Common.{take}
 use Rattle.px_support.specs.Asking.{task_for}
 use Rattle.px_search.specs.Notes.{HaveGrown}

@@ -1,4 +1,3 @@
--- Proofs of the goals that `Notes::part_of` of src/notes.rt leaves open.
 use Rattle.std.proofs.Common.{refl, inl, inr}
 use Rattle.px_support.specs.Asking.{task_for}
 use Rattle.px_search.proofs.NoteLaws.{grown-numbers}

@@ -1,4 +1,3 @@
--- Proofs of the goals that `Notes::pushes_offered` of src/notes.rt leaves open.
 use Rattle.std.proofs.Common.{List, sym, subst}
 use Rattle.px_numbers.specs.NumberLaws.{stack_at-grows}
 use Rattle.px_support.specs.Asking.{task_for}

@@ -1,4 +1,3 @@
--- Proofs of the goals that `Notes::pushes_over` of src/notes.rt leaves open.
 use Rattle.std.proofs.Common.{◌∷◌, [], List, refl, sym, subst}
 use Rattle.px_table.specs.declared.entry.Entry.{Entry}
 use Rattle.px_diff.specs.Outcomes.{AtStop}

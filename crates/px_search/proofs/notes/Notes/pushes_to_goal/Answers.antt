@@ -1,4 +1,3 @@
--- Proofs of the goals that `Notes::pushes_to_goal` of src/notes.rt leaves open.
 use Rattle.std.proofs.Common.{[], refl, subst}
 use Rattle.px_diff.specs.Outcomes.{AtStop}
 use Rattle.px_diff.specs.declared.move_err.MoveErr.{MoveErr}

@@ -1,4 +1,3 @@
--- Proofs of the goals that `Notes::result_altered` of src/notes.rt leaves open.
 use Rattle.px_support.specs.Asking.{task_for}
 use Rattle.px_search.specs.Notes.{IsAlteredAt}
 use Rattle.px_search.proofs.AlterationLaws.{altered-result, result-altered}

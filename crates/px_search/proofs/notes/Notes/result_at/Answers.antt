@@ -1,4 +1,3 @@
--- Proofs of the goals that `Notes::result_at` of src/notes.rt leaves open.
 use Rattle.px_support.specs.Asking.{task_for}
 use Rattle.px_search.specs.Notes.{IsResultAt}
 use Rattle.px_search.proofs.NoteLaws.{place_eq, place_eq-decides}

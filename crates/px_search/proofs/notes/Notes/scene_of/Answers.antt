@@ -1,4 +1,3 @@
--- Proofs of the goals that `Notes::scene_of` of src/notes.rt leaves open.
 use Rattle.px_numbers.specs.NumberLaws.{model_at-grows}
 use Rattle.px_search.proofs.notes.Notes.scene_of.Goals as goal
 

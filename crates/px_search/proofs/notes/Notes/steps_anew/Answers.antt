@@ -1,4 +1,3 @@
--- Proofs of the goals that `Notes::steps_anew` of src/notes.rt leaves open.
 use Rattle.px_search.proofs.FromLaws.{none_top}
 use Rattle.px_search.proofs.notes.Notes.steps_anew.Goals as goal
 

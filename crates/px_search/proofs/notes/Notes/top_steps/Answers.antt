@@ -1,4 +1,3 @@
--- Proofs of the goals that `Notes::top_steps` of src/notes.rt leaves open.
 use Rattle.std.proofs.Common.{true, ◌∙◌, List, take, sym, subst}
 use Rattle.px_table.specs.declared.node.Node.{Node}
 use Rattle.px_entries.specs.Entries.{IsEntry}

@@ -1,4 +1,3 @@
--- Proofs of the goals that `Picker::go_on` of src/picker.rt leaves open.
 use Rattle.std.proofs.Common.{subst}
 use Rattle.px_base.proofs.Loops.{on_ok}
 use Rattle.px_support.specs.Asking.{task_for}

@@ -1,4 +1,3 @@
--- Proofs of the goals that `Picker::new` of src/picker.rt leaves open.
 use Rattle.px_search.proofs.picker.Picker.new.Goals as goal
 
 pub returns : goal.returns

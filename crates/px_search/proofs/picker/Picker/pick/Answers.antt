@@ -1,4 +1,3 @@
--- Proofs of the goals that `Picker::pick` of src/picker.rt leaves open.
 use Rattle.std.proofs.Common.{◌<◌, ◌≤◌, ℕ, List, sym, subst, Contains}
 use Rattle.px_order.specs.Runs.{Comes, IsNext}
 use Rattle.px_ends.specs.ByValue.{space_of}

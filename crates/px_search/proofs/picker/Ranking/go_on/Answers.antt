@@ -1,4 +1,3 @@
--- Proofs of the goals that `Ranking::go_on` of src/picker.rt leaves open.
 use Rattle.px_base.proofs.Loops.{on_ok}
 use Rattle.px_ends.specs.Ends.{node_of}
 use Rattle.px_support.specs.Asking.{task_for}

@@ -1,4 +1,3 @@
--- Proofs of the goals that `Ranking::new` of src/picker.rt leaves open.
 use Rattle.px_search.proofs.picker.Ranking.new.Goals as goal
 
 pub returns : goal.returns

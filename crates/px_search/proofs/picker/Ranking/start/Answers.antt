@@ -1,4 +1,3 @@
--- Proofs of the goals that `Ranking::start` of src/picker.rt leaves open.
 use Rattle.std.proofs.Common.{refl}
 use Rattle.px_base.proofs.Loops.{on_ok}
 use Rattle.px_ends.specs.Tasks.{initial_node}

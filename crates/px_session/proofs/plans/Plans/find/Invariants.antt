@@ -1,4 +1,3 @@
--- What the loops of `Plans::find` in src/plans.rt keep true.
 use Rattle.px_library.proofs.Finding.{IsOtherBefore}
 use Rattle.px_session.proofs.plans.Plans.find.Given as goal
 

@@ -1,4 +1,3 @@
--- Proofs of the goals that `Session::execute` of src/session.rt leaves open.
 use Rattle.std.proofs.Common.{◌≡◌, ◌+◌, ◌<◌, All, Contains, drop, flat_map, get_or, length, refl, sym, subst, arith}
 use Rattle.px_printer.specs.Replies.{IsReplyNamed}
 use Rattle.px_saved.specs.ReadBack.{ReplyIsReadBack}

@@ -1,4 +1,3 @@
--- Proofs of the goals that `Session::new` of src/session.rt leaves open.
 use Rattle.std.proofs.Common.{◌<◌, ℕ, List, length, map, sym, ◌∙◌, subst}
 use Rattle.std.specs.Prelude.{Option}
 use Rattle.px_base.specs.Bounds.{u32_max}

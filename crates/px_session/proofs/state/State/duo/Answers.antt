@@ -1,4 +1,3 @@
--- Proofs of the goals that `State::duo` of src/duo_run.rt leaves open.
 use Rattle.std.proofs.Common.{List, refl, sym, ap, subst}
 use Rattle.px_terms.specs.declared.atom.Atom.{Atom}
 use Rattle.px_duo.specs.Duos.{both}

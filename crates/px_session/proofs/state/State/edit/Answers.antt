@@ -1,4 +1,3 @@
--- Proofs of the goals that `State::edit` of src/learning.rt leaves open.
 use Rattle.std.proofs.Common.{◌≡◌, refl, sym, ap, subst}
 use Rattle.std.specs.Prelude.{Some, Err, Contains}
 use Rattle.px_edit.specs.declared.edit_err.EditErr.{EditErr}

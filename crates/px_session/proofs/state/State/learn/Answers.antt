@@ -1,4 +1,3 @@
--- Proofs of the goals that `State::learn` of src/state.rt leaves open.
 use Rattle.std.proofs.Common.{◌≡◌, refl, sym, subst}
 use Rattle.std.specs.Prelude.{Some}
 use Rattle.px_general.specs.declared.general_err.GeneralErr.TheVariants.{TooLong, TooDeep, TooWide}

@@ -1,4 +1,3 @@
--- Proofs of the goals that `State::plan` of src/state.rt leaves open.
 use Rattle.std.proofs.Common.{List, refl, sym, subst}
 use Rattle.px_table.specs.declared.table.Table.{Table}
 use Rattle.px_entries.specs.Learned.{AreLearned}

@@ -1,4 +1,3 @@
--- Proofs of the goals that `State::pursue` of src/pursuing.rt leaves open.
 use Rattle.std.proofs.Common.{List, map, [], refl, sym, ap, ◌∙◌, subst}
 use Rattle.px_terms.specs.declared.atom.Atom.{Atom}
 use Rattle.px_table.specs.declared.table.Table.{Table}

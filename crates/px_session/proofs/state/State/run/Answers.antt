@@ -1,4 +1,3 @@
--- Proofs of the goals that `State::run` of src/state.rt leaves open.
 use Rattle.std.proofs.Common.{List, [], map, refl, sym, ap, ◌∙◌, subst}
 use Rattle.px_terms.specs.declared.atom.Atom.{Atom}
 use Rattle.px_planex.specs.Turns.{Recorded, RunsTable}

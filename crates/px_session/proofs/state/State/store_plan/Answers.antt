@@ -1,4 +1,3 @@
--- Proofs of the goals that `State::store_plan` of src/state.rt leaves open.
 use Rattle.std.proofs.Common.{List, sym, ap, ◌∙◌, subst, refl, arith, All}
 use Rattle.px_terms.specs.declared.instance.OpInst.{OpInst}
 use Rattle.px_terms.specs.Validity.{IsInstanceOf}

@@ -1,4 +1,3 @@
--- Proofs of the goals that `OpenTable::is_bad` of src/open_tables.rt leaves open.
 use Rattle.px_so_far.proofs.TableEnds.{too-wide}
 use Rattle.px_so_far.proofs.open_tables.OpenTable.is_bad.Goals as goal
 

@@ -1,4 +1,3 @@
--- Proofs of the goals that `OpenTable::made` of src/open_tables.rt leaves open.
 use Rattle.px_base.specs.Bounds.{u32_max}
 use Rattle.px_so_far.proofs.Common.{◌≤◌, ◌∙◌, ap, sym, subst, length, list_any, both_answers}
 use Rattle.px_table.specs.Marks.{marks_from}

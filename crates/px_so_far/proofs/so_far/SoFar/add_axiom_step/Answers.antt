@@ -1,4 +1,3 @@
--- Proofs of the goals that `SoFar::add_axiom_step` of src/rows.rt leaves open.
 use Rattle.px_so_far.proofs.Common.{ap, ◌∙◌, ◌∷◌, drop, map, take}
 use Rattle.std.specs.Prelude.{reverse}
 use Rattle.std.proofs.lemmas.Result.{on_ok_weaker}

@@ -1,4 +1,3 @@
--- Proofs of the goals that `SoFar::atom` of src/terms.rt leaves open.
 use Rattle.px_so_far.proofs.Common.{◌≡◌, ◌≤◌, map, take, length, sym, ap, ◌∙◌, arith, take_all, map-map, Term, Atom, parameters_here, term_of, atom_of, declared_of, argument_view, signed_view}
 use Rattle.px_so_far.specs.LineVariables.{variables_view}
 use Rattle.px_lines.specs.declared.items.Argument.{Argument}

@@ -1,4 +1,3 @@
--- What the loops of `SoFar::atom` in src/terms.rt keep true.
 use Rattle.px_so_far.proofs.Common.{◌≡◌, map, take, length, parameters_here, term_of, declared_of, argument_view}
 use Rattle.px_so_far.specs.LineVariables.{variables_view}
 use Rattle.px_so_far.proofs.so_far.SoFar.atom.Given as goal

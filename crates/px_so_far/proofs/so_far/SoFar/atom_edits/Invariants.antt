@@ -1,4 +1,3 @@
--- What the loops of `SoFar::atom_edits` in src/terms.rt keep true.
 use Rattle.px_so_far.proofs.Common.{◌≡◌, map, take, atom_edit_of, declared_of, signed_view}
 use Rattle.px_so_far.proofs.so_far.SoFar.atom_edits.Given as goal
 

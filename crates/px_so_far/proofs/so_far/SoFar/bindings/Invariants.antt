@@ -1,4 +1,3 @@
--- What the loops of `SoFar::bindings` in src/terms.rt keep true.
 use Rattle.px_so_far.proofs.Common.{◌≡◌, map, take, binding_of, declared_of, binding_view}
 use Rattle.px_so_far.proofs.so_far.SoFar.bindings.Given as goal
 

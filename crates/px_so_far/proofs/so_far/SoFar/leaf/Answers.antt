@@ -1,4 +1,3 @@
--- Proofs of the goals that `SoFar::leaf` of src/rows.rt leaves open.
 use Rattle.px_so_far.proofs.Common.{◌≡◌, ap, ◌∙◌, atom_of, declared_of, signed_view}
 use Rattle.px_script.specs.Declarations.{table_variables}
 use Rattle.px_so_far.specs.LineVariables.{table_names}

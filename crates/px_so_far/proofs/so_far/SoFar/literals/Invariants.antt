@@ -1,4 +1,3 @@
--- What the loops of `SoFar::literals` in src/terms.rt keep true.
 use Rattle.px_so_far.proofs.Common.{◌≡◌, map, take, literal_of, declared_of, signed_view}
 use Rattle.px_so_far.specs.LineVariables.{variables_view}
 use Rattle.px_so_far.proofs.so_far.SoFar.literals.Given as goal

@@ -1,4 +1,3 @@
--- Proofs of the goals that `SoFar::parameter` of src/so_far.rt leaves open.
 use Rattle.px_so_far.proofs.Common.{sym, ◌∙◌, bytes_eq, string_bytes, position-map}
 use Rattle.px_so_far.proofs.so_far.SoFar.parameter.Goals as goal
 

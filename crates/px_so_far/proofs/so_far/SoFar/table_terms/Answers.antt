@@ -1,4 +1,3 @@
--- Proofs of the goals that `SoFar::table_terms` of src/terms.rt leaves open.
 use Rattle.px_so_far.proofs.Common.{ap, sym, ◌∙◌, map, map-map, argument_view, declared_of, parameters_here, term_of}
 use Rattle.px_script.specs.Declarations.{table_term}
 use Rattle.px_so_far.specs.LineVariables.{table_names}

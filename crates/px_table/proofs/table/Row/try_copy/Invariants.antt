@@ -1,4 +1,3 @@
--- What the loops of `Row::try_copy` in src/table.rt keep true.
 use Rattle.std.proofs.Common.{◌≡◌, take}
 use Rattle.px_table.proofs.table.Row.try_copy.Given as goal
 

@@ -1,4 +1,3 @@
--- Proofs of the goals that `Bind::bind_variable` of src/bind.rt leaves open.
 use Rattle.std.proofs.Common.{arith}
 use Rattle.px_unify.specs.Changes.{IsUnbound}
 use Rattle.px_unify.proofs.Consistency.{room_left, unbound-within, consistent-bind}

@@ -1,4 +1,3 @@
--- Proofs of the goals that `Bind::fresh` of src/bind.rt leaves open.
 use Rattle.std.proofs.Common.{◌≡◌, arith, length, ap, sym, ◌∙◌}
 use Rattle.std.specs.Prelude.{vec_capacity}
 use Rattle.px_unify.specs.Changes.{IsConsistent, variables_of}

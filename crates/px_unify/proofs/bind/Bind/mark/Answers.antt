@@ -1,4 +1,3 @@
--- Proofs of the goals that `Bind::mark` of src/bind.rt leaves open.
 use Rattle.px_unify.proofs.Solutions.{has-solutions}
 use Rattle.px_unify.proofs.bind.Bind.mark.Goals as goal
 

@@ -1,4 +1,3 @@
--- Proofs of the goals that `Bind::resolve` of src/bind.rt leaves open.
 use Rattle.std.proofs.Common.{◌≡◌, ◌<◌, Some, slice_get, length, ◌∙◌}
 use Rattle.px_terms.specs.Language.{IsPlainBelow}
 use Rattle.px_unify.specs.Changes.{slots_of}

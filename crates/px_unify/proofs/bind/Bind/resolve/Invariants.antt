@@ -1,4 +1,3 @@
--- What the loops of `Bind::resolve` in src/bind.rt keep true.
 use Rattle.std.proofs.Common.{◌≡◌, List, length}
 use Rattle.px_terms.specs.declared.term.Term.{Term}
 use Rattle.px_terms.specs.Language.{IsPlainBelow, substitute}

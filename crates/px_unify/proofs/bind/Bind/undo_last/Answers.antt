@@ -1,4 +1,3 @@
--- Proofs of the goals that `Bind::undo_last` of src/bind.rt leaves open.
 use Rattle.px_unify.proofs.Consistency.{undo-fresh, undo-bound, undo-within}
 use Rattle.px_unify.proofs.bind.Bind.undo_last.Goals as goal
 

@@ -1,4 +1,3 @@
--- What the loops of `Bind::undo_to` in src/bind.rt keep true.
 use Rattle.std.proofs.Common.{◌≡◌, ◌≤◌, length, take}
 use Rattle.px_unify.proofs.bind.Bind.undo_to.Given as goal
 

@@ -1,4 +1,3 @@
--- Proofs of the goals that `Bind::unify_terms` of src/bind.rt leaves open.
 use Rattle.px_unify.proofs.Narrowing.{narrowed-bound, narrowed-bound_back, binds-bound}
 use Rattle.px_unify.proofs.bind.Bind.unify_terms.Goals as goal
 

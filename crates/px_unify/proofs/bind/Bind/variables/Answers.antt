@@ -1,4 +1,3 @@
--- Proofs of the goals that `Bind::variables` of src/bind.rt leaves open.
 use Rattle.px_unify.proofs.Solutions.{has-solutions}
 use Rattle.px_unify.proofs.bind.Bind.variables.Goals as goal
 

@@ -1,4 +1,3 @@
--- Proofs of the goals that `AtomWorldWorld::TheImpl` of src/atom_world.rt leaves open.
 use Rattle.px_world.proofs.atom_world.AtomWorldWorld.TheImpl.Goals as goal
 
 -- which edits are admitted doesn't depend on the world

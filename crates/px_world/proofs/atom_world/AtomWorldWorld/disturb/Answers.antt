@@ -1,4 +1,3 @@
--- Proofs of the goals that `AtomWorldWorld::disturb` of src/atom_world.rt leaves open.
 use Rattle.std.proofs.Common.{length, ap, arith}
 use Rattle.px_world.specs.AtomWorldValue.{AtomWorldValue}
 use Rattle.px_ops.specs.ModelLaws.{with_atom-length, without_atom-length}

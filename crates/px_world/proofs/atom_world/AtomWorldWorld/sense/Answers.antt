@@ -1,4 +1,3 @@
--- Proofs of the goals that `AtomWorldWorld::sense` of src/atom_world.rt leaves open.
 use Rattle.std.proofs.Common.{◌++◌, [], ◌∷◌, take, sym, ap, ◌∙◌, arith}
 use Rattle.std.proofs.lemmas.List.{take_all, take_more}
 use Rattle.px_base.specs.Sets.{set_of}

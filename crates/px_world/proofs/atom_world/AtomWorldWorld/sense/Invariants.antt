@@ -1,4 +1,3 @@
--- What the loops of `AtomWorldWorld::sense` in src/atom_world.rt keep true.
 use Rattle.std.proofs.Common.{◌≡◌, ◌+◌, ◌≤◌, take}
 use Rattle.px_terms.specs.AtomSets.{atom_set}
 use Rattle.px_world.proofs.atom_world.AtomWorldWorld.sense.Given as goal
