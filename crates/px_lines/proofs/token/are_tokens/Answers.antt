@@ -10,8 +10,7 @@ loop-after-smaller c =
 
 pub loop-after-preserved : goal.loop-after-preserved
 loop-after-preserved c =
-    let begins = rw c.in-Ok-Some.field-0-is at c.in-Ok-Some.ensures.token in
-    (
+    let begins = rw c.in-Ok-Some.field-0-is at c.in-Ok-Some.ensures.token in (
       rw c.in-Ok-Some.field-0-is at c.in-Ok-Some.ensures.rest,
       (scan-found c.loop-after.rest.now c.in-Ok-Some.after.now _ begins).1 ∙ c.loop-after.invariant.1,
     )
