@@ -2,7 +2,6 @@
 use Rattle.px_script.proofs.Common.{◌≡◌, ◌∙◌, ℕ, Bool, true, false, List, [], ◌∷◌, ◌++◌, length, drop, refl, sym, ap, subst, Option, None, Some, IfSome, is_some, option_map, option_and_then, AllByRecursion, bytes_eq, ◌||◌, codes, if◌then◌else◌, Lexeme, name, number, SignedAtom, Binding, WrittenRoomEdit, Argument, Part, Statement, Line, line_of, Declared, has_building, is_formed, Forms}
 use Rattle.px_script.specs.Items.{Item, the, amount, amounts, new, declared, listed, known, wanted, atoms, bindings, room_edits, pairs, arguments, proofs}
 use Rattle.px_script.specs.Statements.{spelling_of}
-use Rattle.px_script.specs.declared.kinds.Choice.TheVariants as choice
 use Rattle.px_script.specs.declared.kinds.One.{One}
 use Rattle.px_script.specs.declared.kinds.One.TheVariants as one
 use Rattle.px_script.specs.declared.kinds.Last.{Last}
