@@ -40,12 +40,16 @@ module _ (s : Setting) (formula : List Atom) (vars : ℕ) where
         let values = one.2.0 in
         let form : IsPattern s.objects 0 pattern = All-at (IsPattern s.objects 0) closings pattern are.form one.1 in
         let is =
-        (are.exact (list_under pattern values).gaps).1 (pattern, one.1, record {
-          values = values;
-          chosen = one.2.1;
-          objects_are = none (object_under values) pattern.terms form.count;
-          same = under-members pattern values;
-        }) in
+        (are.exact (list_under pattern values).gaps).1 (
+          pattern,
+          one.1,
+          record {
+            values = values;
+            chosen = one.2.1;
+            objects_are = none (object_under values) pattern.terms form.count;
+            same = under-members pattern values;
+          },
+        ) in
         (is.0, subst (λ (l : GapList). IsGapList s formula vars is.0 l.gaps) one.2.2 is.1);
     each = λ objects gaps is is_set.
         let offered = (are.exact gaps).0 (objects, is) in
