@@ -1,5 +1,5 @@
 -- Lines without what ends them, and what reading a line shows.
-use Rattle.px_reader.proofs.Common.{AllByRecursion, IsNameLexeme, all_scalars, spelling, subst, ◌≡◌, ◌≢◌, ℕ, ◌+◌, ◌-◌, ◌<◌, Bool, true, List, [], ◌∷◌, ◌++◌, take, drop, length, get_or, refl, sym, ap, ◌∙◌, inl, inr, arith, Option, None, Some, Result, Ok, Err, IfOk, slice_index, ◌==◌, bytes_eq, eqb-true, take-append-drop, take_more, take_all, bytes_eq-Decides, Lexeme, Lexes, mark, without_mark, without_return, Statement, Line, line_of, Forms, begins_with_word, is_formed, Declared, coded, Stage, Fails, parse-complete, by_test, HasFault, LineEnds, HasCharAt, after_line, MatchOption}
+use Rattle.px_reader.proofs.Common.{AllByRecursion, IsNameLexeme, all_scalars, spelling, subst, ◌≡◌, ◌≢◌, ℕ, ◌+◌, ◌-◌, ◌<◌, Bool, true, List, [], ◌∷◌, ◌++◌, take, drop, length, get_or, refl, sym, ap, ◌∙◌, inl, inr, arith, Option, None, Some, Result, Ok, Err, IfOk, IfSome, slice_index, ◌==◌, bytes_eq, eqb-true, take-append-drop, take_more, take_all, bytes_eq-Decides, Lexeme, Lexes, mark, without_mark, without_return, Statement, Line, line_of, Forms, begins_with_word, is_formed, Declared, coded, Stage, Fails, parse-complete, by_test, HasFault, LineEnds, HasCharAt, after_line, MatchOption}
 use Rattle.px_lines.proofs.Scans.{whole-lexed, not-lexed as not-lexed-text}
 use Rattle.px_lines.specs.Tokens.{is_whole, lexemes_in}
 use Rattle.px_script.proofs.Lexing.{Begins-same, Begins-not-ignored}
