@@ -40,14 +40,14 @@ loop-self-preserved c =
     record {
       stands = stands;
       there = next.0;
-      small = c.in_ok-next_after.ensures.small;
+      small = c.in_ok-next_after-in-Some.ensures.small;
       gathered =
           let has =
           patterns-next kept s formula vars here c.args.self.now.found.items c.loop-self.self.found.items c.loop-self.last
           c.loop-self.invariant.gathered was c.loop-self.invariant.there (ticks_in now.choices) tried c.gather_here.new.found.items
           c.in_ok-gather_here.ensures (ticks_in c.retract.new.self.choices) c.in-Some.tick c.in-Some.ensures.last in
           patterns-passed kept s formula vars here c.args.self.now.found.items c.gather_here.new.found.items _ c.in-Some.tick
-          c.in_ok-next_after.field-0 c.args.question.now c.retract.new.self has.2 c.in_ok-next_after.ensures.passed c.deref.ensures.value
+          c.in_ok-next_after-in-Some.field-0 c.args.question.now c.retract.new.self has.2 c.in_ok-next_after-in-Some.ensures.passed c.deref.ensures.value
           (λ general of u upto objects gaps gives.
           plain-described s formula vars c.retract.new.self stands kept (few-kept c.args.question.now.with_terms vars) general of u
           (early-plain s u32_max u upto) objects gaps
@@ -75,9 +75,9 @@ loop-self-smaller c =
     let next =
     next-tick here was (ticks_in now.choices) (ticks_in c.retract.new.self.choices) c.loop-self.last h.0 c.in-Some.tick
     c.loop-self.invariant.there h.1 h.2 c.in-Some.ensures.last in
-    left-falls c.loop-self.last c.in_ok-next_after.field-0 c.loop-self.invariant.small c.in_ok-next_after.ensures.small
-    (passed-later c.loop-self.last c.args.question.now c.retract.new.self _ c.in-Some.tick c.in_ok-next_after.field-0 next.2
-    c.in_ok-next_after.ensures.passed)
+    left-falls c.loop-self.last c.in_ok-next_after-in-Some.field-0 c.loop-self.invariant.small c.in_ok-next_after-in-Some.ensures.small
+    (passed-later c.loop-self.last c.args.question.now c.retract.new.self _ c.in-Some.tick c.in_ok-next_after-in-Some.field-0 next.2
+    c.in_ok-next_after-in-Some.ensures.passed)
 
 pub returns-clause-more : goal.returns-clause-more
 returns-clause-more c =
