@@ -17,6 +17,7 @@ mod PartLemmas
 mod ChoiceLemmas
 pub mod Proving
 pub mod FactLemmas
+mod FactRange
 pub mod Ordered
 pub mod Below
 mod ShapeCounts

@@ -6,6 +6,7 @@ ghost use Rattle.px_gaps.specs.Concluding.{Asserts, IsConcluded};
 ghost use Rattle.px_gaps.specs.Forms.{IsForm, IsInstanceIn};
 
 use px_ops::Model;
+use px_proof_state::places_of;
 use px_terms::{Atom, Lit, NoMemory, Problem, apply, are_objects_below};
 
 /// Returns whether one of the literals asserts an atom of the predicate.
@@ -72,8 +73,9 @@ pub fn insert_facts(
         ↔ (Contains found.old.atoms q ⊎ (Contains model.now.atoms q × IsInstanceIn problem.now.objects form.now q))) }
 {
     let facts = model.atoms();
-    for fact in facts {
-        insert_instance(found, problem, form, fact)?;
+    let (first, end) = places_of(facts, form);
+    for number in first..end {
+        insert_instance(found, problem, form, &facts[number])?;
     }
     Ok(())
 }

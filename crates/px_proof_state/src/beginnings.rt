@@ -39,8 +39,9 @@ fn compare_beginnings(count: usize, a: &Atom, b: &Atom) -> Ordering
     }
 }
 
-/// Returns the first place of a fact with the predicate and the leading objects of the atom, and the first place after all of them.
-pub(crate) fn places_of(facts: &[Atom], atom: &Atom) -> (usize, usize)
+/// Returns the first place of a fact with the predicate and the leading objects of the atom, and the first place after all of them. Facts
+/// at other places are no instances of the atom. Does not allocate.
+pub fn places_of(facts: &[Atom], atom: &Atom) -> (usize, usize)
     requires { IsAtomSet facts.now }
     ensures { HasItsFacts facts.now atom.now result.0 result.1 }
 {

@@ -8,14 +8,13 @@
 //!   ancestor, or the first literal of an axiom, from a number on, that can be made equal to the literal of the place. They return
 //!   whether there is one; if not, nothing has changed. `TriesRange` in `specs/Ranges.antt` is what they say: what
 //!   closes the place, and that nothing before it ever does, whatever objects the variables stand for.
-//!   Facts are found by binary search: only those with the predicate and the leading objects of the literal are looked at, and
-//!   literals that differ in two objects at one place, in their signs or in their predicates are passed over before anything is bound.
+//!   Facts are found by binary search ([`places_of`]): only those with the predicate and the leading objects of the literal are looked at,
+//!   and literals that differ in two objects at one place, in their signs or in their predicates are passed over before anything is bound.
 //!   [`close_by_gap`] closes the place by nothing.
 //! - `retract_last` opens again the place that was closed last: bindings and places are cut at the marks of its choice.
 //! - After `NoMemory` a state is of no further use, and no clause says what it holds: an attempt that ran out of memory
 //!   may have bound variables and opened places that no choice takes back. Whoever made the state drops it. (`prove` does:
 //!   its state is its own, and what it borrowed stays as it was.)
-//! - Only private functions cite `specs/Apart` and `specs/Beginnings`.
 #![tactic(auto)]
 
 mod ancestors;
@@ -33,6 +32,7 @@ mod tests;
 
 pub use ancestors::try_ancestors;
 pub use axioms::try_axioms;
+pub use beginnings::places_of;
 pub use facts::try_facts;
 pub use gaps::close_by_gap;
 pub use open::{Choice, OpenGoal, ProofState};

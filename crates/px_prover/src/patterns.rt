@@ -34,7 +34,7 @@ use std::alloc::Global;
 const MANY_PATTERNS: usize = 1024;
 
 /// Up to how many lists patterns are gathered at once. Where there are more, a walk first tells whether they are too many.
-const FEW_LISTS: u32 = 256;
+const FEW_LISTS: u32 = 1024;
 
 /// Returns the place of the variable in the list of `count` variables, or `count` if it is not there.
 fn place(free: &[u32], count: u32, variable: u32) -> u32
@@ -174,20 +174,43 @@ fn gather_here(
     Ok(())
 }
 
-/// Returns the tick after which the last open place is tried next, where this one closed it. Facts and ancestors bind variables and
-/// leave no gap, so where the pattern of the state before the closing is found, it stands for all that they give.
-fn next_after(found: &[GapPattern], general: &GapPattern, tick: Tick) -> Tick
-    ensures small { IsSmall result }
-    ensures passed { PassesOver found.now general.now tick result }
+/// Returns the tick after which the last open place is tried next, where the first fact closed it. Facts and ancestors bind variables
+/// and leave no gap, so where the pattern that was gathered is that of the state before the closing, it stands for all that they give.
+fn after_fact(
+    found: &[GapPattern],
+    question: &GapQuestion,
+    state: &ProofState,
+    number: u32,
+) -> Result<Tick, NoMemory>
+    requires { IsStanding true (gap_setting question.now) question.now.formula.now question.now.vars state.now }
+    ensures small { IfOk result IsSmall }
+    ensures passed { IfOk result (λ next. PassesOver question.now state.now found.now (Tick.Fact number) next) }
 {
+    let general = pattern_of(question, state)?;
+    if is_last(found, &general) {
+        return Ok(Tick::Anc(u32::MAX));
+    }
+    Ok(Tick::Fact(number))
+}
+
+/// Returns the tick after which the last open place is tried next, where this one closed it after the last one.
+fn next_after(
+    found: &[GapPattern],
+    question: &GapQuestion,
+    state: &ProofState,
+    last: Option<Tick>,
+    tick: Tick,
+) -> Result<Tick, NoMemory>
+    requires { IsStanding true (gap_setting question.now) question.now.formula.now question.now.vars state.now }
+    ensures small { IfOk result IsSmall }
+    ensures passed { IfOk result (λ next. PassesOver question.now state.now found.now tick next) }
+{
+    if question.with_terms || last.is_some() {
+        return Ok(sized(tick));
+    }
     match tick {
-        Tick::Fact(_) => {
-            if is_last(found, general) {
-                return Tick::Anc(u32::MAX);
-            }
-            sized(tick)
-        }
-        _ => sized(tick),
+        Tick::Fact(number) => after_fact(found, question, state, number),
+        _ => Ok(sized(tick)),
     }
 }
 
@@ -226,13 +249,12 @@ impl<'a> Gather<GapQuestion<'a>, ProofState> for Patterns {
             return Ok(());
         }
         let loose = question.loose();
-        let general = pattern_of(question, walk)?;
         let mut last = None;
         while walk.try_after(&loose, last)? {
             gather_here(&mut self.found, question, walk)?;
             match walk.retract(&loose) {
                 None => return Ok(()),
-                Some(tick) => last = Some(next_after(&self.found, &general, tick)),
+                Some(tick) => last = Some(next_after(&self.found, question, walk, last, tick)?),
             }
         }
         self.room = prune(&mut self.found, self.room);

@@ -4,7 +4,7 @@ use Rattle.px_terms.specs.declared.atom.Atom.{Atom}
 use Rattle.px_gaps.specs.Forms.{IsInstanceIn}
 use Rattle.px_gaps.proofs.facts.insert_facts.Given as goal
 
-abbrev pub invariant-loop-fact : goal.invariant-loop-fact
-invariant-loop-fact l =
+abbrev pub invariant-loop-number : goal.invariant-loop-number
+invariant-loop-number l =
     (q : Atom) → Contains l.found.atoms q
-    ↔ (Contains l.initial.found.atoms q ⊎ (Contains (take l.fact-index l.facts) q × IsInstanceIn l.problem.objects l.form q))
+    ↔ (Contains l.initial.found.atoms q ⊎ (Contains (take l.number l.facts) q × IsInstanceIn l.problem.objects l.form q))

@@ -7,8 +7,8 @@ use Rattle.px_prover.proofs.Passing.{left_after}
 use Rattle.px_prover.proofs.PatternPassing.{HasPatterns}
 use Rattle.px_prover.proofs.patterns.PatternsGatherGapQuestionProofState.gather.Given as goal
 
-abbrev pub invariant-loop-general : goal.invariant-loop-general
-invariant-loop-general l = record {
+abbrev pub invariant-loop-self : goal.invariant-loop-self
+invariant-loop-self l = record {
   stands : IsStanding true (gap_setting l.question) l.question.formula.now l.question.vars l.walk;
   there : ticks_in l.walk.choices ≡ ticks_in l.fn.walk.choices;
   small : AreSmall l.last;
@@ -16,5 +16,5 @@ invariant-loop-general l = record {
       (ticks_in l.fn.walk.choices) l.fn.self.found.items l.last l.self.found.items;
 }
 
-abbrev pub decreases-loop-general : goal.decreases-loop-general
-decreases-loop-general l = left_after l.last
+abbrev pub decreases-loop-self : goal.decreases-loop-self
+decreases-loop-self l = left_after l.last
