@@ -11,11 +11,13 @@ ghost use Rattle.px_diff.specs.Outcomes.{IfStopped};
 ghost use Rattle.px_diff.specs.Requests.{LimitsFor};
 
 use crate::front::Front;
+use crate::front_macros::keep_marks;
 use crate::macro_open::facts_suffice;
 use crate::macros::{choices_of_table, gather_front};
 use crate::move_err::MoveErr;
 use crate::pushes::order;
 use crate::request::Request;
+use px_entries::first_terms;
 use px_gaps::Asker;
 use px_table::Entry;
 
@@ -87,12 +89,15 @@ fn gather_first_table(
         if can_leave_off(found, number, count, enough) {
             return Ok(false);
         }
+        let start = first_terms(asker.alloc, table, count)?;
         let front = Front {
             alloc: asker.alloc,
             request: *request,
             number,
             table,
             count,
+            start: start.as_slice(),
+            keeps_marks: keep_marks(request.problem, table, count),
             facts_suffice: suffice,
         };
         gather_front(found, &front, rows)?;

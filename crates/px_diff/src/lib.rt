@@ -62,6 +62,7 @@ mod first_macros;
 mod firsts;
 mod fitting;
 mod front;
+mod front_macros;
 mod laws;
 mod macro_open;
 mod macros;
