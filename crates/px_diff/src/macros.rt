@@ -193,7 +193,8 @@ fn keep_by_rows(
     let others = without_place(front.alloc, numbers, place)?;
     let choices = rows[numbers[place]].as_slice();
     let made = joined(front.alloc, limit, terms, choices)?;
-    for next in made.as_slice() {
+    let joins = made.as_slice();
+    for next in joins {
         keep_by_rows(found, front, next.as_slice(), rows, &others)?;
     }
     Ok(())

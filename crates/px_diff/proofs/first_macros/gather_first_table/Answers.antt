@@ -39,6 +39,8 @@ gather_front-requires-clause-front c = record {
   table = slice_get-read c.args.request.now.tables.now c.args.number c.index-request-number.result c.requires.number;
   several = omega arith;
   within = omega (arith, c.loop-count-test.true);
+  first = c.in_ok-start.ensures;
+  keeps = λ e. c.keep_marks.ensures e;
   suffice = λ e. (c.requires.never, (c.facts_suffice-suffice.ensures).0 e);
 }
 
