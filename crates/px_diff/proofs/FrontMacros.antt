@@ -1,5 +1,5 @@
 -- Which objects make first steps a MACROP, by the terms that their parameters have first.
-use Rattle.std.proofs.Common.{◌≡◌, ◌∙◌, ◌<◌, ℕ, ap, sym}
+use Rattle.std.proofs.Common.{◌≡◌, ◌∙◌, ◌<◌, ℕ, List, ap, sym, inl, inr}
 use Rattle.std.specs.Prelude.{◌↔◌, Any}
 use Rattle.px_table.specs.declared.table.Table.{Table}
 use Rattle.px_table.specs.Kernels.{atom_under, instance_under}
@@ -32,9 +32,3 @@ module _ (problem : Problem) (table : Table) (prefix v number : ℕ) where
 
   pub wild-never : ¬ IsFirstTerm table prefix v Wild
   wild-never first = elim first [ inl used ↦ let e = used.1 in cc | inr other ↦ let e = other.1 in cc ]
-
--- a step whose delete patterns have other predicates never deletes the atom
-pub spared : (problem : Problem) (step : OpInst) (atom : Atom)
-    → (¬ Any (λ (pattern : Atom). pattern.pred ≡ atom.pred) (schema_of problem step).del) → (sigma : List ℕ)
-    → ¬ IsDeleted (schema_of problem (instance_under sigma step)) (instance_under sigma step) (atom_under sigma atom)
-spared problem step atom never sigma w = never (w.0, w.1, w.2, w.3, sym (ap (λ (a : Atom). a.pred) w.4.1))
