@@ -1,8 +1,9 @@
-use Rattle.std.proofs.Common.{get_or, arith}
+use Rattle.std.proofs.Common.{get_or, sym, subst, arith}
 use Rattle.px_proof.specs.PlaceLaws.{slice_get-read}
 use Rattle.px_diff.specs.Macros.{IsOfTable}
 use Rattle.px_diff.proofs.FirstLemmas.{fronts-left}
 use Rattle.px_diff.proofs.EntryLemmas.{entries_reordered, entries_since}
+use Rattle.px_entries.specs.Parameters.{AreFirstTerms}
 use Rattle.px_diff.proofs.GatherLemmas.{IsShorter, shorter-all, shorter-next, shorter-none, shorter-zero, learned-at}
 use Rattle.px_diff.proofs.first_macros.gather_first_table.Goals as goal
 
@@ -39,7 +40,9 @@ gather_front-requires-clause-front c = record {
   table = slice_get-read c.args.request.now.tables.now c.args.number c.index-request-number.result c.requires.number;
   several = omega arith;
   within = omega (arith, c.loop-count-test.true);
-  first = c.in_ok-start.ensures;
+  first =
+      subst (AreFirstTerms (get_or c.args.request.now.tables.now c.args.number c.index-request-number.result) c.loop-count.count)
+      (sym c.as_slice.ensures.value) c.in_ok-start.ensures;
   keeps = λ e. c.keep_marks.ensures e;
   suffice = λ e. (c.requires.never, (c.facts_suffice-suffice.ensures).0 e);
 }

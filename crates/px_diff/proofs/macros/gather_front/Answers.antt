@@ -118,8 +118,7 @@ returns-in-Some-clause-gathers c =
     let told = some_found (AreTableChoices problem model table) c.args.rows.now found c.in-Some.is c.requires.rows in
     let known = rows-taken s table told.terms (length table.steps) count found.choices found.limited c.requires.front.within told.known in
     let matched =
-    matches-as problem wanted count c.args.front.now.start.now c.args.front.now.start.now c.as_slice.result.now table.steps
-    c.in_ok-made.made.items refl c.as_slice.ensures c.in_ok-made.ensures in
+    matches-as problem wanted count c.args.front.now.start.now c.as_slice.result.now table.steps c.in_ok-made.made.items c.as_slice.ensures c.in_ok-made.ensures in
     on_ok c.keep_matches.result (λ gathers.
     wide-gather problem tables wanted stack number count table c.requires.front.table is_table model told.set told.terms told.unbound
     told.some_object (take count found.choices)
@@ -139,8 +138,7 @@ returns-clause-gathers c =
     let table = c.args.front.now.table.now in
     let is_table = front-table c.args.front.now c.requires.front in
     let matched =
-    matches-as problem wanted c.args.front.now.count c.args.front.now.start.now c.args.front.now.start.now c.as_slice.result.now
-    table.steps c.in_ok-made.made.items refl c.as_slice.ensures c.in_ok-made.ensures in
+    matches-as problem wanted c.args.front.now.count c.args.front.now.start.now c.as_slice.result.now table.steps c.in_ok-made.made.items c.as_slice.ensures c.in_ok-made.ensures in
     on_ok c.keep_listed.result (λ gathers. entries_relevant c.args.front.now.request.problem.now c.args.front.now.request.tables.now
     c.args.front.now.request.wanted.now c.args.front.now.request.stack.now c.args.front.now.request.model.now.atoms
     (λ (entry : Entry). OneOf c.in_ok-made.made.items
