@@ -306,7 +306,13 @@ pub fn gather_front(
     }
     let count = front.count as usize;
     let steps = &front.table.steps.as_slice()[..count];
-    let made = macro_matches(front.alloc, problem, front.start, steps, front.request.wanted)?;
+    let made = macro_matches(
+        front.alloc,
+        problem,
+        front.start,
+        steps,
+        front.request.wanted,
+    )?;
     let matches = made.as_slice();
     match rows {
         Some(known) => {

@@ -21,7 +21,7 @@ returns-in-Var c =
     let front = c.args.front.now in
     let within : c.args.parameter < length front.start.now = omega (arith, c.requires.parameter, c.requires.front.first.count) in
     let first : (t : Term) → get_or front.start.now c.args.parameter (Obj 0) ≡ t
-        → IsFirstTerm front.table.now front.count c.args.parameter t =
+    → IsFirstTerm front.table.now front.count c.args.parameter t =
     λ t is. c.requires.front.first.each c.args.parameter t
     (slice_get-read front.start.now c.args.parameter (Obj 0) within ∙ ap (λ (u : Term). Some u) is) in
     elim c.in-Var.is [

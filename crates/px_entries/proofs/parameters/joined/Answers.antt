@@ -1,8 +1,8 @@
-use Rattle.std.proofs.Common.{◌≡◌, ◌<◌, [], ◌+◌, List, length, take, get_or, ap, sym, subst}
+use Rattle.std.proofs.Common.{[], ◌+◌, List, length, take, ap, sym, subst}
 use Rattle.px_terms.specs.declared.term.Term.{Term}
 use Rattle.px_gaps.specs.Closings.{OneOf}
 use Rattle.px_entries.specs.Parameters.{FitsTerms, Matches}
-use Rattle.px_entries.proofs.MatchLemmas.{matches_first, matches_next, matches_none, matches_whole}
+use Rattle.px_entries.proofs.MatchLemmas.{matches_next, matches_none, matches_whole}
 use Rattle.px_entries.proofs.parameters.joined.Goals as goal
 use Rattle.px_entries.proofs.parameters.joined.Goals.{in-Some, in-None+in_ok-push_joined-in-None}
 

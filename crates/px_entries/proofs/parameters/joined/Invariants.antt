@@ -1,4 +1,4 @@
-use Rattle.std.proofs.Common.{[], ℕ, List, take, length}
+use Rattle.std.proofs.Common.{[], List, take, length}
 use Rattle.px_terms.specs.declared.term.Term.{Term}
 use Rattle.px_gaps.specs.Closings.{OneOf}
 use Rattle.px_entries.specs.Parameters.{FitsTerms, Matches}
