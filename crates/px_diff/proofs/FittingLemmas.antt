@@ -72,5 +72,6 @@ module _ (problem : Problem) (tables : List Table) (wanted : List Atom) (stack :
       entries_less problem tables wanted stack model (λ entry. OneOf joins (λ (ts : List Term). Fitting ts entry)) (Fitting terms) old new
       (λ entry w.
       let one =
-      matched.all w.0 w.1 (All-at (λ (cs : List (List Term)). OneOf cs (λ (choice : List Term). FitsTerms choice w.0)) rows choices w.2 has) in
+      matched.all w.0 w.1 (All-at (λ (cs : List (List Term)). OneOf cs (λ (choice : List Term). FitsTerms choice w.0)) rows choices w.2
+      has) in
       (one.0, one.1, (w.0, one.2, w.2, w.3))) gathered

@@ -27,7 +27,7 @@ use crate::row_questions::choices_of_rows;
 use crate::sorted::{parameter_sort, steps_may_fit};
 use px_base::push;
 use px_entries::{
-    add_wanted, first_terms, first_unbound, joined, known_entry, macro_matches, objects_of,
+    add_wanted, first_terms, first_unbound, known_entry, macro_matches, merged_with_each, objects_of,
     steps_with,
 };
 use px_gaps::{Asker, Known, bound, unbound};
@@ -91,7 +91,7 @@ fn keep_known(found: &mut Vec<Entry>, front: &Front, entry: Entry) -> Result<(),
 }
 
 /// Adds the relevant entry of the first steps with these objects where it may be pushed, as the facts show, where they suffice.
-fn keep_relevant(
+fn keep_relevant_macro(
     found: &mut Vec<Entry>,
     front: &Front,
     sigma: &[u32],
@@ -120,7 +120,7 @@ fn keep_relevant(
 }
 
 /// Adds the entry of the first steps with these objects where it is one that may be pushed.
-fn keep_open(found: &mut Vec<Entry>, front: &Front, sigma: &[u32]) -> Result<(), MoveErr>
+fn keep_open_macro(found: &mut Vec<Entry>, front: &Front, sigma: &[u32]) -> Result<(), MoveErr>
     requires front { IsMacroFront front.now }
     ensures gathers { OnOk result (GathersEntriesFor front.now.request (λ other. Macro front.now.number front.now.count sigma.now ≡ other)
         found.old.items found.new.items) }
@@ -133,7 +133,7 @@ fn keep_open(found: &mut Vec<Entry>, front: &Front, sigma: &[u32]) -> Result<(),
     if !is_relevant_macro(front, sigma, &entry)? {
         return Ok(());
     }
-    keep_relevant(found, front, sigma, entry)
+    keep_relevant_macro(found, front, sigma, entry)
 }
 
 /// Adds those of the entries of the first steps, with the objects that are chosen, that may be pushed. Each recursive call has one
@@ -152,7 +152,7 @@ fn keep_all(found: &mut Vec<Entry>, front: &Front, terms: &[Term]) -> Result<(),
         Some(parameter) => parameter,
         None => {
             let sigma = objects_of(front.alloc, terms)?;
-            return keep_open(found, front, sigma.as_slice());
+            return keep_open_macro(found, front, sigma.as_slice());
         }
     };
     let problem = front.request.problem;
@@ -192,7 +192,7 @@ fn keep_by_rows(
     };
     let others = without_place(front.alloc, numbers, place)?;
     let choices = rows[numbers[place]].as_slice();
-    let made = joined(front.alloc, limit, terms, choices)?;
+    let made = merged_with_each(front.alloc, limit, terms, choices)?;
     let joins = made.as_slice();
     for next in joins {
         keep_by_rows(found, front, next.as_slice(), rows, &others)?;
@@ -302,7 +302,7 @@ pub fn gather_front(
     let problem = front.request.problem;
     if problem.objects == 0 {
         let sigma = objects_of(front.alloc, front.start)?;
-        return keep_open(found, front, &sigma);
+        return keep_open_macro(found, front, &sigma);
     }
     let count = front.count as usize;
     let steps = &front.table.steps.as_slice()[..count];

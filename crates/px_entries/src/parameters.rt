@@ -135,7 +135,7 @@ pub fn merged(
 }
 
 /// Appends the terms with the objects of the choice besides their own, where some objects may fit both.
-fn push_joined(
+fn push_merged(
     found: &mut Vec<Sequence<Term>>,
     alloc: Global,
     limit: u32,
@@ -156,7 +156,7 @@ fn push_joined(
 ///
 /// # Errors
 /// `NoMemory` if there isn't enough memory.
-pub fn joined(
+pub fn merged_with_each(
     alloc: Global,
     limit: u32,
     terms: &[Term],
@@ -173,7 +173,7 @@ pub fn joined(
     for choice in choices {
         match clash(limit, terms, choice.as_slice(), first) {
             Some(place) => first = place,
-            None => push_joined(&mut found, alloc, limit, terms, choice.as_slice())?,
+            None => push_merged(&mut found, alloc, limit, terms, choice.as_slice())?,
         }
     }
     Ok(found)

@@ -26,16 +26,16 @@ returns-then-problem-eq0-clause-gathers c =
     let problem = c.args.front.now.request.problem.now in
     let tables = c.args.front.now.request.tables.now in
     let is_table = front-table c.args.front.now c.requires.front in
-    on_ok c.keep_open.result (entries_relevant c.args.front.now.request.problem.now c.args.front.now.request.tables.now
+    on_ok c.keep_open_macro.result (entries_relevant c.args.front.now.request.problem.now c.args.front.now.request.tables.now
     c.args.front.now.request.wanted.now c.args.front.now.request.stack.now c.args.front.now.request.model.now.atoms
     (λ (entry : Entry). Macro c.args.front.now.number c.args.front.now.count c.deref.result.now ≡ entry)
-    (IsOfFront c.args.front.now.number c.args.front.now.count) c.args.found.now.items c.keep_open.new.found.items
+    (IsOfFront c.args.front.now.number c.args.front.now.count) c.args.found.now.items c.keep_open_macro.new.found.items
     (λ entry relevant of. ap (λ (l : List ℕ). Macro c.args.front.now.number c.args.front.now.count l)
     (c.deref.ensures.value ∙ c.in_ok-sigma.ensures)
     ∙ of_zeros problem tables c.args.front.now.request.wanted.now c.args.front.now.request.stack.now c.args.front.now.number
     c.args.front.now.count c.args.front.now.table.now c.requires.front.table is_table c.args.front.now.start.now c.requires.front.first
     c.if-problem-eq0.true entry relevant of))
-    c.keep_open.ensures.gathers
+    c.keep_open_macro.ensures.gathers
 
 pub macro_matches-requires-clause-problem : goal.macro_matches-requires-clause-problem
 macro_matches-requires-clause-problem c = c.requires.front.problem
@@ -118,7 +118,8 @@ returns-in-Some-clause-gathers c =
     let told = some_found (AreTableChoices problem model table) c.args.rows.now found c.in-Some.is c.requires.rows in
     let known = rows-taken s table told.terms (length table.steps) count found.choices found.limited c.requires.front.within told.known in
     let matched =
-    matches-as problem wanted count c.args.front.now.start.now c.as_slice.result.now table.steps c.in_ok-made.made.items c.as_slice.ensures c.in_ok-made.ensures in
+    matches-as problem wanted count c.args.front.now.start.now c.as_slice.result.now table.steps c.in_ok-made.made.items c.as_slice.ensures
+    c.in_ok-made.ensures in
     on_ok c.keep_matches.result (λ gathers.
     wide-gather problem tables wanted stack number count table c.requires.front.table is_table model told.set told.terms told.unbound
     told.some_object (take count found.choices)
@@ -138,7 +139,8 @@ returns-clause-gathers c =
     let table = c.args.front.now.table.now in
     let is_table = front-table c.args.front.now c.requires.front in
     let matched =
-    matches-as problem wanted c.args.front.now.count c.args.front.now.start.now c.as_slice.result.now table.steps c.in_ok-made.made.items c.as_slice.ensures c.in_ok-made.ensures in
+    matches-as problem wanted c.args.front.now.count c.args.front.now.start.now c.as_slice.result.now table.steps c.in_ok-made.made.items
+    c.as_slice.ensures c.in_ok-made.ensures in
     on_ok c.keep_listed.result (λ gathers. entries_relevant c.args.front.now.request.problem.now c.args.front.now.request.tables.now
     c.args.front.now.request.wanted.now c.args.front.now.request.stack.now c.args.front.now.request.model.now.atoms
     (λ (entry : Entry). OneOf c.in_ok-made.made.items

@@ -2,7 +2,7 @@ use Rattle.std.proofs.Common.{[], List, take, length}
 use Rattle.px_terms.specs.declared.term.Term.{Term}
 use Rattle.px_gaps.specs.Closings.{OneOf}
 use Rattle.px_entries.specs.Parameters.{FitsTerms, Matches}
-use Rattle.px_entries.proofs.parameters.joined.Given as goal
+use Rattle.px_entries.proofs.parameters.merged_with_each.Given as goal
 
 abbrev pub invariant-loop-choice : goal.invariant-loop-choice
 invariant-loop-choice l =

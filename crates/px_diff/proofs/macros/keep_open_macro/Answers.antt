@@ -6,7 +6,7 @@ use Rattle.px_diff.specs.Pushes.{IsRelevant}
 use Rattle.px_diff.proofs.EntryLemmas.{relevant_macro}
 use Rattle.px_diff.proofs.GatherLemmas.{irrelevant-none}
 use Rattle.px_base.proofs.Loops.{said_no, said_yes}
-use Rattle.px_diff.proofs.macros.keep_open.Goals as goal
+use Rattle.px_diff.proofs.macros.keep_open_macro.Goals as goal
 
 pub returns-then-not-is_macro_of-clause-gathers : goal.returns-then-not-is_macro_of-clause-gathers
 returns-then-not-is_macro_of-clause-gathers c =
@@ -29,13 +29,14 @@ returns-then-not-branch-clause-gathers c =
     (subst (IsRelevant c.args.front.now.request.problem.now c.args.front.now.request.tables.now c.args.front.now.request.wanted.now
     c.args.front.now.request.stack.now) (sym c.in_ok-entry.ensures) relevant))
 
-pub keep_relevant-requires-clause-relevant : goal.keep_relevant-requires-clause-relevant
-keep_relevant-requires-clause-relevant c =
+pub keep_relevant_macro-requires-clause-relevant : goal.keep_relevant_macro-requires-clause-relevant
+keep_relevant_macro-requires-clause-relevant c =
     said_yes c.in_ok-is_relevant_macro.field-0 c.in_ok-is_relevant_macro.ensures c.if-not-branch.false
 
 pub returns-clause-gathers : goal.returns-clause-gathers
 returns-clause-gathers c =
-    subst (λ (e : Entry). OnOk c.keep_relevant.result
+    subst (λ (e : Entry). OnOk c.keep_relevant_macro.result
     (GathersEntries c.args.front.now.request.problem.now c.args.front.now.request.tables.now c.args.front.now.request.wanted.now
     c.args.front.now.request.stack.now c.args.front.now.request.model.now.atoms
-    (λ other. e ≡ other) c.args.found.now.items c.keep_relevant.new.found.items)) c.in_ok-entry.ensures c.keep_relevant.ensures.gathers
+    (λ other. e ≡ other) c.args.found.now.items c.keep_relevant_macro.new.found.items)) c.in_ok-entry.ensures
+    c.keep_relevant_macro.ensures.gathers

@@ -3,8 +3,8 @@ use Rattle.px_terms.specs.declared.term.Term.{Term}
 use Rattle.px_gaps.specs.Closings.{OneOf}
 use Rattle.px_entries.specs.Parameters.{FitsTerms, Matches}
 use Rattle.px_entries.proofs.MatchLemmas.{matches_next, matches_none, matches_whole}
-use Rattle.px_entries.proofs.parameters.joined.Goals as goal
-use Rattle.px_entries.proofs.parameters.joined.Goals.{in-Some, in-None+in_ok-push_joined-in-None}
+use Rattle.px_entries.proofs.parameters.merged_with_each.Goals as goal
+use Rattle.px_entries.proofs.parameters.merged_with_each.Goals.{in-Some, in-None+in_ok-push_merged-in-None}
 
 pub loop-choice-preserved : goal.loop-choice-preserved
 loop-choice-preserved c =
@@ -22,9 +22,9 @@ loop-choice-preserved c =
           c.loop-choice.found.items
           (λ sigma extends fits. w.in-Some.ensures sigma extends
           (subst (λ (l : List Term). FitsTerms l sigma) (sym c.as_slice.ensures) fits))))
-      | in-None+in_ok-push_joined-in-None w ↦ subst After (sym (ap (λ r. r.items) w.found-is))
-          (next w.push_joined.new.found.items (subst (λ (l : List Term). Matches c.args.limit (length terms) terms (FitsTerms l)
-          c.loop-choice.found.items w.push_joined.new.found.items) w.as_slice-in-None.ensures w.in_ok-push_joined-in-None.ensures))
+      | in-None+in_ok-push_merged-in-None w ↦ subst After (sym (ap (λ r. r.items) w.found-is))
+          (next w.push_merged.new.found.items (subst (λ (l : List Term). Matches c.args.limit (length terms) terms (FitsTerms l)
+          c.loop-choice.found.items w.push_merged.new.found.items) w.as_slice-in-None.ensures w.in_ok-push_merged-in-None.ensures))
     ]
 
 pub returns : goal.returns
