@@ -132,12 +132,11 @@ AreMatches problem wanted count start steps matches =
     Matches problem.objects (length start) start (λ sigma. OneOf wanted (IsAdded problem (map (instance_under sigma) (take count steps))))
     [] matches
 
-pub matches-as : (problem : Problem) (wanted : List Atom) (count : ℕ) (terms start : List Term) (steps all : List OpInst)
-    (matches : List (List Term)) → terms ≡ start → steps ≡ all → AreMatches problem wanted count terms steps matches
+pub matches-as : (problem : Problem) (wanted : List Atom) (count : ℕ) (start : List Term) (steps all : List OpInst)
+    (matches : List (List Term)) → steps ≡ all → AreMatches problem wanted count start steps matches
     → AreMatches problem wanted count start all matches
-matches-as problem wanted count terms start steps all matches same same_steps are =
-    subst (λ (l : List OpInst). AreMatches problem wanted count start l matches) same_steps
-    (subst (λ (l : List Term). AreMatches problem wanted count l steps matches) same are)
+matches-as problem wanted count start steps all matches same_steps are =
+    subst (λ (l : List OpInst). AreMatches problem wanted count start l matches) same_steps are
 
 -- ---- the rows of a whole table
 

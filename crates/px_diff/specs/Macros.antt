@@ -3,6 +3,7 @@ use Rattle.std.specs.Prelude.{◌≡◌, ◌⊎◌, ◌<◌, ◌≤◌, ℕ, Som
 use Rattle.px_table.specs.declared.entry.Entry.{Entry}
 use Rattle.px_table.specs.declared.entry.Entry.TheVariants.{Macro, Op}
 use Rattle.px_table.specs.declared.table.Table.{Table}
+use Rattle.px_table.specs.Prefixes.{IsProperPrefix}
 use Rattle.px_terms.specs.Validity.{IsValid}
 use Rattle.px_terms.specs.declared.atom.Atom.{Atom}
 use Rattle.px_terms.specs.declared.instance.OpInst.{OpInst}
@@ -14,7 +15,7 @@ use Rattle.px_entries.specs.Entries.{obligations_of}
 use Rattle.px_entries.specs.Learned.{AreLearned}
 use Rattle.px_diff.specs.MacroOpen.{FactsSuffice}
 use Rattle.px_entries.specs.Unlimited.{IsNeverLimited}
-use Rattle.px_entries.specs.Parameters.{FitsTerms}
+use Rattle.px_entries.specs.Parameters.{AreFirstTerms}
 use Rattle.px_diff.specs.RowQuestions.{FitsEach}
 use Rattle.px_diff.specs.Pushes.{IsPushable, IsRelevant}
 use Rattle.px_gaps.specs.Questions.{AreUnlimited}
@@ -60,19 +61,16 @@ abbrev pub IsMacroTold : ℕ → ℕ → ℕ → List (List (List Term)) → Lis
 IsMacroTold limit number prefix rows limited terms entry = IsMacroLimited limit number prefix terms limited entry
     ⊎ IsMacroFitting limit number prefix terms rows entry
 
--- `prefix` steps with objects that extend the terms, and fit one of these choices and one of the choices of each row
-abbrev pub IsMacroAmong : ℕ → ℕ → ℕ → List Term → List (List Term) → List (List (List Term)) → Entry → Type 0
-IsMacroAmong limit number prefix terms choices rows entry =
-    (sigma : List ℕ) × ExtendsTerms limit terms sigma × OneOf choices (λ (choice : List Term). FitsTerms choice sigma) × FitsEach rows sigma
-    × (Macro number prefix sigma ≡ entry)
-
--- two or more of the first steps of the table of that number, which is learned; where it is said that the facts suffice, they do
+-- Two or more of the first steps of the table of that number, which is learned, with their first terms. Where it is said that they keep
+-- their marks, or that the facts suffice, this is so.
 pub record IsMacroFront (front : Front) : Type 0 where
   pub problem : IsValid front.request.problem.now
   pub tables : AreLearned front.request.problem.now front.request.tables.now
   pub table : slice_get front.request.tables.now front.number ≡ Some front.table.now
   pub several : 2 ≤ front.count
   pub within : front.count ≤ length front.table.now.steps
+  pub first : AreFirstTerms front.table.now front.count front.start.now
+  pub keeps : front.keeps_marks ≡ true → (sigma : List ℕ) → IsProperPrefix front.request.problem.now front.table.now front.count sigma
   pub suffice : front.facts_suffice ≡ true → IsNeverLimited front.request.problem.now front.request.tables.now
       × FactsSuffice front.request.problem.now front.table.now
 

@@ -70,7 +70,7 @@ fn come_before_all(problem: &Problem, insts: &[OpInst], later: &[PartialInstance
 }
 
 /// Puts the instances in order, each once.
-fn order(found: &mut Vec<OpInst>)
+fn order_instances(found: &mut Vec<OpInst>)
     ensures members { (inst : InstanceValue) → Contains found.new.items inst ↔ Contains found.old.items inst }
     ensures ordered { IsStrictlySortedBy instance_cmp found.new.items }
 {
@@ -80,7 +80,7 @@ fn order(found: &mut Vec<OpInst>)
 
 /// Returns whether there are enough instances, and all come before each that one of the partial ones stands for. If so, they are in order,
 /// each once.
-fn can_leave_off(
+fn can_leave_off_matches(
     found: &mut Vec<OpInst>,
     problem: &Problem,
     later: &[PartialInstance],
@@ -94,7 +94,7 @@ fn can_leave_off(
     if found.len() < enough || !come_before_all(problem, found, later) {
         return false;
     }
-    order(found);
+    order_instances(found);
     found.len() >= enough && come_before_all(problem, found, later)
 }
 
@@ -118,7 +118,7 @@ pub fn gather_first(
     ensures limited { IfStopped result (LimitsFor request.now) }
 {
     for place in 0..matches.len() {
-        if can_leave_off(found, request.problem, &matches[place..], enough) {
+        if can_leave_off_matches(found, request.problem, &matches[place..], enough) {
             return Ok(false);
         }
         gather(asker, found, request, bounds, &matches[place])?;

@@ -11,11 +11,13 @@ ghost use Rattle.px_diff.specs.Outcomes.{IfStopped};
 ghost use Rattle.px_diff.specs.Requests.{LimitsFor};
 
 use crate::front::Front;
+use crate::front_macros::keep_marks;
 use crate::macro_open::facts_suffice;
 use crate::macros::{choices_of_table, gather_front};
 use crate::move_err::MoveErr;
-use crate::pushes::order;
+use crate::pushes::order_entries;
 use crate::request::Request;
+use px_entries::first_terms;
 use px_gaps::Asker;
 use px_table::Entry;
 
@@ -44,7 +46,7 @@ fn are_before_front(entries: &[Entry], number: u32, count: u32) -> bool
 
 /// Returns whether there are enough entries, and all come before this many first steps of the table of this number. If so, they are in
 /// order, each once.
-fn can_leave_off(found: &mut Vec<Entry>, number: u32, count: u32, enough: usize) -> bool
+fn can_leave_off_steps(found: &mut Vec<Entry>, number: u32, count: u32, enough: usize) -> bool
     ensures members { (entry : EntryValue) → Contains found.new.items entry ↔ Contains found.old.items entry }
     ensures enough { IsTrue result → AreEnough order_of_entries enough found.new.items }
     ensures before { IsTrue result → All (IsBeforeFront number count) found.new.items }
@@ -52,7 +54,7 @@ fn can_leave_off(found: &mut Vec<Entry>, number: u32, count: u32, enough: usize)
     if found.len() < enough || !are_before_front(found, number, count) {
         return false;
     }
-    order(found);
+    order_entries(found);
     found.len() >= enough && are_before_front(found, number, count)
 }
 
@@ -75,7 +77,7 @@ fn gather_first_table(
         (BringsFirstEntries request.now enough (IsOfTableFrom number) found.old.items found.new.items)) }
     ensures limited { IfStopped result (LimitsFor request.now) }
 {
-    if can_leave_off(found, number, 0, enough) {
+    if can_leave_off_steps(found, number, 0, enough) {
         return Ok(false);
     }
     let table = &request.tables[number as usize];
@@ -84,15 +86,18 @@ fn gather_first_table(
     let suffice = facts_suffice(request.problem, table);
     let steps = table.steps.len() as u32;
     for count in 2..steps + 1 {
-        if can_leave_off(found, number, count, enough) {
+        if can_leave_off_steps(found, number, count, enough) {
             return Ok(false);
         }
+        let start = first_terms(asker.alloc, table, count)?;
         let front = Front {
             alloc: asker.alloc,
             request: *request,
             number,
             table,
             count,
+            start: start.as_slice(),
+            keeps_marks: keep_marks(request.problem, table, count),
             facts_suffice: suffice,
         };
         gather_front(found, &front, rows)?;

@@ -20,7 +20,7 @@ use crate::first::First;
 use crate::first_instances::gather_first;
 use crate::first_macros::gather_first_tables;
 use crate::move_err::MoveErr;
-use crate::pushes::{entries_of, order};
+use crate::pushes::{entries_of, order_entries};
 use crate::request::Request;
 use px_entries::{PartialInstance, matches_of};
 use px_gaps::{Asker, Bounds};
@@ -79,7 +79,7 @@ fn first_for(asker: &mut Asker, request: &Request, enough: usize) -> Result<Firs
     if !is_all {
         return Ok(First { entries, is_all });
     }
-    order(&mut entries);
+    order_entries(&mut entries);
     Ok(First { entries, is_all })
 }
 

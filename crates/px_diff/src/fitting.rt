@@ -2,7 +2,7 @@
 ghost use Rattle.std.specs.Prelude.{◌≡◌, ◌<◌, ◌++◌, ◌+◌, List, length, take, drop, All, IfSome, IfOk};
 ghost use Rattle.px_terms.specs.declared.term.Term.{Term as TermValue};
 
-use px_entries::can_fit;
+use px_entries::clash;
 use px_terms::{NoMemory, Sequence, Term};
 use std::alloc::Global;
 
@@ -11,12 +11,15 @@ fn count_fitting(objects: u32, terms: &[Term], choices: &[Sequence<Term>], most:
     requires long { All (λ (choice : List TermValue). length choice ≡ length terms.now) choices.now }
 {
     let mut count = 0;
+    // most choices clash where the one before does
+    let mut first = 0;
     for choice in choices {
         if count >= most {
             return count;
         }
-        if can_fit(objects, terms, choice.as_slice()) {
-            count += 1;
+        match clash(objects, terms, choice.as_slice(), first) {
+            Some(place) => first = place,
+            None => count += 1,
         }
     }
     count

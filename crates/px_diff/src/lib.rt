@@ -9,9 +9,9 @@
 //!   `known_entry` of `px_entries`.
 //! - It has a valid problem as its condition. It stops with [`MoveErr::ShapeLimit`] where a question meets the shape limit. This
 //!   error has the question, the formula at which it does, which is the question's own or one atom that a gap would close, and the first
-//!   shapes (`MetLimit` of `px_gaps`). `relevant` asks, of each entry that isn't on the stack and adds a wanted atom, whether each formula that it needs has
-//!   an answer, and where it has none, for its gaps. An `Ok` says that no question meets the limit. Whether `relevant` meets it
-//!   doesn't depend on the order in which it works.
+//!   shapes (`MetLimit` of `px_gaps`). `relevant` asks, of each entry that isn't on the stack and adds a wanted atom, whether each formula
+//!   that it needs has an answer, and where it has none, for its gaps. An `Ok` says that no question meets the limit. Whether `relevant`
+//!   meets it doesn't depend on the order in which it works.
 //! - Models with the same deciding facts (`deciding_part` of `px_entries`) allow the same pushes ([`relevance_over_models`]).
 //! - A search that has no room for all that may be pushed asks [`relevant_first`]: where no question about an entry is ever limited, it
 //!   returns the first of what `relevant` returns for an empty stack, in the same order: all, or at least as many as are wanted. It
@@ -25,8 +25,8 @@
 //!   close whether they have a proof. No clause of the call speaks of this number.
 //!
 //! The definitions are in `specs/`: `Pushes` (which entries are relevant, which may be pushed, and where that meets the limit),
-//! `Outcomes` (what an error says), `Stacks` and `Models` (the laws). Only private functions cite the others. Laws for callers are in `proofs/`: `Opening` (when an
-//! operator's instance is open).
+//! `Outcomes` (what an error says), `Stacks` and `Models` (the laws). Only private functions cite the others. Laws for callers are in
+//! `proofs/`: `Opening` (when an operator's instance is open).
 //!
 //! Internally `relevant` matches what operators add with the wanted atoms (`matches_of` of `px_entries`). One question of gaps is
 //! asked for each match. An atom whose predicate some operator adds, and no axiom concludes, is a fact or a gap closes it, so it
@@ -45,7 +45,8 @@
 //! first steps. One question of gaps is asked for each row, from the whole model (`row_questions`). A MACROP's row is proved
 //! from what the steps before it leave of the model, so it has no more shapes than that question, and nothing that the question
 //! doesn't offer. What is provable from the whole model says nothing of it, so nothing is left out for that. The objects that
-//! the rows offer are joined, a row with few choices first (`fitting`), so that tuples of objects aren't listed. Each
+//! the rows offer are joined, a row with few choices first (`fitting`), so that tuples of objects aren't listed. Which parameters the
+//! first steps use, and whether a step may delete a mark at all, is found once for all objects (`front_macros`). Each
 //! MACROP that comes out is tried by itself, by the calls for one entry, whose questions aren't counted (`macros`). `relevant` asks nothing
 //! about the rows of a table with at most 256 choices of objects: it tries each of its MACROPs by itself.
 //!
@@ -62,6 +63,7 @@ mod first_macros;
 mod firsts;
 mod fitting;
 mod front;
+mod front_macros;
 mod laws;
 mod macro_open;
 mod macros;

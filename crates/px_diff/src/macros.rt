@@ -16,6 +16,7 @@ ghost use Rattle.px_diff.specs.RowQuestions.{AreTableChoices};
 
 use crate::fitting::{fewest, numbers_below, without_place};
 use crate::front::Front;
+use crate::front_macros::{is_macro_of, keep_marks};
 use crate::macro_open::are_settled_marks;
 use crate::move_err::MoveErr;
 use crate::pushes::are_few;
@@ -26,12 +27,12 @@ use crate::row_questions::choices_of_rows;
 use crate::sorted::{parameter_sort, steps_may_fit};
 use px_base::push;
 use px_entries::{
-    add_wanted, first_terms, first_unbound, known_entry, macro_matches, merged, objects_of,
+    add_wanted, first_terms, first_unbound, known_entry, macro_matches, merged_with_each, objects_of,
     steps_with,
 };
 use px_gaps::{Asker, Known, bound, unbound};
 use px_prover::MOST_GAP_VARIABLES;
-use px_table::{Entry, Table, is_macro};
+use px_table::{Entry, Table};
 use px_terms::{Atom, NoMemory, OpInst, Problem, Sequence, Term, fits_sort};
 use std::alloc::Global;
 
@@ -90,7 +91,7 @@ fn keep_known(found: &mut Vec<Entry>, front: &Front, entry: Entry) -> Result<(),
 }
 
 /// Adds the relevant entry of the first steps with these objects where it may be pushed, as the facts show, where they suffice.
-fn keep_relevant(
+fn keep_relevant_macro(
     found: &mut Vec<Entry>,
     front: &Front,
     sigma: &[u32],
@@ -119,21 +120,20 @@ fn keep_relevant(
 }
 
 /// Adds the entry of the first steps with these objects where it is one that may be pushed.
-fn keep_open(found: &mut Vec<Entry>, front: &Front, sigma: &[u32]) -> Result<(), MoveErr>
+fn keep_open_macro(found: &mut Vec<Entry>, front: &Front, sigma: &[u32]) -> Result<(), MoveErr>
     requires front { IsMacroFront front.now }
     ensures gathers { OnOk result (GathersEntriesFor front.now.request (λ other. Macro front.now.number front.now.count sigma.now ≡ other)
         found.old.items found.new.items) }
     ensures limited { IfStopped result (LimitsFor front.now.request) }
 {
-    let is_one = is_macro(front.request.problem, front.table, front.count, sigma);
-    if !is_one {
+    if !is_macro_of(front, sigma) {
         return Ok(());
     }
     let entry = entry_of(front, sigma)?;
     if !is_relevant_macro(front, sigma, &entry)? {
         return Ok(());
     }
-    keep_relevant(found, front, sigma, entry)
+    keep_relevant_macro(found, front, sigma, entry)
 }
 
 /// Adds those of the entries of the first steps, with the objects that are chosen, that may be pushed. Each recursive call has one
@@ -152,7 +152,7 @@ fn keep_all(found: &mut Vec<Entry>, front: &Front, terms: &[Term]) -> Result<(),
         Some(parameter) => parameter,
         None => {
             let sigma = objects_of(front.alloc, terms)?;
-            return keep_open(found, front, sigma.as_slice());
+            return keep_open_macro(found, front, sigma.as_slice());
         }
     };
     let problem = front.request.problem;
@@ -192,11 +192,10 @@ fn keep_by_rows(
     };
     let others = without_place(front.alloc, numbers, place)?;
     let choices = rows[numbers[place]].as_slice();
-    for choice in choices {
-        match merged(front.alloc, limit, terms, choice.as_slice())? {
-            Some(next) => keep_by_rows(found, front, &next, rows, &others)?,
-            None => {}
-        }
+    let made = merged_with_each(front.alloc, limit, terms, choices)?;
+    let joins = made.as_slice();
+    for next in joins {
+        keep_by_rows(found, front, next.as_slice(), rows, &others)?;
     }
     Ok(())
 }
@@ -301,15 +300,19 @@ pub fn gather_front(
     ensures limited { IfStopped result (LimitsFor front.now.request) }
 {
     let problem = front.request.problem;
-    let start = first_terms(front.alloc, front.table, front.count)?;
-    let terms = start.as_slice();
     if problem.objects == 0 {
-        let sigma = objects_of(front.alloc, terms)?;
-        return keep_open(found, front, &sigma);
+        let sigma = objects_of(front.alloc, front.start)?;
+        return keep_open_macro(found, front, &sigma);
     }
     let count = front.count as usize;
     let steps = &front.table.steps.as_slice()[..count];
-    let made = macro_matches(front.alloc, problem, terms, steps, front.request.wanted)?;
+    let made = macro_matches(
+        front.alloc,
+        problem,
+        front.start,
+        steps,
+        front.request.wanted,
+    )?;
     let matches = made.as_slice();
     match rows {
         Some(known) => {
@@ -406,12 +409,15 @@ fn gather_table(
     let rows = &made;
     let steps = table.steps.len() as u32;
     for count in 2..steps + 1 {
+        let start = first_terms(asker.alloc, table, count)?;
         let front = Front {
             alloc: asker.alloc,
             request: *request,
             number,
             table,
             count,
+            start: start.as_slice(),
+            keeps_marks: keep_marks(request.problem, table, count),
             facts_suffice: false,
         };
         gather_front(found, &front, rows)?;

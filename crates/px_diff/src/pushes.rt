@@ -262,7 +262,7 @@ pub fn entries_of(alloc: Global, insts: &[OpInst]) -> Result<Vec<Entry>, NoMemor
 }
 
 /// Puts the entries in order, each once.
-pub fn order(found: &mut Vec<Entry>)
+pub fn order_entries(found: &mut Vec<Entry>)
     ensures members { (entry : Entry) → Contains found.new.items entry ↔ Contains found.old.items entry }
     ensures ordered { IsStrictlySortedBy order_of_entries found.new.items }
 {
@@ -286,7 +286,7 @@ fn pushable_for(asker: &mut Asker, request: &Request) -> Result<Vec<Entry>, Move
     gather_matches(asker, &mut found, request, &bounds, &matches)?;
     let mut entries = entries_of(asker.alloc, &found)?;
     gather_tables(asker, &mut entries, request)?;
-    order(&mut entries);
+    order_entries(&mut entries);
     Ok(entries)
 }
 

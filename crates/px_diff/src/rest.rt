@@ -69,8 +69,8 @@ pub fn rest_answer(
     requires formula { All (IsAtomOf request.now.problem.now vars) formula.now }
     requires few_variables { vars ≤ most_gap_variables }
     requires some_object { 0 < vars → 0 < request.now.problem.now.objects }
-    ensures { IfOk result (λ found. IfSome found (λ answer. IsReorderedAnswer request.now.problem.now request.now.model.now.atoms formula.now
-        vars answer.patterns.items answer.provable.atoms)) }
+    ensures { IfOk result (λ found. IfSome found (λ answer. IsReorderedAnswer request.now.problem.now request.now.model.now.atoms
+        formula.now vars answer.patterns.items answer.provable.atoms)) }
 {
     if !bounds.has_few(request.problem, formula) {
         return Ok(None);

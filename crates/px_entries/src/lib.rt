@@ -59,6 +59,6 @@ pub use limiting::never_limited;
 pub use macro_matching::macro_matches;
 pub use macro_steps::{add_wanted, steps_with};
 pub use matching::matches_of;
-pub use parameters::{can_fit, first_terms, first_unbound, merged, objects_of};
+pub use parameters::{clash, first_terms, first_unbound, merged, merged_with_each, objects_of};
 pub use partial::PartialInstance;
 pub use plain::{axioms_mention_addable, is_settled, known_below};

@@ -76,7 +76,7 @@ fn fit_atom(limit: u32, terms: &mut [Term], pattern: &Atom, wanted: &Atom) -> bo
 }
 
 /// Adds the match of the pattern with the wanted atom.
-fn match_pattern(
+fn fit_pattern(
     found: &mut Vec<Sequence<Term>>,
     alloc: Global,
     limit: u32,
@@ -148,7 +148,7 @@ fn match_add(
     if one_always_deletes(problem, later, add) {
         return Ok(());
     }
-    match_pattern(found, alloc, problem.objects, start, add, wanted)
+    fit_pattern(found, alloc, problem.objects, start, add, wanted)
 }
 
 /// Adds the matches of what the step adds, and no later one deletes, with the wanted atom.

@@ -1,13 +1,16 @@
 //! Objects for a table's parameters, chosen one after the other.
-ghost use Rattle.std.specs.Prelude.{◌≡◌, ℕ, List, Some, length, slice_get, All, IfSome, IfNone, IfOk, IsSomeAnd, IsTrue};
+ghost use Rattle.std.specs.Prelude.{◌≡◌, ◌<◌, ℕ, List, [], Some, length, slice_get, All, IfSome, IfNone, IfOk, IsSomeAnd, IsTrue, OnOk};
 ghost use Rattle.px_terms.specs.Language.{IsObject};
+ghost use Rattle.px_terms.specs.declared.term.Term.{Term as TermValue};
 ghost use Rattle.px_terms.specs.declared.term.Term.TheVariants.{Var};
 ghost use Rattle.px_gaps.specs.Bindings.{ExtendsTerms, IsBinding, first_values};
-ghost use Rattle.px_entries.specs.Parameters.{AreFirstTerms, FitsTerms, IsFirstTerm, merged_term as merged_by};
+ghost use Rattle.px_gaps.specs.Closings.{OneOf};
+ghost use Rattle.px_entries.specs.Parameters.{AreFirstTerms, FitsTerms, IsFirstTerm, Matches, merged_term as merged_by};
 
+use px_base::push;
 use px_gaps::first_variable;
 use px_table::{Table, is_used};
-use px_terms::{NoMemory, Term, object_of};
+use px_terms::{NoMemory, Sequence, Term, object_of};
 use std::alloc::Global;
 
 /// Returns the parameter itself where the first steps use it, else object 0.
@@ -74,17 +77,30 @@ pub fn merged_term(limit: u32, term: Term, other: Term) -> Option<Term>
     }
 }
 
-/// Returns whether objects of the problem can fit both the terms and the others. `true` alone doesn't say that some do. Does not allocate.
-pub fn can_fit(limit: u32, terms: &[Term], others: &[Term]) -> bool
-    requires { length others.now ≡ length terms.now }
-    ensures { (sigma : List ℕ) → ExtendsTerms limit terms.now sigma → FitsTerms others.now sigma → IsTrue result }
+/// Returns whether no object of the problem fits both terms at the place.
+fn clashes_at(limit: u32, terms: &[Term], others: &[Term], place: usize) -> bool
+    requires long { length others.now ≡ length terms.now }
+    requires within { place < length terms.now }
+    ensures { IsTrue result → (sigma : List ℕ) → ExtendsTerms limit terms.now sigma → ¬ FitsTerms others.now sigma }
 {
+    merged_term(limit, terms[place], others[place]).is_none()
+}
+
+/// Returns a place at which no object of the problem fits both the terms and the others, if there is one. It looks at the place `first`
+/// before all others. `None` alone doesn't say that some objects fit both. Does not allocate.
+pub fn clash(limit: u32, terms: &[Term], others: &[Term], first: usize) -> Option<usize>
+    requires { length others.now ≡ length terms.now }
+    ensures { IfSome result (λ place. (sigma : List ℕ) → ExtendsTerms limit terms.now sigma → ¬ FitsTerms others.now sigma) }
+{
+    if first < terms.len() && clashes_at(limit, terms, others, first) {
+        return Some(first);
+    }
     for place in 0..terms.len() {
-        if merged_term(limit, terms[place], others[place]).is_none() {
-            return false;
+        if clashes_at(limit, terms, others, place) {
+            return Some(place);
         }
     }
-    true
+    None
 }
 
 /// Returns the terms with the objects of the others besides their own, or `None` if no objects of the problem fit both.
@@ -103,7 +119,7 @@ pub fn merged(
     ensures fits { IfOk result (λ merged. (sigma : List ℕ) → ExtendsTerms limit terms.now sigma → FitsTerms others.now sigma
         → IsSomeAnd merged (λ next. ExtendsTerms limit next.items sigma)) }
 {
-    if !can_fit(limit, terms, others) {
+    if clash(limit, terms, others, 0).is_some() {
         return Ok(None);
     }
     let mut next = Vec::new(alloc);
@@ -116,4 +132,49 @@ pub fn merged(
         next.push(term)?;
     }
     Ok(Some(next))
+}
+
+/// Appends the terms with the objects of the choice besides their own, where some objects may fit both.
+fn push_merged(
+    found: &mut Vec<Sequence<Term>>,
+    alloc: Global,
+    limit: u32,
+    terms: &[Term],
+    choice: &[Term],
+) -> Result<(), NoMemory>
+    requires long { length choice.now ≡ length terms.now }
+    requires binding { IsBinding limit terms.now }
+    ensures { OnOk result (Matches limit (length terms.now) terms.now (FitsTerms choice.now) found.old.items found.new.items) }
+{
+    match merged(alloc, limit, terms, choice)? {
+        Some(next) => push(found, Sequence::from_vec(next)),
+        None => Ok(()),
+    }
+}
+
+/// Returns the terms with the objects of each of the choices besides their own, but for choices that fit no objects that they have.
+///
+/// # Errors
+/// `NoMemory` if there isn't enough memory.
+pub fn merged_with_each(
+    alloc: Global,
+    limit: u32,
+    terms: &[Term],
+    choices: &[Sequence<Term>],
+) -> Result<Vec<Sequence<Term>>, NoMemory>
+    requires long { All (λ (choice : List TermValue). length choice ≡ length terms.now) choices.now }
+    requires binding { IsBinding limit terms.now }
+    ensures { IfOk result (λ found. Matches limit (length terms.now) terms.now
+        (λ sigma. OneOf choices.now (λ (choice : List TermValue). FitsTerms choice sigma)) [] found.items) }
+{
+    let mut found = Vec::new(alloc);
+    // most choices clash where the one before does
+    let mut first = 0;
+    for choice in choices {
+        match clash(limit, terms, choice.as_slice(), first) {
+            Some(place) => first = place,
+            None => push_merged(&mut found, alloc, limit, terms, choice.as_slice())?,
+        }
+    }
+    Ok(found)
 }

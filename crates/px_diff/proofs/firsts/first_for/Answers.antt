@@ -30,8 +30,9 @@ returns-then-not-is_all-clause-order c =
 
 pub returns-clause-first : goal.returns-clause-first
 returns-clause-first c =
-    first-ordered c.args.request.now c.args.enough c.in_ok-is_all.is_all c.gather_first_tables.new.found.items c.order.new.found.items
-    c.if-not-is_all.false c.order.ensures.members
+    first-ordered c.args.request.now c.args.enough c.in_ok-is_all.is_all c.gather_first_tables.new.found.items
+    c.order_entries.new.found.items
+    c.if-not-is_all.false c.order_entries.ensures.members
     (first-macros c.args.request.now c.args.enough c.in_ok-first.first.is_all c.in_ok-is_all.is_all c.in_ok-first.first.entries.items
     c.gather_first_tables.new.found.items
     c.if-not-first.false c.in_ok-first.ensures.gathers c.in_ok-is_all.ensures.gathers)

@@ -74,8 +74,8 @@ returns-clause-gathers t c =
 
 pub returns-in-None-clause-gathers : goal.returns-in-None-clause-gathers
 returns-in-None-clause-gathers t c =
-    on_ok c.keep_open.result (objects-closed c.args.front.now.request.problem.now c.args.front.now.request.tables.now
+    on_ok c.keep_open_macro.result (objects-closed c.args.front.now.request.problem.now c.args.front.now.request.tables.now
     c.args.front.now.request.wanted.now c.args.front.now.request.stack.now c.args.front.now.request.model.now.atoms
     c.args.front.now.number c.args.front.now.count c.args.terms.now c.as_slice.result.now c.args.found.now.items
-    c.keep_open.new.found.items c.in-None.ensures.none (c.as_slice.ensures.value ∙ c.in_ok-sigma-in-None.ensures))
-    c.keep_open.ensures.gathers
+    c.keep_open_macro.new.found.items c.in-None.ensures.none (c.as_slice.ensures.value ∙ c.in_ok-sigma-in-None.ensures))
+    c.keep_open_macro.ensures.gathers

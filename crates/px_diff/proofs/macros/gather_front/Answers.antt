@@ -26,16 +26,16 @@ returns-then-problem-eq0-clause-gathers c =
     let problem = c.args.front.now.request.problem.now in
     let tables = c.args.front.now.request.tables.now in
     let is_table = front-table c.args.front.now c.requires.front in
-    on_ok c.keep_open.result (entries_relevant c.args.front.now.request.problem.now c.args.front.now.request.tables.now
+    on_ok c.keep_open_macro.result (entries_relevant c.args.front.now.request.problem.now c.args.front.now.request.tables.now
     c.args.front.now.request.wanted.now c.args.front.now.request.stack.now c.args.front.now.request.model.now.atoms
     (λ (entry : Entry). Macro c.args.front.now.number c.args.front.now.count c.deref.result.now ≡ entry)
-    (IsOfFront c.args.front.now.number c.args.front.now.count) c.args.found.now.items c.keep_open.new.found.items
+    (IsOfFront c.args.front.now.number c.args.front.now.count) c.args.found.now.items c.keep_open_macro.new.found.items
     (λ entry relevant of. ap (λ (l : List ℕ). Macro c.args.front.now.number c.args.front.now.count l)
-    (c.deref.ensures.value ∙ c.in_ok-sigma.ensures ∙ ap first_values c.as_slice-terms.ensures.value)
+    (c.deref.ensures.value ∙ c.in_ok-sigma.ensures)
     ∙ of_zeros problem tables c.args.front.now.request.wanted.now c.args.front.now.request.stack.now c.args.front.now.number
-    c.args.front.now.count c.args.front.now.table.now c.requires.front.table is_table c.in_ok-start.start.items c.in_ok-start.ensures
+    c.args.front.now.count c.args.front.now.table.now c.requires.front.table is_table c.args.front.now.start.now c.requires.front.first
     c.if-problem-eq0.true entry relevant of))
-    c.keep_open.ensures.gathers
+    c.keep_open_macro.ensures.gathers
 
 pub macro_matches-requires-clause-problem : goal.macro_matches-requires-clause-problem
 macro_matches-requires-clause-problem c = c.requires.front.problem
@@ -45,7 +45,7 @@ macro_matches-requires-clause-steps c =
     let problem = c.args.front.now.request.problem.now in
     let table = c.args.front.now.table.now in
     let is_table = front-table c.args.front.now c.requires.front in
-    let long : length c.as_slice-terms.result.now ≡ table.params = ap length c.as_slice-terms.ensures.value ∙ c.in_ok-start.ensures.count in
+    let long : length c.args.front.now.start.now ≡ table.params = c.requires.front.first.count in
     subst (λ (n : ℕ). All (IsStepOf problem n) (take c.args.front.now.count c.as_slice.result.now)) (sym long)
     (subst (λ (l : List OpInst). All (IsStepOf problem table.params) (take c.args.front.now.count l)) (sym c.as_slice.ensures)
     (All-take (IsStepOf problem table.params) c.args.front.now.count table.steps is_table.in_range.steps))
@@ -53,16 +53,15 @@ macro_matches-requires-clause-steps c =
 pub macro_matches-requires-clause-binding : goal.macro_matches-requires-clause-binding
 macro_matches-requires-clause-binding c =
     let problem = c.args.front.now.request.problem.now in
-    subst (IsBinding problem.objects) (sym c.as_slice-terms.ensures.value)
-    (first-binding problem c.args.front.now.table.now c.args.front.now.count c.in_ok-start.start.items c.in_ok-start.ensures
-    (omega (arith, c.if-problem-eq0.false)))
+    first-binding problem c.args.front.now.table.now c.args.front.now.count c.args.front.now.start.now c.requires.front.first
+    (omega (arith, c.if-problem-eq0.false))
 
 pub keep_listed-requires-clause-matches : goal.keep_listed-requires-clause-matches
 keep_listed-requires-clause-matches c =
     let problem = c.args.front.now.request.problem.now in
     let table = c.args.front.now.table.now in
-    let long : length c.as_slice-terms.result.now ≡ table.params = ap length c.as_slice-terms.ensures.value ∙ c.in_ok-start.ensures.count in
-    let all = c.in_ok-made.ensures.form (All-nil (IsParameterMatch problem.objects (length c.as_slice-terms.result.now))) in
+    let long : length c.args.front.now.start.now ≡ table.params = c.requires.front.first.count in
+    let all = c.in_ok-made.ensures.form (All-nil (IsParameterMatch problem.objects (length c.args.front.now.start.now))) in
     subst (All (IsParameterMatch problem.objects table.params)) (sym c.as_slice-matches.ensures.value)
     (subst (λ (n : ℕ). All (IsParameterMatch problem.objects n) c.in_ok-made.made.items) long all)
 
@@ -70,8 +69,8 @@ pub keep_matches-requires-clause-matches : goal.keep_matches-requires-clause-mat
 keep_matches-requires-clause-matches c =
     let problem = c.args.front.now.request.problem.now in
     let table = c.args.front.now.table.now in
-    let long : length c.as_slice-terms.result.now ≡ table.params = ap length c.as_slice-terms.ensures.value ∙ c.in_ok-start.ensures.count in
-    let all = c.in_ok-made.ensures.form (All-nil (IsParameterMatch problem.objects (length c.as_slice-terms.result.now))) in
+    let long : length c.args.front.now.start.now ≡ table.params = c.requires.front.first.count in
+    let all = c.in_ok-made.ensures.form (All-nil (IsParameterMatch problem.objects (length c.args.front.now.start.now))) in
     subst (All (IsParameterMatch problem.objects table.params)) (sym c.as_slice-matches.ensures.value)
     (subst (λ (n : ℕ). All (IsParameterMatch problem.objects n) c.in_ok-made.made.items) long all)
 
@@ -119,12 +118,12 @@ returns-in-Some-clause-gathers c =
     let told = some_found (AreTableChoices problem model table) c.args.rows.now found c.in-Some.is c.requires.rows in
     let known = rows-taken s table told.terms (length table.steps) count found.choices found.limited c.requires.front.within told.known in
     let matched =
-    matches-as problem wanted count c.as_slice-terms.result.now c.in_ok-start.start.items c.as_slice.result.now table.steps
-    c.in_ok-made.made.items c.as_slice-terms.ensures.value c.as_slice.ensures c.in_ok-made.ensures in
+    matches-as problem wanted count c.args.front.now.start.now c.as_slice.result.now table.steps c.in_ok-made.made.items c.as_slice.ensures
+    c.in_ok-made.ensures in
     on_ok c.keep_matches.result (λ gathers.
     wide-gather problem tables wanted stack number count table c.requires.front.table is_table model told.set told.terms told.unbound
     told.some_object (take count found.choices)
-    (take count found.limited) known c.in_ok-start.start.items c.in_ok-start.ensures c.in_ok-made.made.items matched
+    (take count found.limited) known c.args.front.now.start.now c.requires.front.first c.in_ok-made.made.items matched
     c.args.found.now.items
     c.keep_matches.new.found.items
     (told-same problem tables wanted stack model number count c.as_slice-matches.result.now c.in_ok-made.made.items
@@ -140,15 +139,15 @@ returns-clause-gathers c =
     let table = c.args.front.now.table.now in
     let is_table = front-table c.args.front.now c.requires.front in
     let matched =
-    matches-as problem wanted c.args.front.now.count c.as_slice-terms.result.now c.in_ok-start.start.items c.as_slice.result.now
-    table.steps c.in_ok-made.made.items c.as_slice-terms.ensures.value c.as_slice.ensures c.in_ok-made.ensures in
+    matches-as problem wanted c.args.front.now.count c.args.front.now.start.now c.as_slice.result.now table.steps c.in_ok-made.made.items
+    c.as_slice.ensures c.in_ok-made.ensures in
     on_ok c.keep_listed.result (λ gathers. entries_relevant c.args.front.now.request.problem.now c.args.front.now.request.tables.now
     c.args.front.now.request.wanted.now c.args.front.now.request.stack.now c.args.front.now.request.model.now.atoms
     (λ (entry : Entry). OneOf c.in_ok-made.made.items
     (λ (terms : List Term). IsMacroBy problem.objects c.args.front.now.number c.args.front.now.count terms entry))
     (IsOfFront c.args.front.now.number c.args.front.now.count) c.args.found.now.items c.keep_listed.new.found.items
     (of_matches problem tables wanted c.args.front.now.request.stack.now c.args.front.now.number c.args.front.now.count table
-    c.requires.front.table is_table c.in_ok-start.start.items c.in_ok-start.ensures c.in_ok-made.made.items
+    c.requires.front.table is_table c.args.front.now.start.now c.requires.front.first c.in_ok-made.made.items
     (omega (arith, c.if-problem-eq0.false)) matched)
     (subst (λ (l : List (List Term)). GathersEntries c.args.front.now.request.problem.now c.args.front.now.request.tables.now
     c.args.front.now.request.wanted.now c.args.front.now.request.stack.now c.args.front.now.request.model.now.atoms

@@ -1,5 +1,6 @@
-use Rattle.std.proofs.Common.{get_or, arith}
+use Rattle.std.proofs.Common.{get_or, sym, subst, arith}
 use Rattle.px_proof.specs.PlaceLaws.{slice_get-read}
+use Rattle.px_entries.specs.Parameters.{AreFirstTerms}
 use Rattle.px_diff.proofs.GatherLemmas.{shorter-all, shorter-next, shorter-none, learned-at}
 use Rattle.px_diff.proofs.macros.gather_table.Goals as goal
 
@@ -24,6 +25,10 @@ gather_front-requires-clause-front c = record {
   table = slice_get-read c.args.request.now.tables.now c.args.number c.index-request-number.result c.requires.number;
   several = omega arith;
   within = omega (arith, c.loop-count-test.true);
+  first =
+      subst (AreFirstTerms (get_or c.args.request.now.tables.now c.args.number c.index-request-number.result) c.loop-count.count)
+      (sym c.as_slice.ensures.value) c.in_ok-start.ensures;
+  keeps = λ e. c.keep_marks.ensures e;
   suffice = λ e. absurd (cc);
 }
 

@@ -48,7 +48,8 @@ keep_open-requires-clause-answer t c =
     let rest =
     subst (λ (l : List Atom). IsReorderedAnswer problem c.args.request.now.model.now.atoms l partial.vars c.in-Some.answer.patterns.items
     c.in-Some.answer.provable.atoms) (c.deref.ensures.value ∙ c.in_ok-formula.ensures)
-    (some_found (λ answer. IsReorderedAnswer problem c.args.request.now.model.now.atoms c.deref.result.now partial.vars answer.patterns.items
+    (some_found (λ answer. IsReorderedAnswer problem c.args.request.now.model.now.atoms c.deref.result.now partial.vars
+    answer.patterns.items
     answer.provable.atoms) c.in_ok-answer.field-0 c.in-Some.answer c.in-Some.is c.in_ok-answer.ensures) in (
       rest.ordered,
       reordered-all (IsAtomOf problem partial.vars) rest.rest rest.ordered rest.reordered

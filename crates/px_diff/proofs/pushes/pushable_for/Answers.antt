@@ -33,7 +33,7 @@ returns-clause-exact c = λ entry.
     whole-exact c.args.request.now.problem.now c.args.request.now.tables.now c.args.request.now.wanted.now c.args.request.now.stack.now
     c.args.request.now.model.now.atoms c.in_ok-entries.entries.items c.gather_tables.new.found.items operators
     c.in_ok-gather_tables.ensures.gathers entry in
-    let members = c.order.ensures.members entry in
+    let members = c.order_entries.ensures.members entry in
     (λ h. found.0 (members.0 h), λ p. members.1 (found.1 p))
 
 pub returns-clause-unlimited : goal.returns-clause-unlimited

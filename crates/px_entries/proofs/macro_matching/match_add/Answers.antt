@@ -21,9 +21,9 @@ returns-then-one_always_deletes c =
 
 pub returns : goal.returns
 returns c =
-    on_ok c.match_pattern.result (λ made.
+    on_ok c.fit_pattern.result (λ made.
     matches_less c.args.problem.now.objects (length c.args.start.now) c.args.start.now
     (λ sigma. substitute_atom (object_terms sigma) c.args.add.now ≡ c.args.wanted.now)
     (λ sigma. IsLeftAdd c.args.problem.now c.args.later.now c.args.wanted.now sigma c.args.add.now) c.args.found.now.items
-    c.match_pattern.new.found.items
-    (λ sigma left. left.0) made) c.match_pattern.ensures
+    c.fit_pattern.new.found.items
+    (λ sigma left. left.0) made) c.fit_pattern.ensures

@@ -8,7 +8,7 @@ use Rattle.px_diff.proofs.EntryLemmas.{entries_closed, entries_one}
 use Rattle.px_diff.proofs.GatherLemmas.{front-table}
 use Rattle.px_diff.proofs.MacroOpen.{macro-told}
 use Rattle.px_entries.proofs.PlainLaws.{some-no, some-yes}
-use Rattle.px_diff.proofs.macros.keep_relevant.Goals as goal
+use Rattle.px_diff.proofs.macros.keep_relevant_macro.Goals as goal
 
 pub returns-in_ok-push-in-Some-true-clause-gathers : goal.returns-in_ok-push-in-Some-true-clause-gathers
 returns-in_ok-push-in-Some-true-clause-gathers c =

@@ -7,7 +7,7 @@ use Rattle.px_gaps.specs.Bindings.{ExtendsTerms, IsBinding, IsPlain}
 use Rattle.px_base.specs.Answers.{both_answers}
 use Rattle.px_base.proofs.Loops.{on_ok}
 use Rattle.px_entries.proofs.MatchLemmas.{matches_none, matches_push}
-use Rattle.px_entries.proofs.macro_matching.match_pattern.Goals as goal
+use Rattle.px_entries.proofs.macro_matching.fit_pattern.Goals as goal
 
 -- what is borrowed whole comes back whole
 lent : (len : ℕ) (new items : List Term) → len ≡ length new → take len (new ++ drop (length new) items) ≡ new

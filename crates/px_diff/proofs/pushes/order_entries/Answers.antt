@@ -1,7 +1,7 @@
 use Rattle.std.proofs.lemmas.List.Filters.{dedup_is}
 use Rattle.px_table.specs.EntryOrder.{entry_eq}
 use Rattle.px_diff.proofs.WholeLemmas.{entries-ascend, entries-members}
-use Rattle.px_diff.proofs.pushes.order.Goals as goal
+use Rattle.px_diff.proofs.pushes.order_entries.Goals as goal
 
 pub returns-clause-members : goal.returns-clause-members
 returns-clause-members c = λ entry.

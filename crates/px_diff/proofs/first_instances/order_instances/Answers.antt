@@ -3,7 +3,7 @@ use Rattle.px_terms.specs.Order.{instance_eq}
 use Rattle.px_terms.specs.OrderLaws.{instance_eq-decides}
 use Rattle.px_diff.proofs.FirstOrder.{instances-ascend}
 use Rattle.px_gaps.proofs.Ordered.{sorted_members}
-use Rattle.px_diff.proofs.first_instances.order.Goals as goal
+use Rattle.px_diff.proofs.first_instances.order_instances.Goals as goal
 
 pub returns-clause-members : goal.returns-clause-members
 returns-clause-members c = λ inst.
