@@ -1,17 +1,14 @@
 -- What an operator's instance changes in a model decides what it leaves.
 use Rattle.std.proofs.Common.{◌≡◌, ◌∙◌, ◌++◌, ℕ, Bool, List, [], ◌∷◌, map, refl, ap, sym, subst}
-use Rattle.std.specs.Prelude.{◌||◌, All, not, slice_get, Some}
+use Rattle.std.specs.Prelude.{◌||◌, not, slice_get, Some}
 use Rattle.std.specs.List.{filter, list_any}
 use Rattle.px_terms.specs.AtomSets.{atom_set}
 use Rattle.px_terms.specs.Instances.{is_instance}
-use Rattle.px_terms.specs.Language.{IsPlainBelow, IsVariableBelow}
 use Rattle.px_terms.specs.Operators.{adds, atoms_of, results_of, schema_of}
 use Rattle.px_terms.specs.Substitution.{substitute_atom}
 use Rattle.px_terms.specs.declared.atom.Atom.{Atom}
 use Rattle.px_terms.specs.declared.instance.OpInst.{OpInst}
 use Rattle.px_terms.specs.declared.problem.Problem.{Problem}
-use Rattle.px_terms.specs.declared.term.Term.{Term}
-use Rattle.px_terms.specs.declared.term.Term.TheVariants.{Obj, Var, Any}
 use Rattle.px_table.specs.declared.entry.Entry.{Entry}
 use Rattle.px_table.specs.declared.entry.Entry.TheVariants.{Op}
 use Rattle.px_entries.specs.Entries.{effect_of}
@@ -21,15 +18,6 @@ use Rattle.px_ends.specs.Tasks.{Task}
 use Rattle.px_search.specs.Notes.{IsAlterationAt, IsAlterationOf, IsAlteredAt, IsEntryAt, IsResultAt, model_altered}
 use Rattle.px_search.specs.declared.notes.Alteration.{Alteration}
 use Rattle.px_search.specs.declared.notes.EntryPlace.{EntryPlace}
-
-plain_variable : (n : ℕ) (t : Term) → IsPlainBelow n t → IsVariableBelow n t
-plain_variable n (Obj o) h = tt
-plain_variable n (Var v) h = h
-plain_variable n Any h = tt
-
-pub plain-variables : (n : ℕ) (atoms : List Atom) → All (λ (atom : Atom). All (IsPlainBelow n) atom.args) atoms
-    → All (λ (atom : Atom). All (IsVariableBelow n) atom.args) atoms
-plain-variables n atoms all k atom below j term within = plain_variable n _ (all k atom below j term within)
 
 any-mapped : (test : Atom → Bool) (f : Atom → Atom) (atoms : List Atom) → list_any test (map f atoms) ≡ list_any (λ x. test (f x)) atoms
 any-mapped test f [] = refl

@@ -153,10 +153,6 @@ on_answer P Q (Ok answer) p f = f p
 on_answer P Q (Err (ShapeLimit limit)) p f = f p
 on_answer P Q (Err NoMemory) p f = tt
 
-pub ok_answer : {A : Type 0} (P Q : Type 0) (result : Result A MoveErr) → OnAnswer result P → (P → Q) → OnOk result Q
-ok_answer P Q (Ok answer) p f = f p
-ok_answer P Q (Err error) p f = tt
-
 pub any_answer : {A P : Type 0} (result : Result A MoveErr) → P → OnAnswer result P
 any_answer (Ok answer) p = p
 any_answer (Err (ShapeLimit limit)) p = p

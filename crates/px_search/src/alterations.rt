@@ -5,9 +5,11 @@ ghost use Rattle.px_terms.specs.Operators.{atoms_of};
 ghost use Rattle.px_terms.specs.Validity.{IsGroundInstanceOf};
 ghost use Rattle.px_support.specs.Asking.{IsAskable, task_for};
 ghost use Rattle.px_search.specs.Notes.{AreRight, HaveGrown, IsAlterationAt, IsAlterationOf, IsEntryAt, IsResultAt};
+ghost use Rattle.px_search.specs.Scenes.{IsScene};
 
 use crate::notes::{Alteration, EntryPlace, Notes};
 use crate::results::result_anew;
+use crate::scene::Scene;
 use px_numbers::Numbers;
 use px_ops::schema_of;
 use px_support::Asked;
@@ -68,11 +70,13 @@ impl Notes {
     fn result_altered(
         &mut self,
         asked: &Asked,
+        scene: &Scene,
         place: EntryPlace,
         alteration: Alteration,
     ) -> Result<u32, NoMemory>
         requires asked { IsAskable asked.now }
         requires notes { AreRight (task_for asked.now) self.old }
+        requires scene { IsScene (task_for asked.now) self.old.numbers scene.now }
         requires place { IsEntryAt (task_for asked.now) self.old.numbers place }
         requires alteration { IsAlterationAt (task_for asked.now) self.old.numbers place alteration }
         ensures notes { OnOk result (HaveGrown (task_for asked.now) self.old self.new) }
@@ -81,7 +85,7 @@ impl Notes {
         match self.altered.get(&alteration) {
             Some(number) => Ok(*number),
             None => {
-                let number = result_anew(asked, &mut self.numbers, place)?;
+                let number = result_anew(asked, &mut self.numbers, scene, place)?;
                 self.altered.insert(alteration, number)?;
                 Ok(number)
             }
@@ -89,29 +93,41 @@ impl Notes {
     }
 
     /// Returns the number of the model that a MACROP leaves, by applying it.
-    fn result_applied(&mut self, asked: &Asked, place: EntryPlace) -> Result<u32, NoMemory>
+    fn result_applied(
+        &mut self,
+        asked: &Asked,
+        scene: &Scene,
+        place: EntryPlace,
+    ) -> Result<u32, NoMemory>
         requires asked { IsAskable asked.now }
         requires notes { AreRight (task_for asked.now) self.old }
+        requires scene { IsScene (task_for asked.now) self.old.numbers scene.now }
         requires place { IsEntryAt (task_for asked.now) self.old.numbers place }
         ensures notes { OnOk result (HaveGrown (task_for asked.now) self.old self.new) }
         ensures number { IfOk result (IsResultAt (task_for asked.now) self.new.numbers place) }
     {
-        let number = result_anew(asked, &mut self.numbers, place)?;
+        let number = result_anew(asked, &mut self.numbers, scene, place)?;
         Ok(number)
     }
 
     /// Returns the number of the model that applying the entry leaves. What operators change alike in a model leaves it once.
-    pub fn result_found(&mut self, asked: &Asked, place: EntryPlace) -> Result<u32, NoMemory>
+    pub fn result_found(
+        &mut self,
+        asked: &Asked,
+        scene: &Scene,
+        place: EntryPlace,
+    ) -> Result<u32, NoMemory>
         requires asked { IsAskable asked.now }
         requires notes { AreRight (task_for asked.now) self.old }
+        requires scene { IsScene (task_for asked.now) self.old.numbers scene.now }
         requires place { IsEntryAt (task_for asked.now) self.old.numbers place }
         ensures notes { OnOk result (HaveGrown (task_for asked.now) self.old self.new) }
         ensures number { IfOk result (IsResultAt (task_for asked.now) self.new.numbers place) }
     {
         let found = alteration_at(asked, &self.numbers, place)?;
         match found {
-            Some(alteration) => self.result_altered(asked, place, alteration),
-            None => self.result_applied(asked, place),
+            Some(alteration) => self.result_altered(asked, scene, place, alteration),
+            None => self.result_applied(asked, scene, place),
         }
     }
 }

@@ -103,7 +103,7 @@ impl Explored {
         ensures stops { IfErr result (StopsAt (task_for asked.now) self.new) }
     {
         let key = self.nodes.node(next);
-        let there = self.notes.after(asked, key, step)?;
+        let there = self.notes.after(asked, &self.scene, key, step)?;
         self.notes.numbers.sound();
         let count = self.nodes.count();
         let place = self.nodes.intern(there)?;

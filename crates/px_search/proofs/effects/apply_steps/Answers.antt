@@ -3,7 +3,7 @@ use Rattle.std.proofs.lemmas.List.{take_more}
 use Rattle.px_terms.specs.declared.instance.OpInst.{OpInst}
 use Rattle.px_terms.specs.Operators.{results_of}
 use Rattle.px_search.proofs.EffectLaws.{applied-more}
-use Rattle.px_search.proofs.effects.result_of_steps.Goals as goal
+use Rattle.px_search.proofs.effects.apply_steps.Goals as goal
 
 pub loop-step-preserved : goal.loop-step-preserved
 loop-step-preserved c =
@@ -12,6 +12,6 @@ loop-step-preserved c =
     let steps = c.args.steps.now in
     let taken : take (i + 1) steps ≡ take i steps ++ step ∷ [] =
     take_more steps i step c.loop-step-test.true ∙ ap (λ (x : OpInst). take i steps ++ x ∷ []) (sym c.step-item.is) in
-    subst (λ (l : List OpInst). c.in_ok-next-2.next.atoms ≡ results_of c.args.problem.now c.args.model.now.atoms l) (sym taken)
-    (applied-more c.args.problem.now c.args.model.now.atoms c.loop-step.next.atoms c.in_ok-next-2.next.atoms
-    (take i steps) step c.loop-step.invariant c.in_ok-next-2.ensures.atoms)
+    subst (λ (l : List OpInst). c.apply_to.new.model.atoms ≡ results_of c.args.problem.now c.args.model.now.atoms l) (sym taken)
+    (applied-more c.args.problem.now c.args.model.now.atoms c.loop-step.model.atoms c.apply_to.new.model.atoms
+    (take i steps) step c.loop-step.invariant c.in_ok-apply_to.ensures.ok)
