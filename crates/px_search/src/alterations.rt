@@ -92,24 +92,6 @@ impl Notes {
         }
     }
 
-    /// Returns the number of the model that a MACROP leaves, by applying it.
-    fn result_applied(
-        &mut self,
-        asked: &Asked,
-        scene: &Scene,
-        place: EntryPlace,
-    ) -> Result<u32, NoMemory>
-        requires asked { IsAskable asked.now }
-        requires notes { AreRight (task_for asked.now) self.old }
-        requires scene { IsScene (task_for asked.now) self.old.numbers scene.now }
-        requires place { IsEntryAt (task_for asked.now) self.old.numbers place }
-        ensures notes { OnOk result (HaveGrown (task_for asked.now) self.old self.new) }
-        ensures number { IfOk result (IsResultAt (task_for asked.now) self.new.numbers place) }
-    {
-        let number = result_anew(asked, &mut self.numbers, scene, place)?;
-        Ok(number)
-    }
-
     /// Returns the number of the model that applying the entry leaves. What operators change alike in a model leaves it once.
     pub fn result_found(
         &mut self,
@@ -127,7 +109,10 @@ impl Notes {
         let found = alteration_at(asked, &self.numbers, place)?;
         match found {
             Some(alteration) => self.result_altered(asked, scene, place, alteration),
-            None => self.result_applied(asked, scene, place),
+            None => {
+                let number = result_anew(asked, &mut self.numbers, scene, place)?;
+                Ok(number)
+            }
         }
     }
 }

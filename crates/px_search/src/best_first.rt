@@ -17,6 +17,7 @@ use crate::ends::SearchErr;
 use crate::notes::Notes;
 use crate::origins::moves_to;
 use crate::picker::Picker;
+use crate::picks::step_at;
 use crate::scene::Scene;
 use crate::step::{Origin, Step};
 use crate::stop::{Limit, Stop};
@@ -36,14 +37,6 @@ fn start_key(asked: &Asked, numbers: &mut Numbers) -> Result<NodeKey, NoMemory>
 {
     let model = numbers.model_number(asked.alloc, asked.initial)?;
     Ok(NodeKey { model, stack: 0 })
-}
-
-/// Returns the step at the place.
-fn step_at(steps: &Vec<Step>, place: usize) -> Step
-    requires { place < length steps.now.items }
-    ensures { slice_get steps.now.items place ≡ Some result }
-{
-    steps[place]
 }
 
 /// Returns the moves to the last of the nodes.

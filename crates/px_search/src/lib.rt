@@ -28,9 +28,9 @@
 //! number of the part of it that decides what may be pushed (`scene`). All else that is learned is kept in one place (`notes`). What an
 //! entry allows in a model doesn't depend on what is below it on the stack, apart from which entries are there: what is learned of a pair
 //! of entry and model is kept (`moves`), unless a question about it meets the limit of shapes. So is the model that applying the entry
-//! leaves (`results`): of an operator, for all its instances that delete and add the same (`alterations`). What may be pushed for a wanted atom is kept too (`offering`): for all models with the same deciding facts, where
-//! no question about an entry ever meets the limit, and else for that model. The lists for the wanted atoms of a node are joined by their
-//! order (`merging`).
+//! leaves (`results`): of an operator, for all its instances that delete and add the same (`alterations`). What may be pushed for a wanted
+//! atom is kept too (`offering`): for all models with the same deciding facts, where no question about an entry ever meets the limit, and
+//! else for that model. The lists for the wanted atoms of a node are joined by their order (`merging`).
 //!
 //! Where no question ever meets the limit and a node may push more entries than the node limit has room for, only the first of them are
 //! found, and kept (`begun`). All are asked for (`all_steps`) where the first were gone through and there is room left.
