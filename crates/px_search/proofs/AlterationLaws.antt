@@ -15,16 +15,17 @@ use Rattle.px_entries.specs.Entries.{effect_of}
 use Rattle.px_numbers.specs.Numbers.{Kept, IsModelAt, KeepsAll}
 use Rattle.px_numbers.specs.NumberLaws.{one_at, one_model}
 use Rattle.px_ends.specs.Tasks.{Task}
-use Rattle.px_search.specs.Notes.{IsAlterationAt, IsAlterationOf, IsAlteredAt, IsEntryAt, IsResultAt, model_altered}
-use Rattle.px_search.specs.declared.notes.Alteration.{Alteration}
-use Rattle.px_search.specs.declared.notes.EntryPlace.{EntryPlace}
+use Rattle.px_search.specs.Cache.{IsAlterationAt, IsAlterationOf, IsAlteredAt, IsEntryAt, IsResultAt, model_altered}
+use Rattle.px_search.specs.declared.cache.Alteration.{Alteration}
+use Rattle.px_search.specs.declared.cache.EntryPlace.{EntryPlace}
 
 any-mapped : (test : Atom → Bool) (f : Atom → Atom) (atoms : List Atom) → list_any test (map f atoms) ≡ list_any (λ x. test (f x)) atoms
 any-mapped test f [] = refl
 any-mapped test f (x ∷ xs) = ap (λ b. test (f x) || b) (any-mapped test f xs)
 
 -- the model that the instance leaves is the one that is altered so
-pub altered-by : (problem : Problem) (inst : OpInst) (facts deleted added : List Atom) → deleted ≡ atoms_of (schema_of problem inst).del inst
+pub altered-by : (problem : Problem) (inst : OpInst) (facts deleted added : List Atom) → deleted ≡ atoms_of (schema_of problem inst).del
+    inst
     → added ≡ adds problem inst → results_of problem facts (inst ∷ []) ≡ model_altered deleted added facts
 altered-by problem inst facts deleted added deleted_is added_is =
     let patterns = (schema_of problem inst).del in

@@ -26,16 +26,16 @@ use Rattle.px_search.specs.declared.step.Step.{Step}
 use Rattle.px_search.specs.declared.step.Origin.{Origin}
 use Rattle.px_search.specs.Asking.{IsTriedAt}
 use Rattle.px_search.specs.Looping.{AreFoundBy, Between, IsExploring, IsFull, IsLimitedAt, IsReached, IsUnexplored, Trying}
-use Rattle.px_search.specs.Notes.{AreRight, HaveGrown}
-use Rattle.px_search.specs.Scenes.{IsScene}
+use Rattle.px_search.specs.Cache.{AreRight, HaveGrown}
+use Rattle.px_search.specs.CurrentModels.{IsCurrent}
 use Rattle.px_search.specs.Searching.{order_of}
 use Rattle.px_search.specs.Picking.{AreWithin, IsOnward, IsPickerOf}
 use Rattle.px_search.specs.Steps.{DescribesMove, AreStepsOf, AreEarlier, Trace}
 use Rattle.px_search.proofs.GoingLaws.{counted, here_of, between-start, found-start, trying-grows, trying-seen, trying-new, going-found, going-limit, going-full, going-next, going-room, onward, same_here, kept_old, kept_new, more_earlier, picked-within, some_trace}
 use Rattle.px_search.proofs.FirstLimits.{first_at_start}
 use Rattle.px_search.proofs.ValueEndings.{linear}
-use Rattle.px_search.proofs.NoteLaws.{right-grows}
-use Rattle.px_search.proofs.SceneLaws.{scene-grows, scene-start}
+use Rattle.px_search.proofs.CacheLaws.{right-grows}
+use Rattle.px_search.proofs.CurrentLaws.{current-grows, current-start}
 use Rattle.px_search.proofs.StepLaws.{step-grows, steps-count}
 
 -- ---- the step at a place
@@ -56,20 +56,20 @@ module _ (task : Task) where
   -- ---- what is kept
 
   -- what is kept stays right, whatever nodes there are
-  pub exploring-grows : (old new : Explored) → HaveGrown task old.notes new.notes → old.scene ≡ new.scene → IsExploring task old
+  pub exploring-grows : (old new : Explored) → HaveGrown task old.cache new.cache → old.current ≡ new.current → IsExploring task old
       → IsExploring task new
   exploring-grows old new grown same exploring = record {
-    notes = grown.right;
-    scene = subst (IsScene task new.notes.numbers) same (scene-grows task old.notes.numbers new.notes.numbers old.scene grown.keeps
-        exploring.scene);
+    cache = grown.right;
+    current = subst (IsCurrent task new.cache.numbers) same (current-grows task old.cache.numbers new.cache.numbers old.current grown.keeps
+        exploring.current);
   }
 
   -- what is kept is right where no model was looked at yet
-  pub exploring-start : (old new : Explored) → IsUnexplored task old → KeepsAll old.notes.numbers new.notes.numbers
-      → record old.notes { numbers = new.notes.numbers } ≡ new.notes → old.scene ≡ new.scene → IsExploring task new
-  exploring-start old new given keeps same_notes same_scene = record {
-    notes = subst (AreRight task) same_notes (right-grows task old.notes new.notes.numbers keeps given.notes);
-    scene = subst (IsScene task new.notes.numbers) same_scene (scene-start task new.notes.numbers old.scene given.scene);
+  pub exploring-start : (old new : Explored) → IsUnexplored task old → KeepsAll old.cache.numbers new.cache.numbers
+      → record old.cache { numbers = new.cache.numbers } ≡ new.cache → old.current ≡ new.current → IsExploring task new
+  exploring-start old new given keeps same_cache same_current = record {
+    cache = subst (AreRight task) same_cache (right-grows task old.cache new.cache.numbers keeps given.cache);
+    current = subst (IsCurrent task new.cache.numbers) same_current (current-start task new.cache.numbers old.current given.current);
   }
 
   -- ---- the start
@@ -135,7 +135,7 @@ module _ (task : Task) where
       (steps : List Step) (is_all : Bool) (i : ℕ) (s : Step) (there : NodeKey) : Type 0 where
     pub t : Trying task kept keys origins picker picked next steps is_all i
     pub m : Move
-    pub at_m : slice_get t.begun.moves i ≡ Some m
+    pub at_m : slice_get t.successors.moves i ≡ Some m
     pub step_is : DescribesMove kept s m
     pub stands : IsKeyOf kept there (after task (node_of task t.list) m)
 
@@ -145,7 +145,7 @@ module _ (task : Task) where
       → ((node : Node) (m : Move) → IsKeyOf old key node → DescribesMove old s m → IsKeyOf new there (after task node m))
       → slice_get steps i ≡ Some s → Stepped new keys origins picker picked next steps is_all i s there
   step_on old new keys origins picker picked next steps is_all i s key there t at keeps makes step_at' =
-      let r = step_move old steps t.begun.moves i s t.begun.steps_are step_at' in
+      let r = step_move old steps t.successors.moves i s t.successors.steps_are step_at' in
       record {
         t = trying-grows task old new keys origins picker picked next steps is_all i keeps t;
         m = r.0;
@@ -159,7 +159,7 @@ module _ (task : Task) where
       → slice_get keys next ≡ Some key
       → (node : Node) × IsKeyOf kept key node × All (IsEntry task.problem task.tables) node.stack
   asks_step kept keys origins picker picked next steps is_all i key t at =
-      let h = here_of task kept keys origins picker picked next (take i t.begun.moves) key t.going at in (h.node, h.stands, h.entries)
+      let h = here_of task kept keys origins picker picked next (take i t.successors.moves) key t.going at in (h.node, h.stands, h.entries)
 
   module _ (kept : Kept) (once : AreEachOnce kept) (keys new : List NodeKey) (origins : List Origin) (picker : Picker) (picked : List ℕ)
       (next : ℕ) (steps : List Step) (is_all : Bool) (i : ℕ) (s : Step) (there : NodeKey) (place : ℕ)
@@ -202,7 +202,7 @@ module _ (task : Task) where
       fresh = kept_new keys new there place kept_key above
 
       pub step-few : length keys ≤ task.nodes
-      step-few = going-room task kept keys origins picker picked next (take i st.t.begun.moves) st.t.going
+      step-few = going-room task kept keys origins picker picked next (take i st.t.successors.moves) st.t.going
 
       pub step-new : (made : List Origin) (tried : Tried) (later : Picker) → made ≡ origins ++ origin ∷ []
           → length keys < task.nodes → ((node : Node) → IsKeyOf kept there node → IsTriedAt task node tried) → tried ≡ Unanswered
@@ -307,4 +307,4 @@ module _ (task : Task) where
       → is_all ≡ true → Between task kept keys origins picker (next ∷ picked)
   node-done kept keys origins picker picked next steps is_all i t all is =
       going-next task kept keys origins picker picked next steps is_all i t
-      (take_all i t.begun.moves (omega (arith, all, steps-count kept steps t.begun.moves t.begun.steps_are))) is
+      (take_all i t.successors.moves (omega (arith, all, steps-count kept steps t.successors.moves t.successors.steps_are))) is

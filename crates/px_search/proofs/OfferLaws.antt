@@ -25,14 +25,14 @@ use Rattle.px_diff.specs.Stacks.{AreUnlimitedOver, RelevanceOverStacks}
 use Rattle.px_numbers.specs.Numbers.{Kept}
 use Rattle.px_numbers.specs.NumberLaws.{one_model}
 use Rattle.px_ends.specs.Tasks.{Task, needs_with}
-use Rattle.px_search.specs.Going.{IsBegunOn}
+use Rattle.px_search.specs.Going.{AreFirstSuccessors}
 use Rattle.px_search.specs.Offers.{AreFirstOffers, AreWhole, IsAlike, IsOffered, IsOfferedWhole, IsOfferAt, IsPartAt}
 use Rattle.px_search.specs.Steps.{AreStepsOf, DescribesMove, is_push_on, unstruck}
-use Rattle.px_search.specs.declared.notes.Offer.{Offer}
-use Rattle.px_search.specs.declared.notes.Want.{Want}
+use Rattle.px_search.specs.declared.cache.Offer.{Offer}
+use Rattle.px_search.specs.declared.cache.Want.{Want}
 use Rattle.px_search.specs.declared.step.Step.{Step}
 use Rattle.px_search.specs.declared.step.Step.TheVariants as step
-use Rattle.px_search.proofs.FromLaws.{begun-open}
+use Rattle.px_search.proofs.FromLaws.{successors-open}
 use Rattle.px_search.proofs.StruckLaws.{on_stack, not_true}
 
 -- ---- the part that decides
@@ -306,13 +306,13 @@ pub off_stack-ascend : (stack entries : List Entry) → IsStrictlySortedBy order
 off_stack-ascend stack entries ascends = IsStrictlySortedBy-filter order_of_entries (λ e. not (is_push_on stack (Push e))) entries ascends
 
 -- what is offered, without what stands on the stack, is the first moves of the node
-pub begun-offered : (task : Task) (kept : Kept) (model gaps : List Atom) (stack : List Entry) (steps left : List Step) (is_all : Bool)
+pub successors-offered : (task : Task) (kept : Kept) (model gaps : List Atom) (stack : List Entry) (steps left : List Step) (is_all : Bool)
     → RelevanceOverStacks → IsOpenWith task.problem (needs_with task model stack) gaps
     → IsOffered task kept model gaps steps is_all
     → ((moves : List Move) → AreStepsOf kept steps moves → AreStepsOf kept left (unstruck stack moves))
-    → IsBegunOn task kept (record { model = model; stack = stack }) left is_all
-begun-offered task kept model gaps stack steps left is_all law opens o struck =
-    begun-open task kept (record { model = model; stack = stack }) gaps (off_stack stack o.entries) left is_all opens
+    → AreFirstSuccessors task kept (record { model = model; stack = stack }) left is_all
+successors-offered task kept model gaps stack steps left is_all law opens o struck =
+    successors-open task kept (record { model = model; stack = stack }) gaps (off_stack stack o.entries) left is_all opens
     (off_stack-ascend stack o.entries o.first.ordered)
     (λ entry has. let m = (members entry).0 has in (over entry).1 (o.first.sound entry m.0, m.1))
     (λ entry pushable.

@@ -7,13 +7,13 @@ ghost use Rattle.px_table.specs.declared.node.Node.{Node};
 ghost use Rattle.px_entries.specs.Entries.{IsEntry};
 ghost use Rattle.px_numbers.specs.Numbers.{IsKeyOf, KeepsAll};
 ghost use Rattle.px_support.specs.Asking.{IsAskable, task_for};
-ghost use Rattle.px_search.specs.Notes.{AreRight, HaveGrown};
-ghost use Rattle.px_search.specs.Scenes.{IsScene};
+ghost use Rattle.px_search.specs.Cache.{AreRight, HaveGrown};
+ghost use Rattle.px_search.specs.CurrentModels.{IsCurrent};
 ghost use Rattle.px_search.specs.Steps.{DescribesMove};
 ghost use Rattle.px_ends.specs.Tasks.{after};
 
-use crate::notes::{EntryPlace, Notes};
-use crate::scene::Scene;
+use crate::cache::{EntryPlace, Cache};
+use crate::current::CurrentModel;
 use crate::step::Step;
 use px_numbers::{NodeKey, Numbers};
 use px_support::Asked;
@@ -34,20 +34,20 @@ fn pushed(numbers: &mut Numbers, key: NodeKey, entry: u32) -> Result<NodeKey, No
     })
 }
 
-impl Notes {
+impl Cache {
     /// Returns the node whose top entry is applied.
     fn applied(
         &mut self,
         asked: &Asked,
-        scene: &Scene,
+        current: &CurrentModel,
         key: NodeKey,
     ) -> Result<NodeKey, NoMemory>
         requires asked { IsAskable asked.now }
-        requires notes { AreRight (task_for asked.now) self.old }
-        requires scene { IsScene (task_for asked.now) self.old.numbers scene.now }
+        requires cache { AreRight (task_for asked.now) self.old }
+        requires current { IsCurrent (task_for asked.now) self.old.numbers current.now }
         requires node { (node : Node) × IsKeyOf self.old.numbers key node
             × All (IsEntry asked.now.problem.now asked.now.tables.now) node.stack }
-        ensures notes { OnOk result (HaveGrown (task_for asked.now) self.old self.new) }
+        ensures cache { OnOk result (HaveGrown (task_for asked.now) self.old self.new) }
         ensures there { IfOk result (λ there. (node : Node) → IsKeyOf self.old.numbers key node
             → IsKeyOf self.new.numbers there (after (task_for asked.now) node Apply)) }
     {
@@ -58,7 +58,7 @@ impl Notes {
             model: key.model,
             entry: frame.entry,
         };
-        let model = self.result_at(asked, scene, place)?;
+        let model = self.result_at(asked, current, place)?;
         Ok(NodeKey {
             model,
             stack: frame.below,
@@ -69,21 +69,21 @@ impl Notes {
     pub fn after(
         &mut self,
         asked: &Asked,
-        scene: &Scene,
+        current: &CurrentModel,
         key: NodeKey,
         step: Step,
     ) -> Result<NodeKey, NoMemory>
         requires asked { IsAskable asked.now }
-        requires notes { AreRight (task_for asked.now) self.old }
-        requires scene { IsScene (task_for asked.now) self.old.numbers scene.now }
+        requires cache { AreRight (task_for asked.now) self.old }
+        requires current { IsCurrent (task_for asked.now) self.old.numbers current.now }
         requires node { (node : Node) × IsKeyOf self.old.numbers key node
             × All (IsEntry asked.now.problem.now asked.now.tables.now) node.stack }
-        ensures notes { OnOk result (HaveGrown (task_for asked.now) self.old self.new) }
+        ensures cache { OnOk result (HaveGrown (task_for asked.now) self.old self.new) }
         ensures there { IfOk result (λ there. (node : Node) (m : Move) → IsKeyOf self.old.numbers key node
             → DescribesMove self.old.numbers step m → IsKeyOf self.new.numbers there (after (task_for asked.now) node m)) }
     {
         match step {
-            Step::Apply => self.applied(asked, scene, key),
+            Step::Apply => self.applied(asked, current, key),
             Step::Push(entry) => pushed(&mut self.numbers, key, entry),
         }
     }

@@ -3,30 +3,30 @@ ghost use Rattle.std.specs.Prelude.{List, IfOk, OnOk};
 ghost use Rattle.px_terms.specs.declared.atom.Atom.{Atom};
 ghost use Rattle.px_numbers.specs.Numbers.{IsModelAt, KeepsAll};
 ghost use Rattle.px_support.specs.Asking.{IsAskable, task_for};
-ghost use Rattle.px_search.specs.Notes.{AreRight, HaveGrown, IsEntryAt, IsResultAt};
-ghost use Rattle.px_search.specs.Scenes.{IsScene};
+ghost use Rattle.px_search.specs.Cache.{AreRight, HaveGrown, IsEntryAt, IsResultAt};
+ghost use Rattle.px_search.specs.CurrentModels.{IsCurrent};
 
 use crate::effects::apply_entry;
-use crate::notes::{EntryPlace, Notes};
-use crate::scene::Scene;
+use crate::cache::{EntryPlace, Cache};
+use crate::current::CurrentModel;
 use px_numbers::Numbers;
 use px_ops::Model;
 use px_support::Asked;
 use px_terms::NoMemory;
 
-/// Returns the model of this number: a copy of the scene's, or else the one that is kept by number.
+/// Returns the model of this number: a copy of the current's, or else the one that is kept by number.
 fn model_for(
     asked: &Asked,
     numbers: &Numbers,
-    scene: &Scene,
+    current: &CurrentModel,
     number: u32,
 ) -> Result<Model, NoMemory>
-    requires scene { IsScene (task_for asked.now) numbers.now scene.now }
+    requires current { IsCurrent (task_for asked.now) numbers.now current.now }
     requires model { (model : List Atom) × IsModelAt numbers.now number model }
     ensures { IfOk result (λ built. IsModelAt numbers.now number built.atoms) }
 {
-    if scene.number == Some(number) {
-        return scene.model.try_copy();
+    if current.number == Some(number) {
+        return current.model.try_copy();
     }
     numbers.model(asked.alloc, number)
 }
@@ -35,40 +35,40 @@ fn model_for(
 pub fn result_anew(
     asked: &Asked,
     numbers: &mut Numbers,
-    scene: &Scene,
+    current: &CurrentModel,
     place: EntryPlace,
 ) -> Result<u32, NoMemory>
     requires asked { IsAskable asked.now }
-    requires scene { IsScene (task_for asked.now) numbers.old scene.now }
+    requires current { IsCurrent (task_for asked.now) numbers.old current.now }
     requires place { IsEntryAt (task_for asked.now) numbers.old place }
     ensures keeps { KeepsAll numbers.old numbers.new }
     ensures number { IfOk result (IsResultAt (task_for asked.now) numbers.new place) }
 {
-    let mut model = model_for(asked, numbers, scene, place.model)?;
+    let mut model = model_for(asked, numbers, current, place.model)?;
     apply_entry(asked, &mut model, numbers.entry(place.entry))?;
     let number = numbers.model_number(asked.alloc, &model)?;
     Ok(number)
 }
 
-impl Notes {
+impl Cache {
     /// Returns the number of the model that applying the entry leaves. An entry is applied in a model once.
     pub fn result_at(
         &mut self,
         asked: &Asked,
-        scene: &Scene,
+        current: &CurrentModel,
         place: EntryPlace,
     ) -> Result<u32, NoMemory>
         requires asked { IsAskable asked.now }
-        requires notes { AreRight (task_for asked.now) self.old }
-        requires scene { IsScene (task_for asked.now) self.old.numbers scene.now }
+        requires cache { AreRight (task_for asked.now) self.old }
+        requires current { IsCurrent (task_for asked.now) self.old.numbers current.now }
         requires place { IsEntryAt (task_for asked.now) self.old.numbers place }
-        ensures notes { OnOk result (HaveGrown (task_for asked.now) self.old self.new) }
+        ensures cache { OnOk result (HaveGrown (task_for asked.now) self.old self.new) }
         ensures number { IfOk result (IsResultAt (task_for asked.now) self.new.numbers place) }
     {
         match self.results.get(&place) {
             Some(number) => Ok(*number),
             None => {
-                let number = self.result_found(asked, scene, place)?;
+                let number = self.result_found(asked, current, place)?;
                 self.results.insert(place, number)?;
                 Ok(number)
             }

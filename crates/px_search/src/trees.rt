@@ -105,13 +105,13 @@ fn tree_node(
     requires asked { IsAskable asked.now }
     requires numbered { (found : List (List Move)) × AreFound (task_for asked.now) explored.now found }
     requires place { place < length explored.now.nodes }
-    requires counted { AreCounted (task_for asked.now) explored.now.notes.numbers estimates.old }
-    ensures counted { OnOk result (AreCounted (task_for asked.now) explored.now.notes.numbers estimates.new) }
+    requires counted { AreCounted (task_for asked.now) explored.now.cache.numbers estimates.old }
+    ensures counted { OnOk result (AreCounted (task_for asked.now) explored.now.cache.numbers estimates.new) }
     ensures node { IfOk result (λ node. (found : List (List Move)) (moves : List Move) → AreFound (task_for asked.now) explored.now found
         → slice_get found place ≡ Some moves → TellsNode (task_for asked.now) (take place found) moves node) }
 {
     let key = explored.nodes.node(place);
-    let numbers = &explored.notes.numbers;
+    let numbers = &explored.cache.numbers;
     let needs = estimates.needs(asked, numbers, key)?;
     if place == 0 {
         return Ok(TreeNode {

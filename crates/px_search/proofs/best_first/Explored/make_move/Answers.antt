@@ -8,13 +8,13 @@ pub node-key-requires : goal.node-key-requires
 node-key-requires c =
     let e = c.args.self.now in
     let r = c.requires.trying in
-    trying-within (task_for c.args.asked.now) e.notes.numbers e.nodes e.origins.items e.picker r.0 c.args.next r.1 r.2 r.3 r.4
+    trying-within (task_for c.args.asked.now) e.cache.numbers e.nodes e.origins.items e.picker r.0 c.args.next r.1 r.2 r.3 r.4
 
 pub after-requires-clause-node : goal.after-requires-clause-node
 after-requires-clause-node c =
     let e = c.args.self.now in
     let r = c.requires.trying in
-    asks_step (task_for c.args.asked.now) e.notes.numbers e.nodes e.origins.items e.picker r.0 c.args.next r.1 r.2 r.3 c.node-key.result r.4
+    asks_step (task_for c.args.asked.now) e.cache.numbers e.nodes e.origins.items e.picker r.0 c.args.next r.1 r.2 r.3 c.node-key.result r.4
     c.node-key.ensures
 
 pub returns-then-place-count-clause-made : goal.returns-then-place-count-clause-made
@@ -22,8 +22,8 @@ returns-then-place-count-clause-made c = λ picked steps is_all i t at.
     let task = task_for c.args.asked.now in
     let e = c.args.self.now in
     let st =
-    step_on task e.notes.numbers c.after.new.self.numbers e.nodes e.origins.items e.picker picked c.args.next steps is_all i c.args.step
-    c.node-key.result c.in_ok-there.there t c.node-key.ensures c.in_ok-there.ensures.notes.keeps c.in_ok-there.ensures.there at in
+    step_on task e.cache.numbers c.after.new.self.numbers e.nodes e.origins.items e.picker picked c.args.next steps is_all i c.args.step
+    c.node-key.result c.in_ok-there.there t c.node-key.ensures c.in_ok-there.ensures.cache.keeps c.in_ok-there.ensures.there at in
     step-seen task c.after.new.self.numbers c.sound.ensures.once e.nodes c.intern.new.self e.origins.items e.picker picked c.args.next
     steps is_all i c.args.step c.in_ok-there.there c.in_ok-place.place st c.in_ok-place.ensures.kept
     (omega (arith, c.if-place-count.true, c.count-count.ensures))
@@ -34,8 +34,8 @@ count_to-requires-clause-earlier c =
     let e = c.args.self.now in
     let r = c.requires.trying in
     let st =
-    step_on task e.notes.numbers c.after.new.self.numbers e.nodes e.origins.items e.picker r.0 c.args.next r.1 r.2 r.3 c.args.step
-    c.node-key.result c.in_ok-there.there r.4 c.node-key.ensures c.in_ok-there.ensures.notes.keeps c.in_ok-there.ensures.there r.5 in
+    step_on task e.cache.numbers c.after.new.self.numbers e.nodes e.origins.items e.picker r.0 c.args.next r.1 r.2 r.3 c.args.step
+    c.node-key.result c.in_ok-there.there r.4 c.node-key.ensures c.in_ok-there.ensures.cache.keeps c.in_ok-there.ensures.there r.5 in
     step-earlier task c.after.new.self.numbers c.sound.ensures.once e.nodes c.intern.new.self e.origins.items e.picker r.0 c.args.next
     r.1 r.2 r.3 c.args.step c.in_ok-there.there c.in_ok-place.place st c.in_ok-place.ensures.kept
     c.push.new.self.items c.in_ok-push.ensures.items
@@ -46,8 +46,8 @@ count_to-requires-clause-traced c =
     let e = c.args.self.now in
     let r = c.requires.trying in
     let st =
-    step_on task e.notes.numbers c.after.new.self.numbers e.nodes e.origins.items e.picker r.0 c.args.next r.1 r.2 r.3 c.args.step
-    c.node-key.result c.in_ok-there.there r.4 c.node-key.ensures c.in_ok-there.ensures.notes.keeps c.in_ok-there.ensures.there r.5 in
+    step_on task e.cache.numbers c.after.new.self.numbers e.nodes e.origins.items e.picker r.0 c.args.next r.1 r.2 r.3 c.args.step
+    c.node-key.result c.in_ok-there.there r.4 c.node-key.ensures c.in_ok-there.ensures.cache.keeps c.in_ok-there.ensures.there r.5 in
     step-trace task c.after.new.self.numbers c.sound.ensures.once e.nodes c.intern.new.self e.origins.items e.picker r.0 c.args.next
     r.1 r.2 r.3 c.args.step c.in_ok-there.there c.in_ok-place.place st c.in_ok-place.ensures.kept
     c.push.new.self.items c.in_ok-push.ensures.items
@@ -58,8 +58,8 @@ count_to-requires-clause-few c =
     let e = c.args.self.now in
     let r = c.requires.trying in
     let st =
-    step_on task e.notes.numbers c.after.new.self.numbers e.nodes e.origins.items e.picker r.0 c.args.next r.1 r.2 r.3 c.args.step
-    c.node-key.result c.in_ok-there.there r.4 c.node-key.ensures c.in_ok-there.ensures.notes.keeps c.in_ok-there.ensures.there r.5 in
+    step_on task e.cache.numbers c.after.new.self.numbers e.nodes e.origins.items e.picker r.0 c.args.next r.1 r.2 r.3 c.args.step
+    c.node-key.result c.in_ok-there.there r.4 c.node-key.ensures c.in_ok-there.ensures.cache.keeps c.in_ok-there.ensures.there r.5 in
     let few : length c.push.new.self.items ≤ task.nodes =
     step-origins task c.after.new.self.numbers c.sound.ensures.once e.nodes c.intern.new.self e.origins.items e.picker r.0 c.args.next
     r.1 r.2 r.3 c.args.step c.in_ok-there.there c.in_ok-place.place st c.in_ok-place.ensures.kept
@@ -72,13 +72,14 @@ returns-then-count-asked-clause-stops c =
     let e = c.args.self.now in
     let r = c.requires.trying in
     let st =
-    step_on task e.notes.numbers c.after.new.self.numbers e.nodes e.origins.items e.picker r.0 c.args.next r.1 r.2 r.3 c.args.step
-    c.node-key.result c.in_ok-there.there r.4 c.node-key.ensures c.in_ok-there.ensures.notes.keeps c.in_ok-there.ensures.there r.5 in (
-      exploring-grows (task_for c.args.asked.now) c.args.self.now _ c.in_ok-there.ensures.notes refl c.requires.explored,
+    step_on task e.cache.numbers c.after.new.self.numbers e.nodes e.origins.items e.picker r.0 c.args.next r.1 r.2 r.3 c.args.step
+    c.node-key.result c.in_ok-there.there r.4 c.node-key.ensures c.in_ok-there.ensures.cache.keeps c.in_ok-there.ensures.there r.5 in (
+      exploring-grows (task_for c.args.asked.now) c.args.self.now _ c.in_ok-there.ensures.cache refl c.requires.explored,
       step-full task c.after.new.self.numbers c.sound.ensures.once e.nodes c.intern.new.self e.origins.items e.picker r.0 c.args.next
           r.1 r.2 r.3 c.args.step c.in_ok-there.there c.in_ok-place.place st c.in_ok-place.ensures.kept
           (λ h. omega (arith, h, c.if-place-count.false, c.count-count.ensures)) c.push.new.self.items
-          c.in_ok-moves.moves c.in_ok-push.ensures.items (omega (arith, c.if-count-asked.true, c.count-count.ensures)) c.in_ok-moves.ensures,
+          c.in_ok-moves.moves c.in_ok-push.ensures.items (omega (arith, c.if-count-asked.true, c.count-count.ensures))
+          c.in_ok-moves.ensures,
     )
 
 pub try_node-requires-clause-node : goal.try_node-requires-clause-node
@@ -87,8 +88,8 @@ try_node-requires-clause-node c =
     let e = c.args.self.now in
     let r = c.requires.trying in
     let st =
-    step_on task e.notes.numbers c.after.new.self.numbers e.nodes e.origins.items e.picker r.0 c.args.next r.1 r.2 r.3 c.args.step
-    c.node-key.result c.in_ok-there.there r.4 c.node-key.ensures c.in_ok-there.ensures.notes.keeps c.in_ok-there.ensures.there r.5 in
+    step_on task e.cache.numbers c.after.new.self.numbers e.nodes e.origins.items e.picker r.0 c.args.next r.1 r.2 r.3 c.args.step
+    c.node-key.result c.in_ok-there.there r.4 c.node-key.ensures c.in_ok-there.ensures.cache.keeps c.in_ok-there.ensures.there r.5 in
     there_stands task c.after.new.self.numbers c.sound.ensures.once e.nodes c.intern.new.self e.origins.items e.picker r.0 c.args.next
     r.1 r.2 r.3 c.args.step c.in_ok-there.there c.in_ok-place.place st c.in_ok-place.ensures.kept
 
@@ -98,9 +99,9 @@ returns-in-Answered-clause-stops c =
     let e = c.args.self.now in
     let r = c.requires.trying in
     let st =
-    step_on task e.notes.numbers c.after.new.self.numbers e.nodes e.origins.items e.picker r.0 c.args.next r.1 r.2 r.3 c.args.step
-    c.node-key.result c.in_ok-there.there r.4 c.node-key.ensures c.in_ok-there.ensures.notes.keeps c.in_ok-there.ensures.there r.5 in (
-      exploring-grows (task_for c.args.asked.now) c.args.self.now _ c.in_ok-there.ensures.notes refl c.requires.explored,
+    step_on task e.cache.numbers c.after.new.self.numbers e.nodes e.origins.items e.picker r.0 c.args.next r.1 r.2 r.3 c.args.step
+    c.node-key.result c.in_ok-there.there r.4 c.node-key.ensures c.in_ok-there.ensures.cache.keeps c.in_ok-there.ensures.there r.5 in (
+      exploring-grows (task_for c.args.asked.now) c.args.self.now _ c.in_ok-there.ensures.cache refl c.requires.explored,
       step-reached task c.after.new.self.numbers c.sound.ensures.once e.nodes c.intern.new.self e.origins.items e.picker r.0 c.args.next
           r.1 r.2 r.3 c.args.step c.in_ok-there.there c.in_ok-place.place st c.in_ok-place.ensures.kept
           (λ h. omega (arith, h, c.if-place-count.false, c.count-count.ensures)) c.push.new.self.items
@@ -114,8 +115,8 @@ go_on-requires-clause-onward c =
     let e = c.args.self.now in
     let r = c.requires.trying in
     let st =
-    step_on task e.notes.numbers c.after.new.self.numbers e.nodes e.origins.items e.picker r.0 c.args.next r.1 r.2 r.3 c.args.step
-    c.node-key.result c.in_ok-there.there r.4 c.node-key.ensures c.in_ok-there.ensures.notes.keeps c.in_ok-there.ensures.there r.5 in (
+    step_on task e.cache.numbers c.after.new.self.numbers e.nodes e.origins.items e.picker r.0 c.args.next r.1 r.2 r.3 c.args.step
+    c.node-key.result c.in_ok-there.there r.4 c.node-key.ensures c.in_ok-there.ensures.cache.keeps c.in_ok-there.ensures.there r.5 in (
       st.t.going.found,
       _,
       _,
@@ -129,8 +130,8 @@ returns-in_ok-go_on-in-Unanswered-clause-made c = λ picked steps is_all i t at.
     let task = task_for c.args.asked.now in
     let e = c.args.self.now in
     let st =
-    step_on task e.notes.numbers c.after.new.self.numbers e.nodes e.origins.items e.picker picked c.args.next steps is_all i c.args.step
-    c.node-key.result c.in_ok-there.there t c.node-key.ensures c.in_ok-there.ensures.notes.keeps c.in_ok-there.ensures.there at in
+    step_on task e.cache.numbers c.after.new.self.numbers e.nodes e.origins.items e.picker picked c.args.next steps is_all i c.args.step
+    c.node-key.result c.in_ok-there.there t c.node-key.ensures c.in_ok-there.ensures.cache.keeps c.in_ok-there.ensures.there at in
     step-new task c.after.new.self.numbers c.sound.ensures.once e.nodes c.intern.new.self e.origins.items e.picker picked c.args.next
     steps is_all i c.args.step c.in_ok-there.there c.in_ok-place.place st c.in_ok-place.ensures.kept
     (λ h. omega (arith, h, c.if-place-count.false, c.count-count.ensures)) c.push.new.self.items c.in_ok-tried.tried
@@ -148,9 +149,9 @@ returns-in-Limited-clause-stops c =
     let e = c.args.self.now in
     let r = c.requires.trying in
     let st =
-    step_on task e.notes.numbers c.after.new.self.numbers e.nodes e.origins.items e.picker r.0 c.args.next r.1 r.2 r.3 c.args.step
-    c.node-key.result c.in_ok-there.there r.4 c.node-key.ensures c.in_ok-there.ensures.notes.keeps c.in_ok-there.ensures.there r.5 in (
-      exploring-grows (task_for c.args.asked.now) c.args.self.now _ c.in_ok-there.ensures.notes refl c.requires.explored,
+    step_on task e.cache.numbers c.after.new.self.numbers e.nodes e.origins.items e.picker r.0 c.args.next r.1 r.2 r.3 c.args.step
+    c.node-key.result c.in_ok-there.there r.4 c.node-key.ensures c.in_ok-there.ensures.cache.keeps c.in_ok-there.ensures.there r.5 in (
+      exploring-grows (task_for c.args.asked.now) c.args.self.now _ c.in_ok-there.ensures.cache refl c.requires.explored,
       step-limit task c.after.new.self.numbers c.sound.ensures.once e.nodes c.intern.new.self e.origins.items e.picker r.0 c.args.next
           r.1 r.2 r.3 c.args.step c.in_ok-there.there c.in_ok-place.place st c.in_ok-place.ensures.kept
           (λ h. omega (arith, h, c.if-place-count.false, c.count-count.ensures)) c.push.new.self.items c.in_ok-tried.tried
@@ -160,8 +161,8 @@ returns-in-Limited-clause-stops c =
 
 pub returns-then-place-count-clause-explored : goal.returns-then-place-count-clause-explored
 returns-then-place-count-clause-explored c =
-    exploring-grows (task_for c.args.asked.now) c.args.self.now _ c.in_ok-there.ensures.notes refl c.requires.explored
+    exploring-grows (task_for c.args.asked.now) c.args.self.now _ c.in_ok-there.ensures.cache refl c.requires.explored
 
 pub returns-in_ok-go_on-in-Unanswered-clause-explored : goal.returns-in_ok-go_on-in-Unanswered-clause-explored
 returns-in_ok-go_on-in-Unanswered-clause-explored c =
-    exploring-grows (task_for c.args.asked.now) c.args.self.now _ c.in_ok-there.ensures.notes refl c.requires.explored
+    exploring-grows (task_for c.args.asked.now) c.args.self.now _ c.in_ok-there.ensures.cache refl c.requires.explored
