@@ -270,6 +270,11 @@ pub record Read (task : Task) (kept : Kept) (key : NodeKey) (frame : Frame) (mod
   pub model_at : IsModelAt kept key.model model
   pub stack_is : stack ≡ node.stack
 
+pub read-of : (task : Task) (kept : Kept) (key : NodeKey) (frame : Frame) (model : List Atom) (stack : List Entry)
+    (n : (node : Node) × IsKeyOf kept key node × All (IsEntry task.problem task.tables) node.stack × IsTopOf kept node.stack (Some frame))
+    → IsModelAt kept key.model model → stack ≡ n.0.stack → Read task kept key frame model stack
+read-of task kept key frame model stack n model_at is = record { node = n.0; stands = n.1; top = n.3; model_at = model_at; stack_is = is }
+
 module _ (task : Task) (kept : Kept) (key : NodeKey) (frame : Frame) (model : List Atom) (stack : List Entry)
     (r : Read task kept key frame model stack) where
   abbrev pub read-place : EntryPlace

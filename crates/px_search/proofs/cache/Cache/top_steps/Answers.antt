@@ -8,7 +8,7 @@ use Rattle.px_support.specs.Asking.{task_for}
 use Rattle.px_search.specs.Going.{BeginsAt, AreFirstSuccessors, LimitsAt, LimitsNode}
 use Rattle.px_search.specs.declared.step.Step.{Step}
 use Rattle.px_base.proofs.Loops.{ok_map}
-use Rattle.px_search.proofs.FromLaws.{Read, alone-applicable, alone-closed, read-each, read-known, read-place, read-top, some_top, top_entry, if_limit}
+use Rattle.px_search.proofs.FromLaws.{alone-applicable, alone-closed, read-each, read-known, read-of, read-place, read-top, some_top, top_entry, if_limit}
 use Rattle.px_search.proofs.Stepping.{limits-needs}
 use Rattle.px_search.proofs.cache.Cache.top_steps.Goals as goal
 
@@ -27,15 +27,9 @@ returns-in-Limited-clause-limited c =
     let model = c.args.current.now.model.atoms in
     let stack = c.as_slice.result.now in
     let n = c.requires.node in
-    let r : Read task kept c.args.key c.args.frame model stack =
-    record {
-      node = n.0;
-      stands = n.1;
-      top = n.3;
-      model_at = c.requires.current.model_at;
-      stack_is = c.as_slice.ensures.value
-          ∙ c.in_ok-stack.ensures n.0.stack n.1.stack;
-    } in
+    let r =
+    read-of task kept c.args.key c.args.frame model stack n c.requires.current.model_at
+    (c.as_slice.ensures.value ∙ c.in_ok-stack.ensures n.0.stack n.1.stack) in
     read-each task kept c.args.key c.args.frame model stack r
     (λ (node : Node). LimitsNode task node c.in-Limited.limit)
     (limits-needs task (record { model = model; stack = stack }) c.in-Limited.limit
@@ -49,15 +43,9 @@ kept_over-requires-clause-here c =
     let model = c.args.current.now.model.atoms in
     let stack = c.as_slice.result.now in
     let n = c.requires.node in
-    let r : Read task kept c.args.key c.args.frame model stack =
-    record {
-      node = n.0;
-      stands = n.1;
-      top = n.3;
-      model_at = c.requires.current.model_at;
-      stack_is = c.as_slice.ensures.value
-          ∙ c.in_ok-stack.ensures n.0.stack n.1.stack;
-    } in
+    let r =
+    read-of task kept c.args.key c.args.frame model stack n c.requires.current.model_at
+    (c.as_slice.ensures.value ∙ c.in_ok-stack.ensures n.0.stack n.1.stack) in
     record { top = read-top task kept c.args.key c.args.frame model stack r; part = c.requires.current.part_at }
 
 pub kept_over-requires-clause-alone : goal.kept_over-requires-clause-alone
@@ -67,15 +55,9 @@ kept_over-requires-clause-alone c =
     let model = c.args.current.now.model.atoms in
     let stack = c.as_slice.result.now in
     let n = c.requires.node in
-    let r : Read task kept c.args.key c.args.frame model stack =
-    record {
-      node = n.0;
-      stands = n.1;
-      top = n.3;
-      model_at = c.requires.current.model_at;
-      stack_is = c.as_slice.ensures.value
-          ∙ c.in_ok-stack.ensures n.0.stack n.1.stack;
-    } in
+    let r =
+    read-of task kept c.args.key c.args.frame model stack n c.requires.current.model_at
+    (c.as_slice.ensures.value ∙ c.in_ok-stack.ensures n.0.stack n.1.stack) in
     let known =
     read-known task kept c.args.key c.args.frame model stack r c.entry-top.result.now Closed c.in_ok-known.known c.entry-top.ensures
     c.in_ok-known.ensures c.in-Closed.is in
@@ -92,15 +74,9 @@ returns-in-Closed-clause-steps c =
     let model = c.args.current.now.model.atoms in
     let stack = c.as_slice.result.now in
     let n = c.requires.node in
-    let r : Read task kept c.args.key c.args.frame model stack =
-    record {
-      node = n.0;
-      stands = n.1;
-      top = n.3;
-      model_at = c.requires.current.model_at;
-      stack_is = c.as_slice.ensures.value
-          ∙ c.in_ok-stack.ensures n.0.stack n.1.stack;
-    } in
+    let r =
+    read-of task kept c.args.key c.args.frame model stack n c.requires.current.model_at
+    (c.as_slice.ensures.value ∙ c.in_ok-stack.ensures n.0.stack n.1.stack) in
     read-each task kept c.args.key c.args.frame model stack r
     (λ (node : Node). AreFirstSuccessors task new node c.in_ok-none-in-Closed.none.steps.items c.in_ok-none-in-Closed.none.is_all)
     c.in_ok-none-in-Closed.ensures.steps
@@ -112,15 +88,9 @@ kept_over-requires-in-Applicable-clause-alone c =
     let model = c.args.current.now.model.atoms in
     let stack = c.as_slice.result.now in
     let n = c.requires.node in
-    let r : Read task kept c.args.key c.args.frame model stack =
-    record {
-      node = n.0;
-      stands = n.1;
-      top = n.3;
-      model_at = c.requires.current.model_at;
-      stack_is = c.as_slice.ensures.value
-          ∙ c.in_ok-stack.ensures n.0.stack n.1.stack;
-    } in
+    let r =
+    read-of task kept c.args.key c.args.frame model stack n c.requires.current.model_at
+    (c.as_slice.ensures.value ∙ c.in_ok-stack.ensures n.0.stack n.1.stack) in
     let known =
     read-known task kept c.args.key c.args.frame model stack r c.entry-top.result.now Applicable c.in_ok-known.known c.entry-top.ensures
     c.in_ok-known.ensures c.in-Applicable.is in
@@ -137,15 +107,9 @@ returns-in-Applicable-clause-steps c =
     let model = c.args.current.now.model.atoms in
     let stack = c.as_slice.result.now in
     let n = c.requires.node in
-    let r : Read task kept c.args.key c.args.frame model stack =
-    record {
-      node = n.0;
-      stands = n.1;
-      top = n.3;
-      model_at = c.requires.current.model_at;
-      stack_is = c.as_slice.ensures.value
-          ∙ c.in_ok-stack.ensures n.0.stack n.1.stack;
-    } in
+    let r =
+    read-of task kept c.args.key c.args.frame model stack n c.requires.current.model_at
+    (c.as_slice.ensures.value ∙ c.in_ok-stack.ensures n.0.stack n.1.stack) in
     read-each task kept c.args.key c.args.frame model stack r
     (λ (node : Node). AreFirstSuccessors task new node c.in_ok-apply-in-Applicable.apply.steps.items
     c.in_ok-apply-in-Applicable.apply.is_all)
@@ -158,15 +122,9 @@ pushes_over-requires-clause-here c =
     let model = c.args.current.now.model.atoms in
     let stack = c.as_slice.result.now in
     let n = c.requires.node in
-    let r : Read task kept c.args.key c.args.frame model stack =
-    record {
-      node = n.0;
-      stands = n.1;
-      top = n.3;
-      model_at = c.requires.current.model_at;
-      stack_is = c.as_slice.ensures.value
-          ∙ c.in_ok-stack.ensures n.0.stack n.1.stack;
-    } in
+    let r =
+    read-of task kept c.args.key c.args.frame model stack n c.requires.current.model_at
+    (c.as_slice.ensures.value ∙ c.in_ok-stack.ensures n.0.stack n.1.stack) in
     record { top = read-top task kept c.args.key c.args.frame model stack r; part = c.requires.current.part_at }
 
 pub pushes_over-requires-clause-gaps : goal.pushes_over-requires-clause-gaps
@@ -176,15 +134,9 @@ pushes_over-requires-clause-gaps c =
     let model = c.args.current.now.model.atoms in
     let stack = c.as_slice.result.now in
     let n = c.requires.node in
-    let r : Read task kept c.args.key c.args.frame model stack =
-    record {
-      node = n.0;
-      stands = n.1;
-      top = n.3;
-      model_at = c.requires.current.model_at;
-      stack_is = c.as_slice.ensures.value
-          ∙ c.in_ok-stack.ensures n.0.stack n.1.stack;
-    } in
+    let r =
+    read-of task kept c.args.key c.args.frame model stack n c.requires.current.model_at
+    (c.as_slice.ensures.value ∙ c.in_ok-stack.ensures n.0.stack n.1.stack) in
     subst (IsOpenWith task.problem (needs_with task model stack)) (sym c.as_slice-in-Open.ensures)
     (read-known task kept c.args.key c.args.frame model stack r c.entry-top.result.now
     (Open c.in-Open.gaps) c.in_ok-known.known c.entry-top.ensures c.in_ok-known.ensures c.in-Open.is)
@@ -197,15 +149,9 @@ returns-clause-steps c =
     let model = c.args.current.now.model.atoms in
     let stack = c.as_slice.result.now in
     let n = c.requires.node in
-    let r : Read task kept c.args.key c.args.frame model stack =
-    record {
-      node = n.0;
-      stands = n.1;
-      top = n.3;
-      model_at = c.requires.current.model_at;
-      stack_is = c.as_slice.ensures.value
-          ∙ c.in_ok-stack.ensures n.0.stack n.1.stack;
-    } in
+    let r =
+    read-of task kept c.args.key c.args.frame model stack n c.requires.current.model_at
+    (c.as_slice.ensures.value ∙ c.in_ok-stack.ensures n.0.stack n.1.stack) in
     ok_map (λ successors. AreFirstSuccessors task new (record { model = model; stack = stack }) successors.steps.items successors.is_all)
     (BeginsAt task kept new c.args.key)
     (λ successors is. read-each task kept c.args.key c.args.frame model stack r
@@ -219,15 +165,9 @@ returns-clause-limited c =
     let model = c.args.current.now.model.atoms in
     let stack = c.as_slice.result.now in
     let n = c.requires.node in
-    let r : Read task kept c.args.key c.args.frame model stack =
-    record {
-      node = n.0;
-      stands = n.1;
-      top = n.3;
-      model_at = c.requires.current.model_at;
-      stack_is = c.as_slice.ensures.value
-          ∙ c.in_ok-stack.ensures n.0.stack n.1.stack;
-    } in
+    let r =
+    read-of task kept c.args.key c.args.frame model stack n c.requires.current.model_at
+    (c.as_slice.ensures.value ∙ c.in_ok-stack.ensures n.0.stack n.1.stack) in
     if_limit (LimitsNode task (record { model = model; stack = stack }))
     (LimitsAt task kept c.args.key) c.pushes_over.result c.pushes_over.ensures.limited
     (λ limit limits. read-each task kept c.args.key c.args.frame model stack r
