@@ -372,10 +372,10 @@ module _ (task : Task) where
 
   -- ---- a move of the node
 
-  module _ (kept : Kept) (once : AreEachOnce kept) (keys : List NodeKey) (origins : List Origin) (picker : Picker) (picked : List ℕ)
-      (next : ℕ) (steps : List Step) (is_all : Bool) (i : ℕ) (s : Step)
-      (t : Trying task kept keys origins picker picked next steps is_all i) (m : Move) (at_m : slice_get t.successors.moves i ≡ Some m)
-      (step_is : DescribesMove kept s m) (there : NodeKey) (there_stands : IsKeyOf kept there (after task (goes t.list) m)) where
+  module _ {kept : Kept} (once : AreEachOnce kept) {keys : List NodeKey} {origins : List Origin} {picker : Picker} {picked : List ℕ}
+      {next : ℕ} {steps : List Step} {is_all : Bool} {i : ℕ} (s : Step)
+      (t : Trying task kept keys origins picker picked next steps is_all i) {m : Move} (at_m : slice_get t.successors.moves i ≡ Some m)
+      (step_is : DescribesMove kept s m) {there : NodeKey} (there_stands : IsKeyOf kept there (after task (goes t.list) m)) where
     abbrev pub g : Going task kept keys origins picker picked next (take i t.successors.moves)
     g = t.going
 
@@ -510,8 +510,7 @@ module _ (task : Task) where
             g.found ++ more_moves ∷ [],
             found-more,
             ends_found task g.found next picked g.making.searching t.list t.list_at m is_new (room_there room) t_new.0
-            t.successors.unlimited
-                t_new.1,
+                t.successors.unlimited t_new.1,
           )
 
       pub going-limit : (limit : MetLimit) → length keys < task.nodes → IsTriedAt task next_node (Limited limit)
@@ -522,8 +521,7 @@ module _ (task : Task) where
             found = g.found ++ more_moves ∷ [];
             are = found-more;
             first = first_there task g.found next picked g.making.searching t.list t.list_at m is_new t.successors.unlimited
-                (room_there room)
-                t_new.0 limit t_new.1 t_new.2;
+                (room_there room) t_new.0 limit t_new.1 t_new.2;
             stands = new_stands;
           }
 

@@ -139,12 +139,12 @@ module _ (task : Task) where
     pub step_is : DescribesMove kept s m
     pub stands : IsKeyOf kept there (after task (node_of task t.list) m)
 
-  pub step_on : (old new : Kept) (keys : List NodeKey) (origins : List Origin) (picker : Picker) (picked : List ℕ) (next : ℕ)
-      (steps : List Step) (is_all : Bool) (i : ℕ) (s : Step) (key there : NodeKey)
+  pub step_on : {old new : Kept} {keys : List NodeKey} {origins : List Origin} {picker : Picker} {picked : List ℕ} {next : ℕ}
+      {steps : List Step} {is_all : Bool} {i : ℕ} {key there : NodeKey} (s : Step)
       → Trying task old keys origins picker picked next steps is_all i → slice_get keys next ≡ Some key → KeepsAll old new
       → ((node : Node) (m : Move) → IsKeyOf old key node → DescribesMove old s m → IsKeyOf new there (after task node m))
       → slice_get steps i ≡ Some s → Stepped new keys origins picker picked next steps is_all i s there
-  step_on old new keys origins picker picked next steps is_all i s key there t at keeps makes step_at' =
+  step_on {old} {new} {keys} {origins} {picker} {picked} {next} {steps} {is_all} {i} {key} {there} s t at keeps makes step_at' =
       let r = step_move old steps t.successors.moves i s t.successors.steps_are step_at' in
       record {
         t = trying-grows task old new keys origins picker picked next steps is_all i keeps t;
@@ -161,8 +161,8 @@ module _ (task : Task) where
   asks_step kept keys origins picker picked next steps is_all i key t at =
       let h = here_of task kept keys origins picker picked next (take i t.successors.moves) key t.going at in (h.node, h.stands, h.entries)
 
-  module _ (kept : Kept) (once : AreEachOnce kept) (keys new : List NodeKey) (origins : List Origin) (picker : Picker) (picked : List ℕ)
-      (next : ℕ) (steps : List Step) (is_all : Bool) (i : ℕ) (s : Step) (there : NodeKey) (place : ℕ)
+  module _ {kept : Kept} (once : AreEachOnce kept) {keys new : List NodeKey} {origins : List Origin} {picker : Picker} {picked : List ℕ}
+      {next : ℕ} {steps : List Step} {is_all : Bool} {i : ℕ} {s : Step} {there : NodeKey} {place : ℕ}
       (st : Stepped kept keys origins picker picked next steps is_all i s there) (kept_key : Keeps keys new there place) where
     abbrev origin : Origin
     origin = record { parent = next; last = s }
@@ -171,17 +171,15 @@ module _ (task : Task) where
     step-seen below =
         let old = kept_old keys new there place kept_key below in
         subst (λ (l : List NodeKey). Trying task kept l origins picker picked next steps is_all (i + 1)) (sym old.1)
-        (trying-seen task kept once keys origins picker picked next steps is_all i s st.t st.m st.at_m st.step_is there st.stands old.0)
+        (trying-seen task once s st.t st.at_m st.step_is st.stands old.0)
 
     pub step-earlier : (made : List Origin) → made ≡ origins ++ origin ∷ [] → AreEarlier made
-    step-earlier made is =
-        subst AreEarlier (sym is) (more_earlier task kept once keys origins picker picked next steps is_all i s st.t st.m st.at_m st.step_is
-        there st.stands)
+    step-earlier made is = subst AreEarlier (sym is) (more_earlier task once s st.t st.at_m st.step_is st.stands)
 
     pub step-trace : (made : List Origin) → made ≡ origins ++ origin ∷ [] → (found : List (List Move)) × Trace kept made found
     step-trace made is =
         subst (λ (l : List Origin). (found : List (List Move)) × Trace kept l found) (sym is)
-        (some_trace task kept once keys origins picker picked next steps is_all i s st.t st.m st.at_m st.step_is there st.stands)
+        (some_trace task once s st.t st.at_m st.step_is st.stands)
 
     abbrev pub there_stands : (node : Node) × IsKeyOf kept there node
     there_stands = (after task (node_of task st.t.list) st.m, st.stands)
@@ -191,11 +189,10 @@ module _ (task : Task) where
     step-moves = st.t.list ++ st.m ∷ []
 
     pub step-onward : IsOnward task kept st.t.going.found origin there step-moves
-    step-onward = onward task kept once keys origins picker picked next steps is_all i s st.t st.m st.at_m st.step_is there st.stands
+    step-onward = onward task once s st.t st.at_m st.step_is st.stands
 
     pub step-within : AreWithin st.t.going.found (next ∷ picked)
-    step-within =
-        picked-within task kept once keys origins picker picked next steps is_all i s st.t st.m st.at_m st.step_is there st.stands
+    step-within = picked-within task once s st.t st.at_m st.step_is st.stands
 
     module _ (above : ¬ (place < length keys)) where
       fresh : (¬ Contains keys there) × (new ≡ keys ++ there ∷ [])
@@ -212,8 +209,7 @@ module _ (task : Task) where
           let t = subst (IsTriedAt task there_stands.0) same (says there_stands.0 st.stands) in
           subst (λ (l : List NodeKey). Trying task kept l made later picked next steps is_all (i + 1)) (sym fresh.1)
           (subst (λ (l : List Origin). Trying task kept (keys ++ there ∷ []) l later picked next steps is_all (i + 1)) (sym is)
-          (trying-new task kept once keys origins picker picked next steps is_all i s st.t st.m st.at_m st.step_is there st.stands fresh.0
-          later room t picking))
+          (trying-new task once s st.t st.at_m st.step_is st.stands fresh.0 later room t picking))
 
       pub step-reached : (made : List Origin) (tried : Tried) → made ≡ origins ++ origin ∷ [] → length keys < task.nodes
           → ((node : Node) → IsKeyOf kept there node → IsTriedAt task node tried) → tried ≡ Answered → IsReached task kept new made
@@ -221,8 +217,7 @@ module _ (task : Task) where
           let t = subst (IsTriedAt task there_stands.0) same (says there_stands.0 st.stands) in
           subst (λ (l : List NodeKey). IsReached task kept l made) (sym fresh.1)
           (subst (λ (l : List Origin). IsReached task kept (keys ++ there ∷ []) l) (sym is)
-          (going-found task kept once keys origins picker picked next steps is_all i s st.t st.m st.at_m st.step_is there st.stands fresh.0
-          room t))
+          (going-found task once s st.t st.at_m st.step_is st.stands fresh.0 room t))
 
       -- there are fewer origins than numbers of 32 bits
       pub step-origins : (made : List Origin) → made ≡ origins ++ origin ∷ [] → length made ≤ task.nodes
@@ -236,8 +231,7 @@ module _ (task : Task) where
           let here : Limit = record { key = there; met = limit } in
           subst (λ (l : List NodeKey). IsLimitedAt task kept l made here) (sym fresh.1)
           (subst (λ (l : List Origin). IsLimitedAt task kept (keys ++ there ∷ []) l here) (sym is)
-          (going-limit task kept once keys origins picker picked next steps is_all i s st.t st.m st.at_m st.step_is there st.stands fresh.0
-          limit room t))
+          (going-limit task once s st.t st.at_m st.step_is st.stands fresh.0 limit room t))
 
       pub step-full : (made : List Origin) (count : ℕ) → made ≡ origins ++ origin ∷ [] → task.nodes ≤ length keys
           → ((moves : List Move) × (count ≡ length moves)
@@ -246,8 +240,7 @@ module _ (task : Task) where
       step-full made count is enough traced =
           subst (λ (l : List NodeKey). IsFull task kept l made count) (sym fresh.1)
           (subst (λ (l : List Origin). IsFull task kept (keys ++ there ∷ []) l count) (sym is)
-          (going-full task kept once keys origins picker picked next steps is_all i s st.t st.m st.at_m st.step_is there st.stands fresh.0
-          count enough
+          (going-full task once s st.t st.at_m st.step_is st.stands fresh.0 count enough
           (subst (λ (l : List Origin). (moves : List Move) × (count ≡ length moves)
           × ((found : List (List Move)) → Trace kept l found → slice_get found (length l) ≡ Some moves)) is traced)))
 
