@@ -246,9 +246,9 @@ module _ (task : Task) where
       record { found = b.found; between = b.between; is_next = is_next; numbered = b.numbered; picking = picking }
 
   -- no move from it is made yet
-  abbrev pub pick-going : (kept : Kept) (keys : List NodeKey) (origins : List Origin) (picker : Picker) (picked : List ℕ) (next : ℕ)
+  abbrev pub pick-going : {kept : Kept} {keys : List NodeKey} {origins : List Origin} {picker : Picker} {picked : List ℕ} {next : ℕ}
       → AtPick task kept keys origins picker picked next → Going task kept keys origins picker picked next []
-  pick-going kept keys origins picker picked next a = record {
+  pick-going {kept} {keys} {origins} {picker} {picked} {next} a = record {
     found = a.found;
     making = making_start task a.found picked a.between next a.is_next;
     numbered = a.numbered;
@@ -267,10 +267,10 @@ module _ (task : Task) where
 
   -- ---- at a node
 
-  abbrev pub going-grows : (old new : Kept) (keys : List NodeKey) (origins : List Origin) (picker : Picker) (picked : List ℕ) (next : ℕ)
-      (tried : List Move) → KeepsAll old new → Going task old keys origins picker picked next tried
+  abbrev pub going-grows : {old new : Kept} {keys : List NodeKey} {origins : List Origin} {picker : Picker} {picked : List ℕ} {next : ℕ}
+      {tried : List Move} → KeepsAll old new → Going task old keys origins picker picked next tried
       → Going task new keys origins picker picked next tried
-  going-grows old new keys origins picker picked next tried keeps g = record {
+  going-grows {old} {new} {keys} {origins} {picker} {picked} {next} {tried} keeps g = record {
     found = g.found;
     making = g.making;
     numbered = numbered-grows old new keys origins g.found keeps g.numbered;
@@ -278,10 +278,10 @@ module _ (task : Task) where
   }
 
   -- the node whose moves are to be made
-  pub here_of : (kept : Kept) (keys : List NodeKey) (origins : List Origin) (picker : Picker) (picked : List ℕ) (next : ℕ)
-      (tried : List Move) (key : NodeKey) → Going task kept keys origins picker picked next tried → slice_get keys next ≡ Some key
+  pub here_of : {kept : Kept} {keys : List NodeKey} {origins : List Origin} {picker : Picker} {picked : List ℕ} {next : ℕ}
+      {tried : List Move} {key : NodeKey} → Going task kept keys origins picker picked next tried → slice_get keys next ≡ Some key
       → IsAskedAt task kept key
-  here_of kept keys origins picker picked next tried key g at =
+  here_of {kept} {keys} {origins} {picker} {picked} {next} {tried} {key} g at =
       let here = list_of kept keys origins g.found g.numbered next key at in
       let has = contains_place g.found next here.0 here.1 in
       record {
@@ -291,23 +291,23 @@ module _ (task : Task) where
         tried = (λ solved. g.making.searching.unsolved here.0 has solved, λ empty. g.making.searching.tested here.0 has empty);
       }
 
-  pub trying-start : (old new : Kept) (keys : List NodeKey) (origins : List Origin) (picker : Picker) (picked : List ℕ) (next : ℕ)
-      (key : NodeKey) (steps : List Step) (is_all : Bool) → KeepsAll old new → Going task old keys origins picker picked next []
+  pub trying-start : {old new : Kept} {keys : List NodeKey} {origins : List Origin} {picker : Picker} {picked : List ℕ} {next : ℕ}
+      {key : NodeKey} (steps : List Step) (is_all : Bool) → KeepsAll old new → Going task old keys origins picker picked next []
       → slice_get keys next ≡ Some key → ((node : Node) → IsKeyOf old key node → AreFirstSuccessors task new node steps is_all)
       → Trying task new keys origins picker picked next steps is_all 0
-  trying-start old new keys origins picker picked next key steps is_all keeps g at successors =
+  trying-start {old} {new} {keys} {origins} {picker} {picked} {next} {key} steps is_all keeps g at successors =
       let here = list_of old keys origins g.found g.numbered next key at in
       record {
         list = here.0;
         successors = successors (goes here.0) here.2;
-        going = going-grows old new keys origins picker picked next [] keeps g;
+        going = going-grows keeps g;
         list_at = here.1;
       }
 
-  abbrev pub trying-grows : (old new : Kept) (keys : List NodeKey) (origins : List Origin) (picker : Picker) (picked : List ℕ) (next : ℕ)
-      (steps : List Step) (is_all : Bool) (i : ℕ) → KeepsAll old new → Trying task old keys origins picker picked next steps is_all i
+  abbrev pub trying-grows : {old new : Kept} {keys : List NodeKey} {origins : List Origin} {picker : Picker} {picked : List ℕ} {next : ℕ}
+      {steps : List Step} {is_all : Bool} {i : ℕ} → KeepsAll old new → Trying task old keys origins picker picked next steps is_all i
       → Trying task new keys origins picker picked next steps is_all i
-  trying-grows old new keys origins picker picked next steps is_all i keeps t = record {
+  trying-grows {old} {new} {keys} {origins} {picker} {picked} {next} {steps} {is_all} {i} keeps t = record {
     list = t.list;
     successors =
         record {
@@ -317,35 +317,35 @@ module _ (task : Task) where
           steps_are = steps-grow old new steps t.successors.moves keeps t.successors.steps_are;
           unlimited = t.successors.unlimited;
         };
-    going = going-grows old new keys origins picker picked next (take i t.successors.moves) keeps t.going;
+    going = going-grows keeps t.going;
     list_at = t.list_at;
   }
 
   -- the pair at the place is the node
-  pub same_here : (kept : Kept) (keys : List NodeKey) (origins : List Origin) (picker : Picker) (picked : List ℕ) (next : ℕ)
-      (steps : List Step) (is_all : Bool) (i : ℕ) (key : NodeKey) → (t : Trying task kept keys origins picker picked next steps is_all i)
+  pub same_here : {kept : Kept} {keys : List NodeKey} {origins : List Origin} {picker : Picker} {picked : List ℕ} {next : ℕ}
+      {steps : List Step} {is_all : Bool} {i : ℕ} {key : NodeKey} → (t : Trying task kept keys origins picker picked next steps is_all i)
       → slice_get keys next ≡ Some key → IsKeyOf kept key (goes t.list)
-  same_here kept keys origins picker picked next steps is_all i key t at =
+  same_here {kept} {keys} {origins} {picker} {picked} {next} {steps} {is_all} {i} {key} t at =
       key_is kept keys origins t.going.found t.going.numbered next key t.list at t.list_at
 
   -- the place is that of a node
-  pub trying-within : (kept : Kept) (keys : List NodeKey) (origins : List Origin) (picker : Picker) (picked : List ℕ) (next : ℕ)
-      (steps : List Step) (is_all : Bool) (i : ℕ) → Trying task kept keys origins picker picked next steps is_all i → next < length keys
-  trying-within kept keys origins picker picked next steps is_all i t =
+  pub trying-within : {kept : Kept} {keys : List NodeKey} {origins : List Origin} {picker : Picker} {picked : List ℕ} {next : ℕ}
+      {steps : List Step} {is_all : Bool} {i : ℕ} → Trying task kept keys origins picker picked next steps is_all i → next < length keys
+  trying-within {kept} {keys} {origins} {picker} {picked} {next} {steps} {is_all} {i} t =
       omega (arith, counted kept keys origins t.going.found t.going.numbered, place_within t.going.found next t.list t.list_at)
 
   -- there is room for more, or as many as may be kept
-  pub going-room : (kept : Kept) (keys : List NodeKey) (origins : List Origin) (picker : Picker) (picked : List ℕ) (next : ℕ)
-      (tried : List Move) → Going task kept keys origins picker picked next tried → length keys ≤ task.nodes
-  going-room kept keys origins picker picked next tried g =
+  pub going-room : {kept : Kept} {keys : List NodeKey} {origins : List Origin} {picker : Picker} {picked : List ℕ} {next : ℕ}
+      {tried : List Move} → Going task kept keys origins picker picked next tried → length keys ≤ task.nodes
+  going-room {kept} {keys} {origins} {picker} {picked} {next} {tried} g =
       omega (arith, counted kept keys origins g.found g.numbered, g.making.searching.room)
 
   -- a question of the node that was picked meets the limit
-  pub limit-here : (old new : Kept) (keys : List NodeKey) (origins : List Origin) (picker : Picker) (picked : List ℕ) (next : ℕ)
-      (key : NodeKey) (limit : MetLimit) → KeepsAll old new → AtPick task old keys origins picker picked next
+  pub limit-here : {old new : Kept} {keys : List NodeKey} {origins : List Origin} {picker : Picker} {picked : List ℕ} {next : ℕ}
+      {key : NodeKey} (limit : MetLimit) → KeepsAll old new → AtPick task old keys origins picker picked next
       → slice_get keys next ≡ Some key → ((node : Node) → IsKeyOf old key node → LimitsNode task node limit)
       → IsLimitedAt task new keys origins (record { key = key; met = limit })
-  limit-here old new keys origins picker picked next key limit keeps a at limits =
+  limit-here {old} {new} {keys} {origins} {picker} {picked} {next} {key} limit keeps a at limits =
       let here = list_of old keys origins a.found a.numbered next key at in
       let l = limits (goes here.0) here.2 in
       record {
@@ -358,10 +358,10 @@ module _ (task : Task) where
         stands = stands-grows old new key (goes here.0) keeps here.2;
       }
 
-  pub going-next : (kept : Kept) (keys : List NodeKey) (origins : List Origin) (picker : Picker) (picked : List ℕ) (next : ℕ)
-      (steps : List Step) (is_all : Bool) (i : ℕ) (t : Trying task kept keys origins picker picked next steps is_all i)
+  pub going-next : {kept : Kept} {keys : List NodeKey} {origins : List Origin} {picker : Picker} {picked : List ℕ} {next : ℕ}
+      {steps : List Step} {is_all : Bool} {i : ℕ} (t : Trying task kept keys origins picker picked next steps is_all i)
       → take i t.successors.moves ≡ t.successors.moves → is_all ≡ true → Between task kept keys origins picker (next ∷ picked)
-  going-next kept keys origins picker picked next steps is_all i t whole all = record {
+  going-next {kept} {keys} {origins} {picker} {picked} {next} {steps} {is_all} {i} t whole all = record {
     found = t.going.found;
     between = between_next task t.going.found next picked t.list t.list_at t.successors.moves
         (subst (λ (l : List Move). IsMaking task t.going.found next picked l) whole t.going.making)
@@ -401,7 +401,7 @@ module _ (task : Task) where
     found_counts = counted kept keys origins g.found g.numbered ∙ g.numbered.one_more
 
     key_within : next < length keys
-    key_within = trying-within kept keys origins picker picked next steps is_all i t
+    key_within = trying-within t
 
     -- the places that were picked are those of found lists
     pub picked-within : AreWithin g.found (next ∷ picked)

@@ -147,19 +147,19 @@ module _ (task : Task) where
   step_on {old} {new} {keys} {origins} {picker} {picked} {next} {steps} {is_all} {i} {key} {there} s t at keeps makes step_at' =
       let r = step_move old steps t.successors.moves i s t.successors.steps_are step_at' in
       record {
-        t = trying-grows task old new keys origins picker picked next steps is_all i keeps t;
+        t = trying-grows task keeps t;
         m = r.0;
         at_m = r.1;
         step_is = step-grows old new s r.0 keeps r.2;
-        stands = makes (node_of task t.list) r.0 (same_here task old keys origins picker picked next steps is_all i key t at) r.2;
+        stands = makes (node_of task t.list) r.0 (same_here task t at) r.2;
       }
 
-  pub asks_step : (kept : Kept) (keys : List NodeKey) (origins : List Origin) (picker : Picker) (picked : List ℕ) (next : ℕ)
-      (steps : List Step) (is_all : Bool) (i : ℕ) (key : NodeKey) → Trying task kept keys origins picker picked next steps is_all i
+  pub asks_step : {kept : Kept} {keys : List NodeKey} {origins : List Origin} {picker : Picker} {picked : List ℕ} {next : ℕ}
+      {steps : List Step} {is_all : Bool} {i : ℕ} {key : NodeKey} → Trying task kept keys origins picker picked next steps is_all i
       → slice_get keys next ≡ Some key
       → (node : Node) × IsKeyOf kept key node × All (IsEntry task.problem task.tables) node.stack
-  asks_step kept keys origins picker picked next steps is_all i key t at =
-      let h = here_of task kept keys origins picker picked next (take i t.successors.moves) key t.going at in (h.node, h.stands, h.entries)
+  asks_step {kept} {keys} {origins} {picker} {picked} {next} {steps} {is_all} {i} {key} t at =
+      let h = here_of task t.going at in (h.node, h.stands, h.entries)
 
   module _ {kept : Kept} (once : AreEachOnce kept) {keys new : List NodeKey} {origins : List Origin} {picker : Picker} {picked : List ℕ}
       {next : ℕ} {steps : List Step} {is_all : Bool} {i : ℕ} {s : Step} {there : NodeKey} {place : ℕ}
@@ -199,7 +199,7 @@ module _ (task : Task) where
       fresh = kept_new keys new there place kept_key above
 
       pub step-few : length keys ≤ task.nodes
-      step-few = going-room task kept keys origins picker picked next (take i st.t.successors.moves) st.t.going
+      step-few = going-room task st.t.going
 
       pub step-new : (made : List Origin) (tried : Tried) (later : Picker) → made ≡ origins ++ origin ∷ []
           → length keys < task.nodes → ((node : Node) → IsKeyOf kept there node → IsTriedAt task node tried) → tried ≡ Unanswered
@@ -295,9 +295,9 @@ module _ (task : Task) where
           (sym full.end.full ∙ sym (length-map full.found (node_of task)));
     }
 
-  pub node-done : (kept : Kept) (keys : List NodeKey) (origins : List Origin) (picker : Picker) (picked : List ℕ) (next : ℕ)
-      (steps : List Step) (is_all : Bool) (i : ℕ) → Trying task kept keys origins picker picked next steps is_all i → length steps ≤ i
+  pub node-done : {kept : Kept} {keys : List NodeKey} {origins : List Origin} {picker : Picker} {picked : List ℕ} {next : ℕ}
+      {steps : List Step} {is_all : Bool} {i : ℕ} → Trying task kept keys origins picker picked next steps is_all i → length steps ≤ i
       → is_all ≡ true → Between task kept keys origins picker (next ∷ picked)
-  node-done kept keys origins picker picked next steps is_all i t all is =
-      going-next task kept keys origins picker picked next steps is_all i t
+  node-done {kept} {keys} {origins} {picker} {picked} {next} {steps} {is_all} {i} t all is =
+      going-next task t
       (take_all i t.successors.moves (omega (arith, all, steps-count kept steps t.successors.moves t.successors.steps_are))) is

@@ -1,8 +1,7 @@
 -- The first of the moves of a node, and all of them.
 use Rattle.std.proofs.Common.{◌≡◌, ◌⊎◌, ℕ, Bool, true, suc, ◌≤◌, List, [], ◌∷◌, take, length, refl, sym, ◌∙◌, ap, subst, inl, inr, arith, Some, slice_get, Contains}
 use Rattle.std.specs.Prelude.{AllPairs}
-use Rattle.std.specs.declared.cmp.Ordering.TheVariants.{Less, Equal}
-use Rattle.std.specs.Cmp.{tied_itself}
+use Rattle.std.specs.declared.cmp.Ordering.TheVariants.{Less}
 use Rattle.std.proofs.lemmas.List.{take_all}
 use Rattle.std.proofs.lemmas.List.Elements.{All-contains}
 use Rattle.px_base.specs.ListLaws.{Contains-none, Contains-first, Contains-later, Contains-cases}
@@ -12,7 +11,6 @@ use Rattle.px_table.specs.declared.node.Node.{Node}
 use Rattle.px_ends.specs.Order.{move_cmp}
 use Rattle.px_ends.specs.Ends.{node_of}
 use Rattle.px_ends.specs.Tasks.{Task}
-use Rattle.px_ends.proofs.MoveLaws.{move_cmp-total}
 use Rattle.px_numbers.specs.declared.nodes.NodeKey.{NodeKey}
 use Rattle.px_numbers.specs.Numbers.{Kept, IsKeyOf, KeepsAll}
 use Rattle.px_search.specs.declared.picker.Picker.{Picker}
@@ -22,6 +20,7 @@ use Rattle.px_search.specs.Going.{AreFirstOf, AreMovesOf, IsGoneOn, LimitsNode}
 use Rattle.px_search.specs.Looping.{Trying}
 use Rattle.px_search.specs.Searching.{IsMaking}
 use Rattle.px_search.proofs.BeginningLaws.{all-successors}
+use Rattle.px_search.proofs.FirstMoves.{never_both, never_less}
 use Rattle.px_search.proofs.GoingLaws.{going-grows, same_here}
 use Rattle.px_search.proofs.StepLaws.{steps-count}
 
@@ -29,12 +28,6 @@ use Rattle.px_search.proofs.StepLaws.{steps-count}
 
 abbrev pub AreInOrder : List Move → Type 0
 AreInOrder moves = AllPairs (λ m n. move_cmp m n ≡ Less) moves
-
-never_less : (m : Move) → ¬ (move_cmp m m ≡ Less)
-never_less m h = let e : Less ≡ Equal = sym h ∙ tied_itself move_cmp-total m in cc
-
-never_both : (m n : Move) → move_cmp m n ≡ Less → ¬ (move_cmp n m ≡ Less)
-never_both m n h k = never_less m (move_cmp-total.trans m n m h k)
 
 head-less : (m : Move) (ms : List Move) → AreInOrder (m ∷ ms) → (n : Move) → Contains ms n → move_cmp m n ≡ Less
 head-less m ms ordered n has =
@@ -110,8 +103,8 @@ module _ (task : Task) where
       firsts-are_taken firsts whole first.ordered all.ordered (λ m has. (all.all m).0 (first.allowed m has))
       (λ m has. first.others m ((all.all m).1 has))
 
-  module _ (old new : Kept) (keys : List NodeKey) (origins : List Origin) (picker : Picker) (picked : List ℕ) (next : ℕ) (steps : List Step)
-      (is_all : Bool) (from : ℕ) (key : NodeKey) (t : Trying task old keys origins picker picked next steps is_all from)
+  module _ {old : Kept} {keys : List NodeKey} {origins : List Origin} {picker : Picker} {picked : List ℕ} {next : ℕ}
+      {steps : List Step} {is_all : Bool} {from : ℕ} {key : NodeKey} (t : Trying task old keys origins picker picked next steps is_all from)
       (from_is : from ≡ length steps) (at : slice_get keys next ≡ Some key) where
     abbrev node_here : Node
     node_here = node_of task t.list
@@ -119,12 +112,12 @@ module _ (task : Task) where
     -- none of the questions of the node meets the limit
     pub unlimited-here : (limit : MetLimit) → ¬ ((node : Node) → IsKeyOf old key node → LimitsNode task node limit)
     unlimited-here limit limits =
-        let l = limits node_here (same_here task old keys origins picker picked next steps is_all from key t at) in
+        let l = limits node_here (same_here task t at) in
         t.successors.unlimited limit.question l.asked limit.formula limit.shapes l.met
 
-    module _ (whole : List Step) (gone : (node : Node) → IsKeyOf old key node → IsGoneOn task new node whole) where
+    module _ {new : Kept} (whole : List Step) (gone : (node : Node) → IsKeyOf old key node → IsGoneOn task new node whole) where
       abbrev all_here : IsGoneOn task new node_here whole
-      all_here = gone node_here (same_here task old keys origins picker picked next steps is_all from key t at)
+      all_here = gone node_here (same_here task t at)
 
       from_moves : from ≡ length t.successors.moves
       from_moves = from_is ∙ steps-count old steps t.successors.moves t.successors.steps_are
@@ -150,7 +143,7 @@ module _ (task : Task) where
       trying-others keeps = record {
         list = t.list;
         successors = all-successors task new node_here whole true all_here;
-        going = going-grows task old new keys origins picker picked next (take from all_here.moves) keeps (record {
+        going = going-grows task keeps (record {
           found = t.going.found;
           making = subst (λ (l : List Move). IsMaking task t.going.found next picked l) same_tried t.going.making;
           numbered = t.going.numbered;

@@ -5,17 +5,10 @@ use Rattle.px_search.proofs.LoopLaws.{asks_step, exploring-grows, step_on, step-
 use Rattle.px_search.proofs.best_first.Explored.make_move.Goals as goal
 
 pub node-key-requires : goal.node-key-requires
-node-key-requires c =
-    let e = c.args.self.now in
-    let r = c.requires.trying in
-    trying-within (task_for c.args.asked.now) e.cache.numbers e.nodes e.origins.items e.picker r.0 c.args.next r.1 r.2 r.3 r.4
+node-key-requires c = trying-within (task_for c.args.asked.now) c.requires.trying.4
 
 pub after-requires-clause-node : goal.after-requires-clause-node
-after-requires-clause-node c =
-    let e = c.args.self.now in
-    let r = c.requires.trying in
-    asks_step (task_for c.args.asked.now) e.cache.numbers e.nodes e.origins.items e.picker r.0 c.args.next r.1 r.2 r.3 c.node-key.result r.4
-    c.node-key.ensures
+after-requires-clause-node c = asks_step (task_for c.args.asked.now) c.requires.trying.4 c.node-key.ensures
 
 pub returns-then-place-count-clause-made : goal.returns-then-place-count-clause-made
 returns-then-place-count-clause-made c = λ picked steps is_all i t at.
