@@ -2,10 +2,9 @@
 ghost use Rattle.std.specs.Prelude.{◌≡◌, ◌+◌, ◌<◌, ◌≤◌, ◌∷◌, [], ℕ, Bool, List, length, slice_get, Some, IfOk, IfErr, IsTrue, OnOk};
 ghost use Rattle.px_base.specs.Bounds.{u32_max};
 ghost use Rattle.px_table.specs.declared.entry.Move.{Move};
-ghost use Rattle.px_table.specs.declared.node.Node.{Node};
 ghost use Rattle.px_entries.specs.Unlimited.{IsNeverLimited};
 ghost use Rattle.px_numbers.specs.Numbers.{IsKeyOf, KeepsAll};
-ghost use Rattle.px_ends.specs.ByValue.{IsFound, IsShapeLimit};
+ghost use Rattle.px_ends.specs.ByValue.{IsFound};
 ghost use Rattle.px_ends.specs.Tasks.{Task, initial_node};
 ghost use Rattle.px_support.specs.Asking.{IsAskable, task_for};
 ghost use Rattle.px_search.specs.Asking.{IsTriedAt};

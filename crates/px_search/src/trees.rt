@@ -1,5 +1,5 @@
 //! The tree of a search.
-ghost use Rattle.std.specs.Prelude.{◌≡◌, ◌<◌, ◌≤◌, ℕ, List, length, slice_get, take, All, Some, Err, IfOk, IfErr, IsTrue, OnOk};
+ghost use Rattle.std.specs.Prelude.{◌≡◌, ◌<◌, ◌≤◌, List, length, slice_get, take, All, Some, Err, IfOk, IfErr, IsTrue, OnOk};
 ghost use Rattle.px_terms.specs.Limits.{most_formula_variables, most_nodes};
 ghost use Rattle.px_terms.specs.Validity.{IsAtomOf, IsValid};
 ghost use Rattle.px_table.specs.declared.entry.Move.{Move};
@@ -24,7 +24,7 @@ use crate::step::{Origin, Step};
 use crate::stop::Stop;
 use px_base::push;
 use px_entries::never_limited;
-use px_numbers::{NodeKey, NodeSet, Numbers};
+use px_numbers::{NodeKey, Numbers};
 use px_ops::Model;
 use px_support::Asked;
 use px_table::{Entry, Table};
