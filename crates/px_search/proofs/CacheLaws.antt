@@ -32,7 +32,6 @@ use Rattle.px_search.proofs.StruckLaws.{keeps_all_both}
 
 -- ---- keys
 
-
 abbrev pub place_eq : EntryPlace → EntryPlace → Bool
 place_eq = (place_equality.ghosts).eq
 

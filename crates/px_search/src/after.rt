@@ -12,7 +12,7 @@ ghost use Rattle.px_search.specs.CurrentModels.{IsCurrent};
 ghost use Rattle.px_search.specs.Steps.{DescribesMove};
 ghost use Rattle.px_ends.specs.Tasks.{after};
 
-use crate::cache::{EntryPlace, Cache};
+use crate::cache::{Cache, EntryPlace};
 use crate::current::CurrentModel;
 use crate::step::Step;
 use px_numbers::{NodeKey, Numbers};

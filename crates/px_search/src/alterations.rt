@@ -7,9 +7,9 @@ ghost use Rattle.px_support.specs.Asking.{IsAskable, task_for};
 ghost use Rattle.px_search.specs.Cache.{AreRight, HaveGrown, IsAlterationAt, IsAlterationOf, IsEntryAt, IsResultAt};
 ghost use Rattle.px_search.specs.CurrentModels.{IsCurrent};
 
-use crate::cache::{Alteration, EntryPlace, Cache};
-use crate::results::result_anew;
+use crate::cache::{Alteration, Cache, EntryPlace};
 use crate::current::CurrentModel;
+use crate::results::result_anew;
 use px_numbers::Numbers;
 use px_ops::schema_of;
 use px_support::Asked;

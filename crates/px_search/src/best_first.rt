@@ -12,12 +12,12 @@ ghost use Rattle.px_search.specs.Looping.{GoesOn, IsEnd, IsExploring, IsFull, Is
 ghost use Rattle.px_search.specs.Steps.{AreEarlier, Trace};
 ghost use Rattle.px_search.specs.declared.step.Step.{Step};
 
-use crate::ends::SearchErr;
 use crate::cache::Cache;
+use crate::current::CurrentModel;
+use crate::ends::SearchErr;
 use crate::origins::moves_to;
 use crate::picker::Picker;
 use crate::picks::step_at;
-use crate::current::CurrentModel;
 use crate::step::{Origin, Step};
 use crate::stop::{Limit, Stop};
 use crate::tried::try_node;

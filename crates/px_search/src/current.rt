@@ -76,7 +76,12 @@ impl Cache {
     }
 
     /// Looks at the model of this number. A model that is looked at already stays as it is.
-    pub fn show(&mut self, asked: &Asked, current: &mut CurrentModel, number: u32) -> Result<(), NoMemory>
+    pub fn show(
+        &mut self,
+        asked: &Asked,
+        current: &mut CurrentModel,
+        number: u32,
+    ) -> Result<(), NoMemory>
         requires asked { IsAskable asked.now }
         requires cache { AreRight (task_for asked.now) self.old }
         requires model { (model : List Atom) × IsModelAt self.old.numbers number model }

@@ -16,11 +16,11 @@ ghost use Rattle.px_search.specs.Going.{BeginsAt, IsAskedAt, AreFirstSuccessors,
 ghost use Rattle.px_ends.specs.Tasks.{needs_at, needs_with};
 
 use crate::all_steps::{only_apply, pushes};
-use crate::successors::Successors;
-use crate::cache::{EntryPlace, Cache, Offer};
-use crate::picks::struck;
+use crate::cache::{Cache, EntryPlace, Offer};
 use crate::current::CurrentModel;
+use crate::picks::struck;
 use crate::step::Step;
+use crate::successors::Successors;
 use px_diff::MoveErr;
 use px_gaps::{Known, known_formula};
 use px_numbers::{Frame, NodeKey, Numbers, stack_at};
@@ -118,7 +118,12 @@ impl Cache {
     }
 
     /// Returns the first moves of a node of which nothing is kept, whose model is the current one.
-    fn steps_anew(&mut self, asked: &Asked, current: &CurrentModel, key: NodeKey) -> Result<Successors, MoveErr>
+    fn steps_anew(
+        &mut self,
+        asked: &Asked,
+        current: &CurrentModel,
+        key: NodeKey,
+    ) -> Result<Successors, MoveErr>
         requires asked { IsAskable asked.now }
         requires cache { AreRight (task_for asked.now) self.old }
         requires current { IsCurrentAt (task_for asked.now) self.old.numbers key.model current.now }
@@ -134,7 +139,12 @@ impl Cache {
     }
 
     /// Returns the first moves of a node without a stack, whose goal has no answer.
-    fn goal_steps(&mut self, asked: &Asked, current: &CurrentModel, key: NodeKey) -> Result<Successors, MoveErr>
+    fn goal_steps(
+        &mut self,
+        asked: &Asked,
+        current: &CurrentModel,
+        key: NodeKey,
+    ) -> Result<Successors, MoveErr>
         requires asked { IsAskable asked.now }
         requires cache { AreRight (task_for asked.now) self.old }
         requires current { IsCurrentAt (task_for asked.now) self.old.numbers key.model current.now }
@@ -261,7 +271,12 @@ impl Cache {
 
     /// Returns the first pushes for the gaps of the top entry. Those over the entry alone are kept. Where a question about these meets the
     /// limit, one about the node's may still not: an entry on its stack isn't asked about.
-    fn pushes_over(&mut self, asked: &Asked, here: &Here, gaps: &[Atom]) -> Result<Successors, MoveErr>
+    fn pushes_over(
+        &mut self,
+        asked: &Asked,
+        here: &Here,
+        gaps: &[Atom],
+    ) -> Result<Successors, MoveErr>
         requires asked { IsAskable asked.now }
         requires cache { AreRight (task_for asked.now) self.old }
         requires here { IsHere (task_for asked.now) self.old.numbers here.now }

@@ -11,12 +11,12 @@ ghost use Rattle.px_search.specs.Going.{AreFirstSuccessors};
 ghost use Rattle.px_search.specs.Cache.{AreRight, HaveGrown, OnAnswer};
 ghost use Rattle.px_search.specs.Offers.{AreFirstOffers, IsOffered, IsOfferedWhole, IsPartAt};
 
-use crate::successors::Successors;
-use crate::merging::merged;
 use crate::cache::{Cache, Offer, Want};
-use crate::picks::{numbered, struck};
 use crate::current::CurrentModel;
+use crate::merging::merged;
+use crate::picks::{numbered, struck};
 use crate::step::Step;
+use crate::successors::Successors;
 use px_diff::{
     First, MoveErr, relevance_over_models, relevance_over_stacks, relevant, relevant_first,
 };
@@ -119,7 +119,12 @@ impl Cache {
 
     // Alike: `offer` below, which promises the same and finds only what isn't kept.
     /// Returns the first pushes for the atom, after finding and keeping them.
-    fn offer_anew(&mut self, asked: &Asked, current: &CurrentModel, want: &Want) -> Result<Successors, MoveErr>
+    fn offer_anew(
+        &mut self,
+        asked: &Asked,
+        current: &CurrentModel,
+        want: &Want,
+    ) -> Result<Successors, MoveErr>
         requires asked { IsAskable asked.now }
         requires cache { AreRight (task_for asked.now) self.old }
         requires part { IsPartAt (task_for asked.now) self.old.numbers want.now.part current.now.model.atoms }
@@ -145,7 +150,12 @@ impl Cache {
     }
 
     /// Returns the first pushes for the atom, as they are kept, or found and then kept.
-    fn offer(&mut self, asked: &Asked, current: &CurrentModel, want: &Want) -> Result<Successors, MoveErr>
+    fn offer(
+        &mut self,
+        asked: &Asked,
+        current: &CurrentModel,
+        want: &Want,
+    ) -> Result<Successors, MoveErr>
         requires asked { IsAskable asked.now }
         requires cache { AreRight (task_for asked.now) self.old }
         requires part { IsPartAt (task_for asked.now) self.old.numbers want.now.part current.now.model.atoms }
@@ -196,7 +206,12 @@ impl Cache {
     }
 
     /// Returns the first pushes for one of the atoms over the empty stack, in order.
-    fn offered(&mut self, asked: &Asked, current: &CurrentModel, gaps: &[Atom]) -> Result<Successors, MoveErr>
+    fn offered(
+        &mut self,
+        asked: &Asked,
+        current: &CurrentModel,
+        gaps: &[Atom],
+    ) -> Result<Successors, MoveErr>
         requires asked { IsAskable asked.now }
         requires cache { AreRight (task_for asked.now) self.old }
         requires part { IsPartAt (task_for asked.now) self.old.numbers current.now.part current.now.model.atoms }
@@ -244,14 +259,19 @@ impl Cache {
         ensures successors { IfOk result (λ successors. (entries : List Entry) → IsStackAt self.old.numbers stack entries
             → IsOpenWith asked.now.problem.now (needs_with (task_for asked.now) current.now.model.atoms entries) gaps.now
             → AreFirstSuccessors (task_for asked.now) self.new.numbers (record { model = current.now.model.atoms; stack = entries })
-                successors.steps.items
+            successors.steps.items
             successors.is_all) }
     {
         let successors = match self.offered(asked, current, gaps) {
             Ok(successors) => successors,
             Err(error) => return Err(error),
         };
-        let steps = struck(asked.alloc, &self.numbers, stack, successors.steps.as_slice())?;
+        let steps = struck(
+            asked.alloc,
+            &self.numbers,
+            stack,
+            successors.steps.as_slice(),
+        )?;
         let is_all = successors.is_all;
         relevance_over_stacks();
         Ok(Successors { steps, is_all })

@@ -6,9 +6,9 @@ ghost use Rattle.px_support.specs.Asking.{IsAskable, task_for};
 ghost use Rattle.px_search.specs.Cache.{AreRight, HaveGrown, IsEntryAt, IsResultAt};
 ghost use Rattle.px_search.specs.CurrentModels.{IsCurrent};
 
-use crate::effects::apply_entry;
-use crate::cache::{EntryPlace, Cache};
+use crate::cache::{Cache, EntryPlace};
 use crate::current::CurrentModel;
+use crate::effects::apply_entry;
 use px_numbers::Numbers;
 use px_ops::Model;
 use px_support::Asked;
