@@ -169,7 +169,7 @@ module _ (task : Task) where
 
   -- ---- with an entry on top
 
-  module _ (kept : Kept) (place : EntryPlace) (below : ℕ) (model : List Atom) (stack : List Entry)
+  module _ {kept : Kept} {place : EntryPlace} {below : ℕ} {model : List Atom} {stack : List Entry}
       (t : IsTopAt kept place below model stack) where
     abbrev pub the_node : Node
     the_node = record { model = model; stack = stack }
@@ -275,7 +275,7 @@ pub read-of : (task : Task) (kept : Kept) (key : NodeKey) (frame : Frame) (model
     → IsModelAt kept key.model model → stack ≡ n.0.stack → Read task kept key frame model stack
 read-of task kept key frame model stack n model_at is = record { node = n.0; stands = n.1; top = n.3; model_at = model_at; stack_is = is }
 
-module _ (task : Task) (kept : Kept) (key : NodeKey) (frame : Frame) (model : List Atom) (stack : List Entry)
+module _ {task : Task} {kept : Kept} {key : NodeKey} {frame : Frame} {model : List Atom} {stack : List Entry}
     (r : Read task kept key frame model stack) where
   abbrev pub read-place : EntryPlace
   read-place = record { model = key.model; entry = frame.entry }
@@ -293,7 +293,7 @@ module _ (task : Task) (kept : Kept) (key : NodeKey) (frame : Frame) (model : Li
       → IsKnownOf task.problem (obligations_of task.problem task.tables model entry) given → given ≡ known
       → IsKnownOf task.problem (needs_with task model stack) known
   read-known entry known given at is same =
-      known-top task kept read-place frame.below model stack read-top entry known at
+      known-top task read-top entry known at
       (subst (IsKnownOf task.problem (obligations_of task.problem task.tables model entry)) same is)
 
 -- the first moves of the node with this frame on top, by what is kept for its place
@@ -306,5 +306,4 @@ pub successors-found : (task : Task) (kept : Kept) (key : NodeKey) (frame : Fram
 successors-found task kept key frame offer left kept_steps struck one stands top node other =
     of_node kept key (λ (n : Node). AreFirstSuccessors task kept n left offer.is_all) node one.model one.stack other stands.model
     (stack_of kept key one node one.stack stands other refl)
-    (successors-from-cache task kept (record { model = key.model; entry = frame.entry }) frame.below one.model one.stack
-    (top_at kept key.model frame one.model one.stack stands.model top) offer left kept_steps struck)
+    (successors-from-cache task (top_at kept key.model frame one.model one.stack stands.model top) offer left kept_steps struck)

@@ -24,7 +24,7 @@ returns-clause-cache c =
     let right = c.requires.cache in
     let successors : AreFirstSuccessors task old.numbers (record { model = model; stack = t.entry ∷ [] }) c.args.alone.items c.args.is_all =
     subst (λ (s : List Entry). AreFirstSuccessors task old.numbers (record { model = model; stack = s }) c.args.alone.items c.args.is_all)
-    (first-top task old.numbers here.place here.below model here.stack.now t) c.requires.alone in
+    (first-top task t) c.requires.alone in
     let offer : Offer = record { steps = c.from_vec-kept.result; is_all = c.args.is_all } in
     let kept : IsStepsAt task old.numbers here.place offer =
     subst (λ (s : List Step). IsStepsAt task old.numbers here.place (record { steps = s; is_all = c.args.is_all }))
@@ -51,8 +51,8 @@ returns-clause-steps c =
     let t = c.requires.here.top in
     let successors : AreFirstSuccessors task kept (record { model = model; stack = t.entry ∷ [] }) c.args.alone.items c.args.is_all =
     subst (λ (s : List Entry). AreFirstSuccessors task kept (record { model = model; stack = s }) c.args.alone.items c.args.is_all)
-    (first-top task kept here.place here.below model here.stack.now t) c.requires.alone in
-    successors-over task kept here.place here.below model here.stack.now t c.args.alone.items c.in_ok-steps.steps.items c.args.is_all
+    (first-top task t) c.requires.alone in
+    successors-over task t c.args.alone.items c.in_ok-steps.steps.items c.args.is_all
     successors
     (λ entries moves stands are. c.in_ok-steps.ensures entries moves stands
     (subst (λ (s : List Step). AreStepsOf kept s moves) (sym (c.as_slice.ensures ∙ c.from_vec-kept.ensures)) are))

@@ -60,7 +60,7 @@ returns-in-Some c =
     in
     ok_map (IsKnownOf task.problem (obligations_of task.problem task.tables model c.entry.result.now))
     (λ known. (node : Node) → IsKeyOf kept c.args.key node → IsKnownOf task.problem (needs_at task node) known)
-    (λ known is node stands. read-each task kept c.args.key frame model n.node.stack r
+    (λ known is node stands. read-each r
     (λ (m : Node). IsKnownOf task.problem (needs_at task m) known)
-    (read-known task kept c.args.key frame model n.node.stack r c.entry.result.now known known c.entry.ensures is refl) node stands)
+    (read-known r c.entry.result.now known known c.entry.ensures is refl) node stands)
     c.known_top.result c.known_top.ensures

@@ -48,9 +48,9 @@ kept_over-requires-clause-alone c =
     let new = c.pushes_offered.new.self.numbers in
     let successors = c.in-Ok.successors in
     subst (λ (s : List Entry). AreFirstSuccessors task new (record { model = model; stack = s }) successors.steps.items successors.is_all)
-    (sym (first-top task old here.place here.below model here.stack.now t))
+    (sym (first-top task t))
     (c.in-Ok.ensures.successors (t.entry ∷ []) (c.in_ok-alone.ensures.stack t.entry [] t.entry_at refl)
-    (alone-top task old here.place here.below model here.stack.now t (Open c.args.gaps.now) c.requires.gaps))
+    (alone-top task t (Open c.args.gaps.now) c.requires.gaps))
 
 pub returns-in-Ok-clause-cache : goal.returns-in-Ok-clause-cache
 returns-in-Ok-clause-cache c =
