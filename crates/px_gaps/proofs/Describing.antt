@@ -6,9 +6,9 @@ use Rattle.px_base.specs.ListLaws.{All-at, All-each, Contains-none}
 use Rattle.px_proof.specs.PlaceLaws.{Contains-mapped}
 use Rattle.px_prover.proofs.PatternLists.{lists-from, lists-have, patterns-are, under-members}
 use Rattle.px_prover.specs.PatternLists.{list_under, lists_of}
-use Rattle.px_prover.specs.Patterns.{AreChosen, AreGapPatterns, IsPattern, atoms_under}
+use Rattle.px_prover.specs.Patterns.{AreChosen, AreGapClosings, AreGapPatterns, IsPattern, atoms_under}
 use Rattle.px_prover.specs.declared.pattern.GapPattern.{GapPattern}
-use Rattle.px_question.specs.Answers.{object_terms}
+use Rattle.px_question.specs.Answers.{IsProvable, object_terms}
 use Rattle.px_proof.specs.declared.shape.Tick.{Tick}
 use Rattle.px_question.specs.Gaps.{MeetsGapLimit}
 use Rattle.px_question.specs.Limits.{AreFewGapShapes}
@@ -27,9 +27,10 @@ use Rattle.px_gaps.specs.Bindings.{AreUnbound, ExtendsTerms, IsBinding, IsOpenAs
 use Rattle.px_gaps.specs.Closings.{IsChosenIn, IsClosedIn, IsMissingIn, OneOf}
 use Rattle.px_gaps.specs.Described.{IsChosenBy, IsClosedBy, IsMissingBy, IsPlainPattern}
 use Rattle.px_gaps.specs.Forms.{IsForm, IsInstanceIn, IsStoodFor, form_by}
-use Rattle.px_gaps.specs.GapAnswers.{IsGapAnswer}
+use Rattle.px_gaps.specs.GapAnswers.{IsClosingAnswer, IsGapAnswer}
 use Rattle.px_gaps.specs.Listed.{AreListed}
 use Rattle.px_gaps.specs.Provable.{FindsProvable, LimitsOne}
+use Rattle.px_gaps.proofs.ClosedLists.{AreClosedLists, closings-closed, patterns-closed}
 use Rattle.px_gaps.proofs.FormLemmas.{form-is, form-same}
 use Rattle.px_gaps.proofs.GapAtoms.{listed-are}
 use Rattle.px_gaps.proofs.GapLemmas.{atom_limited}
@@ -168,6 +169,11 @@ chosen-by limit patterns taken objects = (
 
 -- ---- the patterns of a formula of the problem
 
+-- the forms of the atoms that the patterns close
+abbrev pub AreForms : List GapPattern → List Atom → Type 0
+AreForms patterns forms =
+    (form : Atom) → Contains forms form ↔ OneOf patterns (λ (pattern : GapPattern). OneOf pattern.atoms (λ atom. form_by atom ≡ form))
+
 pub answer-listed : (s : Setting) (formula : List Atom) (vars : ℕ) (patterns : List GapPattern) (provable : List Atom)
     → IsGapAnswer s formula vars patterns provable → AreListed s formula vars (lists_of s.objects patterns)
 answer-listed s formula vars patterns provable is = record { all = patterns-are s formula vars patterns is.all; few = is.few }
@@ -200,19 +206,19 @@ plain-of problem vars Wild of = absurd of
 pub atom-plain : (problem : Problem) (vars : ℕ) (atom : Atom) → IsAtomOf problem vars atom → IsPlain vars atom
 atom-plain problem vars atom of k d within = plain-of problem vars _ (of.1 k d within)
 
--- the patterns of a formula of the problem close atoms of the problem
+-- patterns with some terms of a formula of the problem close atoms of the problem
 module _ (problem : Problem) (valid : IsValid problem) (facts formula : List Atom) (vars : ℕ) (of : All (IsAtomOf problem vars) formula)
-    (patterns : List GapPattern) (are : AreGapPatterns (setting_of problem facts) formula vars patterns) where
-  pub pattern-of : (pattern : GapPattern) → Contains patterns pattern → (atom : Atom) → Contains pattern.atoms atom
+    (patterns : List GapPattern) (kept : ℕ) (made : All (IsPattern problem.objects kept) patterns)
+    (are : AreClosedLists (setting_of problem facts) formula vars (lists_of problem.objects patterns)) where
+  kept-of : (pattern : GapPattern) → Contains patterns pattern → (atom : Atom) → Contains pattern.atoms atom
       → IsAtomOf problem pattern.vars atom
-  pattern-of pattern has atom inside =
-      let form : IsPattern problem.objects vars pattern = All-at (IsPattern problem.objects vars) patterns pattern are.form has in
+  kept-of pattern has atom inside =
+      let form : IsPattern problem.objects kept pattern = All-at (IsPattern problem.objects kept) patterns pattern made has in
       let values = replicate pattern.vars 0 in
       let chosen : AreChosen problem.objects pattern.vars values =
       record { count = length-replicate {A = ℕ} pattern.vars 0; below = zeros-below problem.objects pattern.vars form.some_object } in
-      let lists_are = patterns-are (setting_of problem facts) formula vars patterns are in
       let known =
-      listed-are problem valid facts formula vars (lists_of problem.objects patterns) of lists_are (list_under pattern values)
+      listed-are problem valid facts formula vars (lists_of problem.objects patterns) of are (list_under pattern values)
       (lists-have problem.objects patterns pattern values has chosen) in
       let there : Contains (list_under pattern values).gaps (substitute_atom (object_terms values) atom) =
       (under-members pattern values (substitute_atom (object_terms values) atom)).1
@@ -224,33 +230,32 @@ module _ (problem : Problem) (valid : IsValid problem) (facts formula : List Ato
             (All-at (λ (a : Atom). All (IsVariableBelow pattern.vars) a.args) pattern.atoms atom form.atoms_below inside) here.1,
       )
 
-  pub patterns-plain : All (IsPlainPattern problem.objects) patterns
-  patterns-plain = All-each (IsPlainPattern problem.objects) patterns (λ pattern has.
-      let form : IsPattern problem.objects vars pattern = All-at (IsPattern problem.objects vars) patterns pattern are.form has in record {
+  pub kept-plain : All (IsPlainPattern problem.objects) patterns
+  kept-plain = All-each (IsPlainPattern problem.objects) patterns (λ pattern has.
+      let form : IsPattern problem.objects kept pattern = All-at (IsPattern problem.objects kept) patterns pattern made has in record {
         atoms_plain =
             All-each (IsPlain pattern.vars) pattern.atoms
-            (λ atom inside. atom-plain problem pattern.vars atom (pattern-of pattern has atom inside));
+            (λ atom inside. atom-plain problem pattern.vars atom (kept-of pattern has atom inside));
         terms_below = form.terms_below;
         some_object = form.some_object;
       })
 
   -- the atoms of a kind that stands for what they close
-  module _ (forms : List Atom) (forms_are : (form : Atom) → Contains forms form
-      ↔ OneOf patterns (λ (pattern : GapPattern). OneOf pattern.atoms (λ atom. form_by atom ≡ form))) where
-    pub forms-are : All (IsForm problem) forms
-    forms-are = All-each (IsForm problem) forms (λ form has.
+  module _ (forms : List Atom) (forms_are : AreForms patterns forms) where
+    pub kept-forms : All (IsForm problem) forms
+    kept-forms = All-each (IsForm problem) forms (λ form has.
         let one = (forms_are form).0 has in
         let pattern = one.0 in
-        let made : IsPattern problem.objects vars pattern = All-at (IsPattern problem.objects vars) patterns pattern are.form one.1 in
-        subst (IsForm problem) one.2.2 (form-is problem pattern.vars one.2.0 (pattern-of pattern one.1 one.2.0 one.2.1) made.some_object))
+        let is : IsPattern problem.objects kept pattern = All-at (IsPattern problem.objects kept) patterns pattern made one.1 in
+        subst (IsForm problem) one.2.2 (form-is problem pattern.vars one.2.0 (kept-of pattern one.1 one.2.0 one.2.1) is.some_object))
 
-    pub forms-closed : (q : Atom) → IsStoodFor problem.objects forms q ↔ IsClosedIn (lists_of problem.objects patterns) q
-    forms-closed q = (
+    pub kept-closed : (q : Atom) → IsStoodFor problem.objects forms q ↔ IsClosedIn (lists_of problem.objects patterns) q
+    kept-closed q = (
       λ stood.
           let one = (forms_are stood.0).0 stood.1 in
           let pattern = one.0 in
-          let form : IsPattern problem.objects vars pattern = All-at (IsPattern problem.objects vars) patterns pattern are.form one.1 in
-          let same = form-same problem pattern.vars one.2.0 (pattern-of pattern one.1 one.2.0 one.2.1) form.some_object q in
+          let is : IsPattern problem.objects kept pattern = All-at (IsPattern problem.objects kept) patterns pattern made one.1 in
+          let same = form-same problem pattern.vars one.2.0 (kept-of pattern one.1 one.2.0 one.2.1) is.some_object q in
           (closed-by problem.objects patterns q).0 (
             pattern,
             one.1,
@@ -260,10 +265,53 @@ module _ (problem : Problem) (valid : IsValid problem) (facts formula : List Ato
           let one = (closed-by problem.objects patterns q).1 closed in
           let pattern = one.0 in
           let atom = one.2.0 in
-          let form : IsPattern problem.objects vars pattern = All-at (IsPattern problem.objects vars) patterns pattern are.form one.1 in
-          let same = form-same problem pattern.vars atom (pattern-of pattern one.1 atom one.2.1) form.some_object q in
+          let is : IsPattern problem.objects kept pattern = All-at (IsPattern problem.objects kept) patterns pattern made one.1 in
+          let same = form-same problem pattern.vars atom (kept-of pattern one.1 atom one.2.1) is.some_object q in
           (form_by atom, (forms_are (form_by atom)).1 (pattern, one.1, (atom, one.2.1, refl)), same.0 one.2.2),
     )
+
+    -- what is found of the forms is what is provable of what they close
+    pub kept-provable : (provable : List Atom)
+        → FindsProvable (setting_of problem facts) (IsStoodFor problem.objects forms) [] provable → (atom : Atom)
+        → Contains provable atom ↔ (IsClosedIn (lists_of problem.objects patterns) atom × IsProvable (setting_of problem facts) atom)
+    kept-provable provable finds atom = (
+      λ has. elim ((finds.exact atom).0 has) [
+        | inl before ↦ absurd (Contains-none atom before)
+        | inr is ↦ ((kept-closed atom).0 is.0, is.1)
+      ],
+      λ h. (finds.exact atom).1 (inr ((kept-closed atom).1 h.0, h.1)),
+    )
+
+    pub kept-limit : (shapes_kept : List Atom) (shapes : List (List Tick))
+        → LimitsOne (setting_of problem facts) (IsStoodFor problem.objects forms) shapes_kept shapes
+        → MeetsGapLimit (setting_of problem facts) formula vars shapes_kept shapes
+    kept-limit shapes_kept shapes one =
+        atom_limited (setting_of problem facts) formula vars (lists_of problem.objects patterns) are shapes_kept shapes
+        (one.0, (kept-closed one.0).0 one.1, one.2, one.3)
+
+  -- what is provable of what they close are ground atoms
+  pub kept-ground : (provable : List Atom) → ((atom : Atom) → Contains provable atom
+      ↔ (IsClosedIn (lists_of problem.objects patterns) atom × IsProvable (setting_of problem facts) atom)) → All IsGround provable
+  kept-ground provable provable_are = All-each IsGround provable (λ atom has.
+      let closed = ((provable_are atom).0 has).0 in
+      atom_of-is_ground problem atom (All-at (IsAtomOf problem 0) closed.0.gaps atom
+      (listed-are problem valid facts formula vars (lists_of problem.objects patterns) of are closed.0 closed.1) closed.2))
+
+-- the patterns of the formula
+module _ (problem : Problem) (valid : IsValid problem) (facts formula : List Atom) (vars : ℕ) (of : All (IsAtomOf problem vars) formula)
+    (patterns : List GapPattern) (are : AreGapPatterns (setting_of problem facts) formula vars patterns) where
+  closed : AreClosedLists (setting_of problem facts) formula vars (lists_of problem.objects patterns)
+  closed = patterns-closed (setting_of problem facts) formula vars patterns are
+
+  pub patterns-plain : All (IsPlainPattern problem.objects) patterns
+  patterns-plain = kept-plain problem valid facts formula vars of patterns vars are.form closed
+
+  module _ (forms : List Atom) (forms_are : AreForms patterns forms) where
+    pub forms-are : All (IsForm problem) forms
+    forms-are = kept-forms problem valid facts formula vars of patterns vars are.form closed forms forms_are
+
+    pub forms-closed : (q : Atom) → IsStoodFor problem.objects forms q ↔ IsClosedIn (lists_of problem.objects patterns) q
+    forms-closed = kept-closed problem valid facts formula vars of patterns vars are.form closed forms forms_are
 
     -- what is found of the forms is the answer to the question of gaps
     pub answer-of : AreFewGapShapes (setting_of problem facts) formula vars → (provable : List Atom)
@@ -272,32 +320,54 @@ module _ (problem : Problem) (valid : IsValid problem) (facts formula : List Ato
     answer-of few provable finds = record {
       all = are;
       few = few;
-      provable_are = λ atom. (
-        λ has. elim ((finds.exact atom).0 has) [
-          | inl before ↦ absurd (Contains-none atom before)
-          | inr is ↦
-              ((forms-closed atom).0 is.0, is.1)
-        ],
-        λ h. (finds.exact atom).1 (inr ((forms-closed atom).1 h.0, h.1)),
-      );
-      unlimited = λ atom shapes closed. finds.unlimited atom shapes ((forms-closed atom).1 closed);
+      provable_are = kept-provable problem valid facts formula vars of patterns vars are.form closed forms forms_are provable finds;
+      unlimited = λ atom shapes is_closed. finds.unlimited atom shapes ((forms-closed atom).1 is_closed);
     }
 
     pub limit-of : (kept : List Atom) (shapes : List (List Tick))
         → LimitsOne (setting_of problem facts) (IsStoodFor problem.objects forms) kept shapes
         → MeetsGapLimit (setting_of problem facts) formula vars kept shapes
-    limit-of kept shapes one =
-        atom_limited (setting_of problem facts) formula vars patterns are kept shapes (one.0, (forms-closed one.0).0 one.1, one.2, one.3)
+    limit-of = kept-limit problem valid facts formula vars of patterns vars are.form closed forms forms_are
 
--- what is provable of what they close are ground atoms
 pub provable-ground : (problem : Problem) (valid : IsValid problem) (facts formula : List Atom) (vars : ℕ)
     (of : All (IsAtomOf problem vars) formula) (patterns : List GapPattern) (provable : List Atom)
     → IsGapAnswer (setting_of problem facts) formula vars patterns provable → All IsGround provable
-provable-ground problem valid facts formula vars of patterns provable is = All-each IsGround provable (λ atom has.
-    let closed = ((is.provable_are atom).0 has).0 in
-    atom_of-is_ground problem atom (All-at (IsAtomOf problem 0) closed.0.gaps atom
-    (listed-are problem valid facts formula vars (lists_of problem.objects patterns) of
-    (patterns-are (setting_of problem facts) formula vars patterns is.all) closed.0 closed.1) closed.2))
+provable-ground problem valid facts formula vars of patterns provable is =
+    kept-ground problem valid facts formula vars of patterns vars is.all.form
+    (patterns-closed (setting_of problem facts) formula vars patterns is.all) provable is.provable_are
+
+-- what its gaps close together, whatever the objects
+module _ (problem : Problem) (valid : IsValid problem) (facts formula : List Atom) (vars : ℕ) (of : All (IsAtomOf problem vars) formula)
+    (closings : List GapPattern) (are : AreGapClosings (setting_of problem facts) formula vars closings) where
+  lists_are : AreClosedLists (setting_of problem facts) formula vars (lists_of problem.objects closings)
+  lists_are = closings-closed (setting_of problem facts) formula vars closings are
+
+  pub closings-plain : All (IsPlainPattern problem.objects) closings
+  closings-plain = kept-plain problem valid facts formula vars of closings 0 are.form lists_are
+
+  module _ (forms : List Atom) (forms_are : AreForms closings forms) where
+    pub closings-forms : All (IsForm problem) forms
+    closings-forms = kept-forms problem valid facts formula vars of closings 0 are.form lists_are forms forms_are
+
+    pub closings-answer : AreFewGapShapes (setting_of problem facts) formula vars → (provable : List Atom)
+        → FindsProvable (setting_of problem facts) (IsStoodFor problem.objects forms) [] provable
+        → IsClosingAnswer (setting_of problem facts) formula vars closings provable
+    closings-answer few provable finds = record {
+      all = are;
+      few = few;
+      provable_are = kept-provable problem valid facts formula vars of closings 0 are.form lists_are forms forms_are provable finds;
+      unlimited = λ atom shapes is_closed. finds.unlimited atom shapes
+          ((kept-closed problem valid facts formula vars of closings 0 are.form lists_are forms forms_are atom).1 is_closed);
+    }
+
+    pub closings-limit : (kept : List Atom) (shapes : List (List Tick))
+        → LimitsOne (setting_of problem facts) (IsStoodFor problem.objects forms) kept shapes
+        → MeetsGapLimit (setting_of problem facts) formula vars kept shapes
+    closings-limit = kept-limit problem valid facts formula vars of closings 0 are.form lists_are forms forms_are
+
+  pub closings-ground : (provable : List Atom) → IsClosingAnswer (setting_of problem facts) formula vars closings provable
+      → All IsGround provable
+  closings-ground provable is = kept-ground problem valid facts formula vars of closings 0 are.form lists_are provable is.provable_are
 
 -- ---- the loops
 

@@ -19,9 +19,10 @@ use Rattle.px_proof.specs.PlaceLaws.{All-got}
 use Rattle.px_proof.specs.Proves.{Proves, ProvesEach, UsesClause, instance_of, parts_of}
 use Rattle.px_question.specs.declared.gap_list.GapList.{GapList}
 use Rattle.px_question.specs.Answers.{literals_of, object_terms}
-use Rattle.px_question.specs.Gaps.{AreGapLists, gaps_of, all_gaps_of}
+use Rattle.px_question.specs.Gaps.{gaps_of, all_gaps_of}
 use Rattle.px_terms.specs.Language.{IsObjectBelow}
 use Rattle.px_question.specs.Settings.{loose_gaps_in, setting_of}
+use Rattle.px_gaps.proofs.ClosedLists.{AreClosedLists}
 
 object-is_term : (problem : Problem) (t : Term) → IsObjectBelow problem.objects t → IsTermOf problem 0 t
 object-is_term problem (Obj n) below = below
@@ -90,12 +91,13 @@ module _ (problem : Problem) (valid : IsValid problem) (facts : List Atom) where
       (λ k d within. atom-is_of problem (object_terms objects) (object_terms-are problem objects below) _
       (subst (λ (n : ℕ). IsAtomOf problem n (slice_index_or formula k d)) (sym same) (of k d within)))
 
-  -- a gap list of a formula of the problem has atoms of the problem
+  -- what gaps of a formula of the problem close are atoms of the problem
   pub listed-are : (formula : List Atom) (vars : ℕ) (lists : List GapList) → All (IsAtomOf problem vars) formula
-      → AreGapLists (setting_of problem facts) formula vars lists
+      → AreClosedLists (setting_of problem facts) formula vars lists
       → (list : GapList) → Contains lists list → All (IsAtomOf problem 0) list.gaps
   listed-are formula vars lists of are list has =
-      let known = ((are.members list).0 has).0 in
+      let known = are.from list has in
+      let proofs = known.1.1 in
       All-each (IsAtomOf problem 0) list.gaps (λ atom closed.
-      gaps-are_of [] (literals_of formula list.objects) known.0 atom known.1.proved
-      (literals-are formula vars list.objects of known.1.count known.1.below) ((known.2 atom).0 closed))
+      gaps-are_of [] (literals_of formula known.0) known.1.0 atom proofs.proved
+      (literals-are formula vars known.0 of proofs.count proofs.below) ((known.1.2 atom).0 closed))

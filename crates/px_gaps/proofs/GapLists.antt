@@ -1,6 +1,6 @@
 -- What gap lists say of answers and gaps.
 use Rattle.std.specs.Prelude.{◌≡◌, ◌↔◌, ℕ, List, [], ◌∷◌, Contains}
-use Rattle.std.proofs.Common.{refl, subst}
+use Rattle.std.proofs.Common.{refl, subst, sym}
 use Rattle.px_base.specs.ListLaws.{Contains-none, Contains-first}
 use Rattle.px_base.specs.SetLaws.{set_of-is_sorted, set_of-members}
 use Rattle.px_terms.specs.declared.atom.Atom.{Atom}
@@ -13,6 +13,7 @@ use Rattle.px_question.specs.declared.gap_list.GapList.{GapList}
 use Rattle.px_question.specs.Answers.{IsAnswer, IsList, IsProvable, literals_of}
 use Rattle.px_question.specs.Gaps.{AreGapLists, IsGapOf, IsLooseGap, all_gaps_of, gaps_in}
 use Rattle.px_question.specs.Settings.{Setting, loose_gaps_in, proofs_in}
+use Rattle.px_gaps.proofs.ClosedLists.{AreClosedLists, all-closed}
 use Rattle.px_gaps.proofs.Regaps.{AllowsBesideGaps, each_by_own_gaps, each_gap_allowed}
 use Rattle.px_question.specs.Limits.{IsPartialShape}
 use Rattle.px_proof.specs.declared.shape.Tick.{Tick}
@@ -115,24 +116,59 @@ module _ (s : Setting) (formula : List Atom) (vars : ℕ) (lists : List GapList)
         λ atom. (known.2 atom).0,
       )
 
+-- ---- lists whose objects don't matter
+
+module _ (s : Setting) (formula : List Atom) (vars : ℕ) (lists : List GapList) (are : AreClosedLists s formula vars lists) where
+  -- the atoms of a list of loose gap proofs are those of a list
+  closed_listed : (objects : List ℕ) (ds : Derivations) → IsList (loose_gaps_in s) s formula vars objects ds
+      → (list : GapList) × Contains lists list × ((atom : Atom) → Contains list.gaps atom ↔ Contains (all_gaps_of ds) atom)
+  closed_listed objects ds list =
+      let found = are.each objects (list_of objects ds).gaps (ds, list, list_of-members objects ds) (list_of-set objects ds) in (
+        found.0,
+        found.1,
+        λ atom. subst (λ (gaps : List Atom). Contains gaps atom ↔ Contains (all_gaps_of ds) atom) (sym found.2)
+            (list_of-members objects ds atom),
+      )
+
   -- where the formula has no answer, its gaps are the atoms of the lists of which no atom is provable
   pub gap_is : (atom : Atom) → (¬ IsAnswer s formula vars) → IsGapOf s formula vars atom
       ↔ ((list : GapList) × Contains lists list × Contains list.gaps atom
       × ((other : Atom) → Contains list.gaps other → ¬ IsProvable s other))
   gap_is atom no_answer = (
-    λ gap.
-        let listed = gap_listed gap.1.0 gap.1.1 gap.1.2 in
-        (list_of gap.1.0 gap.1.1, listed.0, (list_of-members gap.1.0 gap.1.1 atom).1 gap.1.3, listed.1),
-    λ h.
-        let r = listed_gap h.0 h.1 h.3 in
-        (no_answer, (h.0.objects, r.0, r.1, r.2 atom h.2)),
+    λ (none, (objects, ds, proofs, has)).
+        let found =
+        closed_listed objects ds
+        (list_by s formula vars objects ds (gaps_in s) (loose_gaps_in s)
+        (record { choices = λ t h. h; facts = λ leaf h. h; opens = λ h. h }) (λ atom has h. h.0) proofs) in (
+          found.0,
+          found.1,
+          (found.2 atom).1 has,
+          λ other there. (gaps_allowed s formula vars objects ds (gaps_in s) other proofs ((found.2 other).0 there)).1,
+        ),
+    λ (list, has, there, none).
+        let known = are.from list has in
+        let ds = known.1.0 in (
+          no_answer,
+          (
+            known.0,
+            ds,
+            list_by s formula vars known.0 ds (loose_gaps_in s) (gaps_in s)
+                (record { choices = λ t h. h; facts = λ leaf h. h; opens = λ h. h })
+                (λ atom closed h. (h, none atom ((known.1.2 atom).1 closed))) known.1.1,
+            (known.1.2 atom).0 there,
+          ),
+        ),
   )
 
   -- an atom that a loose gap proof closes stands in one of them
-  pub loose_is : (atom : Atom) → IsLooseGap s formula vars atom ↔ ((list : GapList) × Contains lists list × Contains list.gaps atom)
-  loose_is atom = (
-    λ loose. (list_of loose.0 loose.1, loose_listed loose.0 loose.1 loose.2, (list_of-members loose.0 loose.1 atom).1 loose.3),
-    λ h.
-        let known = ((are.members h.0).0 h.1).0 in
-        (h.0.objects, known.0, known.1, (known.2 atom).0 h.2),
+  pub closed_is : (atom : Atom) → IsLooseGap s formula vars atom ↔ ((list : GapList) × Contains lists list × Contains list.gaps atom)
+  closed_is atom = (
+    λ (objects, ds, proofs, has).
+        let found = closed_listed objects ds proofs in (found.0, found.1, (found.2 atom).1 has),
+    λ (list, has, there).
+        let known = are.from list has in (known.0, known.1.0, known.1.1, (known.1.2 atom).0 there),
   )
+
+pub loose_is : (s : Setting) (formula : List Atom) (vars : ℕ) (lists : List GapList) → AreGapLists s formula vars lists → (atom : Atom)
+    → IsLooseGap s formula vars atom ↔ ((list : GapList) × Contains lists list × Contains list.gaps atom)
+loose_is s formula vars lists are = closed_is s formula vars lists (all-closed s formula vars lists are)

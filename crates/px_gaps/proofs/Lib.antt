@@ -1,6 +1,7 @@
 -- The files of lemmas.
 pub mod Grows
 mod Regaps
+pub mod ClosedLists
 pub mod GapLists
 pub mod GapAtoms
 pub mod AddableLaws
@@ -11,7 +12,6 @@ pub mod Choosing
 pub mod SortedChoices
 mod FormLemmas
 pub mod Describing
-pub mod ClosingLemmas
 mod Parting
 mod PartLemmas
 mod ChoiceLemmas

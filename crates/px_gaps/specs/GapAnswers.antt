@@ -1,11 +1,11 @@
 -- What one question of gaps says of a formula.
-use Rattle.std.specs.Prelude.{◌↔◌, ℕ, false, List, [], ◌∷◌, All, Contains}
+use Rattle.std.specs.Prelude.{◌↔◌, ℕ, List, [], ◌∷◌, All, Contains}
 use Rattle.px_terms.specs.Validity.{IsAtomOf}
 use Rattle.px_terms.specs.declared.atom.Atom.{Atom}
 use Rattle.px_terms.specs.declared.problem.Problem.{Problem}
 use Rattle.px_proof.specs.declared.shape.Tick.{Tick}
 use Rattle.px_prover.specs.PatternLists.{lists_of}
-use Rattle.px_prover.specs.Patterns.{AreGapPatterns, AreKept}
+use Rattle.px_prover.specs.Patterns.{AreGapClosings, AreGapPatterns}
 use Rattle.px_prover.specs.declared.pattern.GapPattern.{GapPattern}
 use Rattle.px_question.specs.Answers.{IsProvable}
 use Rattle.px_question.specs.Limits.{AreFewGapShapes, IsLimited}
@@ -21,10 +21,15 @@ pub record IsGapAnswer (s : Setting) (formula : List Atom) (vars : ℕ) (pattern
   pub unlimited : (atom : Atom) (shapes : List (List Tick)) → IsClosedIn (lists_of s.objects patterns) atom
       → ¬ IsLimited s (atom ∷ []) 0 shapes
 
--- they are the patterns of the formula without their terms, and those atoms closed by them which are provable
-abbrev pub IsClosingAnswer : Setting → List Atom → ℕ → List GapPattern → List Atom → Type 0
-IsClosingAnswer s formula vars closings provable = (patterns : List GapPattern) × IsGapAnswer s formula vars patterns provable
-    × AreKept false patterns closings
+-- Alike: `IsGapAnswer`, of patterns with terms. What gaps of the formula, which has fewer unfinished gap proofs than the limit, close
+-- together, whatever the objects for its variables; and those of these atoms which are provable, none of which meets the limit.
+pub record IsClosingAnswer (s : Setting) (formula : List Atom) (vars : ℕ) (closings : List GapPattern) (provable : List Atom) : Type 0
+  where
+    pub all : AreGapClosings s formula vars closings
+    pub few : AreFewGapShapes s formula vars
+    pub provable_are : (atom : Atom) → Contains provable atom ↔ (IsClosedIn (lists_of s.objects closings) atom × IsProvable s atom)
+    pub unlimited : (atom : Atom) (shapes : List (List Tick)) → IsClosedIn (lists_of s.objects closings) atom
+        → ¬ IsLimited s (atom ∷ []) 0 shapes
 
 -- they are the patterns and provable atoms of some formula of the problem
 abbrev pub AnswersSome : Problem → List Atom → ℕ → List GapPattern → List Atom → Type 0

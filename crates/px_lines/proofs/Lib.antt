@@ -11,4 +11,5 @@ pub mod RowProofs
 -- lines by their rows
 pub mod Ones
 pub mod Views
+pub mod Made
 pub mod FormedLines

@@ -12,10 +12,6 @@ use Rattle.px_lines.proofs.Walks.{in_front}
 abbrev then_first : Option items.Item → Option (List items.Item × List Lexeme) → Option (List items.Item × List Lexeme)
 then_first first rest = option_and_then (λ item. option_map (λ r. (item ∷ r.0, r.1)) rest) first
 
-front-none : (found : Option (List items.Item × List Lexeme)) → found ≡ in_front [] found
-front-none None = refl
-front-none (Some r) = refl
-
 front-more : (got : List items.Item) (x : items.Item) (found : Option (List items.Item × List Lexeme))
     → in_front got (option_map (λ r. (x ∷ r.0, r.1)) found) ≡ in_front (got ++ x ∷ []) found
 front-more got x None = refl
@@ -33,9 +29,6 @@ front-step o ones x xs = each (one_of o x) (ones_at ones xs)
     each (Some item) None = refl
     each (Some item) (Some is) = refl
 
-pub ones-first : (ones : List One) (xs : List Lexeme) → ones_front ones xs ≡ in_front (map said_view []) (ones_front (drop 0 ones) xs)
-ones-first ones xs = front-none (ones_front ones xs)
-
 module _ (ones : List One) (all xs : List Lexeme) (i : ℕ) (got : List Said) (below : i < length ones) (d : One)
     (whole : ones_front ones all ≡ in_front (map said_view got) (ones_front (drop i ones) xs)) where
   here : ones_front ones all ≡ in_front (map said_view got) (ones_front (get_or ones i d ∷ drop (i + 1) ones) xs)
@@ -49,9 +42,6 @@ module _ (ones : List One) (all xs : List Lexeme) (i : ℕ) (got : List Said) (b
     step : ones_front ones all ≡ in_front (map said_view got) (then_first (one_of (get_or ones i d) x) (ones_front (drop (i + 1) ones) more))
     step = here ∙ ap (λ t. in_front (map said_view got) (ones_front (get_or ones i d ∷ drop (i + 1) ones) t)) is
         ∙ ap (in_front (map said_view got)) (front-step (get_or ones i d) (drop (i + 1) ones) x more)
-
-    pub ones-none : None ≡ one_of (get_or ones i d) x → None ≡ ones_front ones all
-    ones-none none = sym (step ∙ ap (λ f. in_front (map said_view got) (then_first f (ones_front (drop (i + 1) ones) more))) (sym none))
 
     pub ones-more : (thing : Said) (new : List Said) → Some (said_view thing) ≡ one_of (get_or ones i d) x → new ≡ got ++ thing ∷ []
         → ones_front ones all ≡ in_front (map said_view new) (ones_front (drop (i + 1) ones) more)

@@ -1,5 +1,5 @@
 -- The proofs of a row, as they are written: how many are owed.
-use Rattle.px_lines.proofs.Common.{◌≡◌, ℕ, zero, suc, ◌+◌, ◌<◌, ◌≤◌, Bool, false, ◌==◌, List, [], ◌∷◌, map, drop, length, refl, sym, arith, get_or, part_view}
+use Rattle.px_lines.proofs.Common.{◌≡◌, ℕ, zero, suc, ◌+◌, ◌<◌, ◌≤◌, false, ◌==◌, List, [], ◌∷◌, map, drop, length, sym, arith, get_or, part_view}
 use Rattle.std.specs.Prelude.{fold}
 use Rattle.px_script.proofs.Common.{eqb-true}
 use Rattle.px_script.proofs.Lists.{by_test}

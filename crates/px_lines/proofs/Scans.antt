@@ -1,6 +1,8 @@
 -- The lexemes of a text: its first token and the others, and the readings of its characters.
-use Rattle.px_lines.proofs.Common.{◌≡◌, ◌<◌, ℕ, zero, suc, Bool, true, false, List, [], ◌∷◌, length, refl, sym, ap, ◌∙◌, subst, arith, Lexeme, Lexes, found, ignored, bad, first, chars, begins-found, ignored-scanned, found-begins, scanned-ignored, Begins-same, Begins-shorter, Begins-not-ignored, scan_within, scan, with_first, lexemes_in, is_whole, Result, Ok, Err, Option, Some, None, Token, lexeme_of, IsNext, is_end}
+use Rattle.px_lines.proofs.Common.{◌≡◌, ◌<◌, ℕ, zero, suc, Bool, true, false, List, [], ◌∷◌, length, refl, sym, ap, ◌∙◌, subst, arith, Lexeme, Lexes, found, ignored, bad, first, chars, begins-found, ignored-scanned, found-begins, scanned-ignored, Begins-same, Begins-shorter, Begins-not-ignored, scan_within, scan, with_first, lexemes_in, is_whole, Result, Ok, Err, Option, Some, None, Token, lexeme_of, IsNext, is_end, Begins, IfOk, IfSome, IsUtf8}
+use Rattle.std.specs.Prelude.{IfNone, OnErr}
 use Rattle.px_script.proofs.Scanning.{First}
+use Rattle.px_script.specs.Lexemes.{IsIgnored}
 use Rattle.px_lines.specs.Tokens.{Scans}
 use Rattle.px_lines.specs.declared.token.BadToken.{BadToken}
 use denote.Ref.{Bor}
@@ -23,48 +25,87 @@ enough zero m cs short less = absurd (omega (arith, short))
 enough (suc n) zero cs short less = absurd (omega (arith, less))
 enough (suc n) (suc m) cs short less = enough-by n m cs (first cs) refl short less (λ after s l. enough n m after s l)
 
+-- no scan finds a token, where none begins the text and the text has no lexemes
+none-first : (cs : List ℕ) → ((l : Lexeme) (rest : List ℕ) → ¬ Begins cs l rest) → ¬ IsIgnored cs → first cs ≡ bad
+none-first cs no_token not_ignored = by_first (first cs) refl
+  where
+    by_first : (f : First) → first cs ≡ f → f ≡ bad
+    by_first (found l rest) e = absurd (no_token l rest (found-begins cs l rest e))
+    by_first ignored e = absurd (not_ignored (scanned-ignored cs e))
+    by_first bad e = refl
+
 module _ (text : List ℕ) where
-  pub scan-found : (rest : List ℕ) (l : Lexeme) → first (chars text) ≡ found l (chars rest)
+  pub scan-found : (rest : List ℕ) (l : Lexeme) → Begins (chars text) l (chars rest)
       → (lexemes_in text ≡ l ∷ lexemes_in rest) × (is_whole rest ≡ is_whole text)
   unfolding scan scan_within
-  scan-found rest l e = let fewer = Begins-shorter (chars text) l (chars rest) (found-begins (chars text) l (chars rest) e) in
-      let same : scan text ≡ (l ∷ lexemes_in rest, is_whole rest) = ap (with_first (scan_within (length (chars text)))) e
+  scan-found rest l begins = let fewer = Begins-shorter (chars text) l (chars rest) begins in
+      let same : scan text ≡ (l ∷ lexemes_in rest, is_whole rest)
+      = ap (with_first (scan_within (length (chars text)))) (begins-found (chars text) l (chars rest) begins)
       ∙ ap (λ s. (l ∷ s.0, s.1)) (enough (length (chars text)) (suc (length (chars rest))) (chars rest) fewer (omega arith)) in
       (ap (λ s. s.0) same, sym (ap (λ s. s.1) same))
 
-  pub scan-ignored : first (chars text) ≡ ignored → (lexemes_in text ≡ []) × (is_whole text ≡ true)
+  pub scan-ignored : IsIgnored (chars text) → (lexemes_in text ≡ []) × (is_whole text ≡ true)
   unfolding scan scan_within
-  scan-ignored e = let same = ap (with_first (scan_within (length (chars text)))) e in (ap (λ s. s.0) same, ap (λ s. s.1) same)
+  scan-ignored is = let same = ap (with_first (scan_within (length (chars text)))) (ignored-scanned (chars text) is) in
+      (ap (λ s. s.0) same, ap (λ s. s.1) same)
 
-  pub scan-bad : first (chars text) ≡ bad → (lexemes_in text ≡ []) × (is_whole text ≡ false)
-  unfolding scan scan_within
-  scan-bad e = let same = ap (with_first (scan_within (length (chars text)))) e in (ap (λ s. s.0) same, ap (λ s. s.1) same)
+  module _ (no_token : (l : Lexeme) (rest : List ℕ) → ¬ Begins (chars text) l rest)
+      (not_lexed : (all : List Lexeme) → ¬ Lexes (chars text) all) where
+    pub scan-bad : (lexemes_in text ≡ []) × (is_whole text ≡ false)
+    unfolding scan scan_within
+    scan-bad = let same = ap (with_first (scan_within (length (chars text)))) (none-first (chars text) no_token (not_lexed [])) in
+        (ap (λ s. s.0) same, ap (λ s. s.1) same)
 
-  -- what the scanner answers
-  pub next-there : (front : Option (Token × Bor (List ℕ))) → Scans (Ok front) (first (chars text)) → IsNext text front
-  next-there None e = (scan-ignored e).0
-  next-there (Some p) e = let both = scan-found p.1.now (lexeme_of p.0) e.0 in (both.0, (e.1, both.1))
+  -- what `first_token` answers
+  pub next-there : (front : Option (Token × Bor (List ℕ))) → IfSome front (λ p. Begins (chars text) (lexeme_of p.0) (chars p.1.now))
+      → IfSome front (λ p. IsUtf8 p.1.now) → IfNone front (IsIgnored (chars text)) → IsNext text front
+  next-there None token rest is = (scan-ignored is).0
+  next-there (Some p) token rest is = let both = scan-found p.1.now (lexeme_of p.0) token in (both.0, (rest, both.1))
 
-  pub end-there : first (chars text) ≡ ignored → true ≡ is_end text
-  end-there e = let both = scan-ignored e in rw (both.0, both.1) refl
+  pub end-there : IsIgnored (chars text) → true ≡ is_end text
+  end-there is = let both = scan-ignored is in rw (both.0, both.1) refl
 
-  pub end-bad : first (chars text) ≡ bad → false ≡ is_end text
-  end-bad e = let both = scan-bad e in rw (both.0, both.1) refl
-
-  pub not-end : (rest : List ℕ) (l : Lexeme) → first (chars text) ≡ found l (chars rest) → false ≡ is_end text
-  not-end rest l e = let both = scan-found rest l e in rw both.0 refl
-
-  -- whatever the scanner answers but the end
-  pub no-end : (r : Result (Option (Token × Bor (List ℕ))) BadToken) → Scans r (first (chars text))
-      → (r ≡ Ok None → false ≡ true) → false ≡ is_end text
-  no-end (Ok None) e other = false-true (other refl)
-  no-end (Ok (Some p)) e other = not-end p.1.now (lexeme_of p.0) e.0
-  no-end (Err x) e other = end-bad e
-
-  pub next-bad : first (chars text) ≡ bad → lexemes_in text ≡ []
-  next-bad e = (scan-bad e).0
+  -- whatever `first_token` answers but the end
+  pub no-end : (r : Result (Option (Token × Bor (List ℕ))) BadToken)
+      → IfOk r (λ found. IfSome found (λ front. Begins (chars text) (lexeme_of front.0) (chars front.1.now)))
+      → OnErr r ((l : Lexeme) (rest : List ℕ) → ¬ Begins (chars text) l rest)
+      → OnErr r ((all : List Lexeme) → ¬ Lexes (chars text) all) → (r ≡ Ok None → false ≡ true) → false ≡ is_end text
+  no-end (Ok None) token no_token not_lexed other = false-true (other refl)
+  no-end (Ok (Some p)) token no_token not_lexed other = let both = scan-found p.1.now (lexeme_of p.0) token in rw both.0 refl
+  no-end (Err x) token no_token not_lexed other = let both = scan-bad no_token not_lexed in rw (both.0, both.1) refl
 
 -- ---- the readings of characters
+
+bad-begins : (cs : List ℕ) → first cs ≡ bad → (l : Lexeme) (rest : List ℕ) → ¬ Begins cs l rest
+bad-begins cs e l rest begins = let no = begins-found cs l rest begins in cc
+
+bad-lexed : (cs : List ℕ) → first cs ≡ bad → (all : List Lexeme) → ¬ Lexes cs all
+bad-lexed cs e [] is = let no = ignored-scanned cs is in cc
+bad-lexed cs e (m ∷ ms) is = bad-begins cs e m is.0 is.1
+
+-- what a scan answers, said of the text
+module _ (cs : List ℕ) where
+  pub scans-token : (r : Result (Option (Token × Bor (List ℕ))) BadToken) → Scans r (first cs)
+      → IfOk r (λ found. IfSome found (λ front. Begins cs (lexeme_of front.0) (chars front.1.now)))
+  scans-token (Ok (Some p)) e = found-begins cs (lexeme_of p.0) (chars p.1.now) e.0
+  scans-token (Ok None) e = tt
+  scans-token (Err x) e = tt
+
+  pub scans-ignored : (r : Result (Option (Token × Bor (List ℕ))) BadToken) → Scans r (first cs)
+      → IfOk r (λ found. IfNone found (IsIgnored cs))
+  scans-ignored (Ok (Some p)) e = tt
+  scans-ignored (Ok None) e = scanned-ignored cs e
+  scans-ignored (Err x) e = tt
+
+  pub scans-none : (r : Result (Option (Token × Bor (List ℕ))) BadToken) → Scans r (first cs)
+      → OnErr r ((l : Lexeme) (rest : List ℕ) → ¬ Begins cs l rest)
+  scans-none (Ok front) e = tt
+  scans-none (Err x) e = bad-begins cs e
+
+  pub scans-bad : (r : Result (Option (Token × Bor (List ℕ))) BadToken) → Scans r (first cs)
+      → OnErr r ((all : List Lexeme) → ¬ Lexes cs all)
+  scans-bad (Ok front) e = tt
+  scans-bad (Err x) e = bad-lexed cs e
 
 abbrev Reads : List ℕ → List Lexeme × Bool → Type 0
 Reads cs (lexemes, true) = Lexes cs lexemes
@@ -73,11 +114,7 @@ Reads cs (lexemes, false) = (all : List Lexeme) → ¬ Lexes cs all
 reads-by : (n : ℕ) (cs : List ℕ) (f : First) → first cs ≡ f → length cs < suc n
     → ((after : List ℕ) → length after < n → Reads after (scan_within n after)) → Reads cs (with_first (scan_within n) f)
 reads-by n cs ignored e short recur = scanned-ignored cs e
-reads-by n cs bad e short recur = none
-  where
-    none : (all : List Lexeme) → ¬ Lexes cs all
-    none [] is = let no = ignored-scanned cs is in cc
-    none (m ∷ ms) is = let no = begins-found cs m is.0 is.1 in cc
+reads-by n cs bad e short recur = bad-lexed cs e
 reads-by n cs (found l after) e short recur = let fewer = Begins-shorter cs l after (found-begins cs l after e) in
     more (scan_within n after) (recur after (omega (arith, fewer, short)))
   where

@@ -1,5 +1,5 @@
 -- A text, read from left to right: things of one kind to the end of a line, and items in parentheses.
-use Rattle.px_lines.proofs.Common.{◌≡◌, ℕ, zero, suc, ◌+◌, ◌-◌, ◌≤◌, ◌<◌, Bool, true, false, ◌==◌, List, [], ◌∷◌, ◌++◌, map, length, refl, sym, ap, ◌∙◌, subst, arith, append_assoc, append-nil, length-append, Option, None, Some, IfSome, option_map, option_and_then, if◌then◌else◌, map-append, Lexeme, sign, ReadsBack, ReadsSpelled, atom-sound, atoms-back, binding-sound, bindings-back, pair-sound, pairs-back, room-edit-sound, room-edits-back, all_within, all_of, atom_at, room_edit_at, binding_at, pair_at, items_after, item_at, parts-back, part-sound, part_at, names_of, IsUtf8, Follows, if_whole, is_end, is_none, is_whole, lexemes_in, name_in, number_in}
+use Rattle.px_lines.proofs.Common.{◌≡◌, ℕ, zero, suc, ◌≤◌, ◌<◌, Bool, true, false, ◌==◌, List, [], ◌∷◌, ◌++◌, map, length, refl, sym, ap, ◌∙◌, subst, arith, append_assoc, append-nil, length-append, Option, None, Some, IfSome, option_map, option_and_then, if◌then◌else◌, map-append, Lexeme, sign, ReadsBack, ReadsSpelled, atom-sound, atoms-back, binding-sound, bindings-back, pair-sound, pairs-back, room-edit-sound, room-edits-back, all_within, all_of, atom_at, room_edit_at, binding_at, pair_at, items_after, item_at, parts-back, part-sound, part_at, names_of, Follows, if_whole, is_end, is_none, is_whole, lexemes_in, name_in, number_in}
 use Rattle.std.specs.Prelude.{◌&&◌}
 use Rattle.px_script.specs.Lexemes.{name, variable, number}
 use Rattle.px_script.proofs.Parsing.{numbers_of}
@@ -97,14 +97,6 @@ pub record AreReadTo {T A : Type 0} (view : T → A) (one : List Lexeme → Opti
     : Type 0 where
   pub whole : all_of one (lexemes_in text) ≡ before (map view got) (all_of one (lexemes_in rest))
   pub follows : Follows text rest
-
-before-none : {A : Type 0} (found : Option (List A)) → found ≡ before [] found
-before-none None = refl
-before-none (Some things) = refl
-
-pub things-first : {T A : Type 0} (view : T → A) (one : List Lexeme → Option (A × List Lexeme)) (text : List ℕ) → IsUtf8 text
-    → AreReadTo view one text text []
-things-first view one text is_text = record { whole = before-none (all_of one (lexemes_in text)); follows = (is_text, refl) }
 
 module _ {T A : Type 0} {view : T → A} {one : List Lexeme → Option (A × List Lexeme)} (advances : Advances one) {text rest : List ℕ}
     {got : List T} (read : AreReadTo view one text rest got) where

@@ -1,5 +1,8 @@
 -- What the definitions see of rows and lines.
-use Rattle.std.specs.Prelude.{◌≡◌, Bool, IfSome, length}
+use Rattle.std.specs.Prelude.{◌≡◌, Bool, List, IfSome, length}
+use Rattle.px_script.specs.Declarations.{Declared}
+use Rattle.px_script.specs.Forms.{Forms}
+use Rattle.px_script.specs.Lexemes.{Lexeme}
 use Rattle.px_script.specs.Statements as lines
 use Rattle.px_script.proofs.Rows as rows
 use Rattle.px_lines.specs.ItemViews.{said_items}
@@ -15,3 +18,7 @@ line_view l = rows.filled (row_view l.row) (said_items l.ones.items l.last)
 -- the line has as many things of one token each as the row of its word
 abbrev pub IsShaped : Bool → Line → Type 0
 IsShaped with_building l = IfSome (rows.row_of with_building l.row.word.now) (λ r. length l.ones.items ≡ length r.ones)
+
+-- the line is that of a statement that the lexemes are, after the lines so far
+abbrev pub IsStatementLine : Declared → List Lexeme → Line → Type 0
+IsStatementLine d lexemes l = (s : lines.Statement) × Forms d lexemes s × (line_view l ≡ lines.line_of s)

@@ -2,12 +2,13 @@
 //!
 //! # Calling it
 //!
-//! - [`first_token`] returns the first [`Token`] of a text and what follows it, or finds that a character begins none, and [`are_tokens`]
-//!   returns whether a text is tokens (`Lexes` of `px_script`).
-//! - [`formed_line`] returns the [`Line`] that a word and the text after it are: what the word is, where it may stand and what its atoms may
-//!   be (its [`Row`]), what the first tokens of the text say ([`Said`], one token each), and what those to its end say ([`Rest`]). It is the
-//!   line in its form that `formed_line` of `px_script` reads of them, so the `line_of` of a statement, or there is none. The text is gone
-//!   over token by token, and no list of its tokens is made.
+//! - [`first_token`] returns the first [`Token`] of a text and what follows it (`Begins` of `px_script`), or that nothing but blanks and a
+//!   comment stands there (`IsIgnored`), or finds that a character begins none; and [`are_tokens`] returns whether a text is tokens
+//!   (`Lexes`).
+//! - [`formed_line`] returns the [`Line`] that a word and the text after it are: what the word is, where it may stand and what its atoms
+//!   may be (its [`Row`]), what the first tokens of the text say ([`Said`], one token each), and what those to its end say ([`Rest`]). It
+//!   is the line of the statement that the word and the text's tokens are (`Forms` of `px_script`), and there is none where they are no
+//!   statement. The text is gone over token by token, and no list of its tokens is made.
 //! - [`is_word`] returns whether a name may begin a line. The words stand in one table, `row_for` of `rows`; what a word's line has
 //!   follows from its row.
 //! - [`open_of`] returns what a word says of a door.

@@ -1,14 +1,15 @@
 //! The line that a text is, by the row of its word.
-ghost use Rattle.std.specs.Prelude.{◌≡◌, ◌++◌, ◌∷◌, ℕ, List, true, length, map, IfOk, IfSome};
+ghost use Rattle.std.specs.Prelude.{◌≡◌, ◌++◌, ◌∷◌, ℕ, List, true, length, map, IfNone, IfOk, IfSome};
 ghost use Rattle.std.specs.List.{flat_map, list_all, list_any};
-ghost use Rattle.px_script.proofs.Rows.{chosen, formed_line, last_at, line_at, one_of, row_items};
+ghost use Rattle.px_script.proofs.Rows.{chosen, last_at, line_at, one_of, row_items};
 ghost use Rattle.px_script.specs.Lexemes.{Lexeme, Lexes, name as name_lexeme};
 ghost use Rattle.px_script.specs.Declarations.{Declared, has_building};
-ghost use Rattle.px_script.specs.Forms.{is_formed, is_signed, line_atoms};
+ghost use Rattle.px_script.specs.Forms.{Forms, is_formed, is_signed, line_atoms};
 ghost use Rattle.px_script.specs.Items.{atoms_of_part, has_parameter, is_filled};
 ghost use Rattle.px_script.specs.Limits.{is_word};
+ghost use Rattle.px_script.specs.Statements.{Statement};
 ghost use Rattle.px_lines.specs.Common.{Fronts, IsLexed, argument_view, chars, if_whole, items_view, lexeme_of, lexemes_in, ones_front, option_map, part_view, parts_view, rest_arguments, rest_atoms, rest_parts, rest_view, said_view, signed_view};
-ghost use Rattle.px_lines.specs.LineViews.{IsShaped, line_view, row_view};
+ghost use Rattle.px_lines.specs.LineViews.{IsShaped, IsStatementLine, line_view, row_view};
 
 use crate::items::{Argument, Rest, Said, SignedAtom};
 use crate::lists::{listed_arguments, listed_names, names, numbers};
@@ -170,9 +171,12 @@ pub fn formed_line<'a>(
     word: &str,
     text: &'a str,
 ) -> Result<Option<Line<'a>>, NoMemory>
-    ensures found { (d : Declared) (lexemes : List Lexeme) → has_building d ≡ with_building → is_word d.version word.now ≡ true
+    ensures line { (d : Declared) (lexemes : List Lexeme) → has_building d ≡ with_building → is_word d.version word.now ≡ true
         → Lexes (chars text.now) lexemes
-        → IfOk result (λ found. option_map line_view found ≡ formed_line d (name_lexeme word.now ∷ lexemes)) }
+        → IfOk result (λ found. IfSome found (IsStatementLine d (name_lexeme word.now ∷ lexemes))) }
+    ensures none { (d : Declared) (lexemes : List Lexeme) → has_building d ≡ with_building → is_word d.version word.now ≡ true
+        → Lexes (chars text.now) lexemes
+        → IfOk result (λ found. IfNone found ((s : Statement) → ¬ Forms d (name_lexeme word.now ∷ lexemes) s)) }
     ensures lexed { IfOk result (λ found. IfSome found (λ line. IsLexed (chars text.now))) }
     ensures shaped { IfOk result (λ found. IfSome found (λ line. IsShaped with_building line)) }
 {

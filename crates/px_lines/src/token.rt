@@ -1,9 +1,9 @@
 //! The tokens of a line.
-ghost use Rattle.std.specs.Prelude.{◌≡◌, ◌<◌, ◌++◌, List, true, length, MatchBool};
+ghost use Rattle.std.specs.Prelude.{◌≡◌, ◌<◌, ◌++◌, ℕ, List, true, length, IfNone, IfOk, IfSome, MatchBool, OnErr};
 ghost use Rattle.std.specs.Char.{is_ascii_digit};
-ghost use Rattle.px_script.specs.Lexemes.{Lexeme, Lexes, is_sign, number_value, goes_on};
-ghost use Rattle.px_script.proofs.Scanning.{front_while, after_while, first, first_at, first_number, first_variable};
-ghost use Rattle.px_lines.specs.Common.{IsUtf8, chars, all_ascii_digits, is_of, text_of, Skips, Scans, NameAt, IsLexed, IsNext, Fronts, Follow, is_end, lexemes_in, name_in, number_in, sign_in, rest_after};
+ghost use Rattle.px_script.specs.Lexemes.{Lexeme, Lexes, Begins, IsIgnored, is_sign, number_value, goes_on};
+ghost use Rattle.px_script.proofs.Scanning.{front_while, after_while, first_at, first_number, first_variable};
+ghost use Rattle.px_lines.specs.Common.{IsUtf8, chars, all_ascii_digits, is_of, text_of, Skips, Scans, NameAt, IsLexed, IsNext, Fronts, Follow, is_end, lexeme_of, lexemes_in, name_in, number_in, sign_in, rest_after};
 
 use px_names::{split_first, starts_name};
 
@@ -43,7 +43,11 @@ pub fn are_tokens(text: &str) -> bool
 /// # Errors
 /// `BadToken` where the first character after blanks begins no token.
 pub fn first_token(text: &str) -> Result<Option<(Token<'_>, &str)>, BadToken>
-    ensures { Scans result (first (chars text.now)) }
+    ensures token { IfOk result (λ found. IfSome found (λ front. Begins (chars text.now) (lexeme_of front.0) (chars front.1.now))) }
+    ensures rest { IfOk result (λ found. IfSome found (λ front. IsUtf8 front.1.now)) }
+    ensures ignored { IfOk result (λ found. IfNone found (IsIgnored (chars text.now))) }
+    ensures no_token { OnErr result ((lexeme : Lexeme) (rest : List ℕ) → ¬ Begins (chars text.now) lexeme rest) }
+    ensures not_lexed { OnErr result ((all : List Lexeme) → ¬ Lexes (chars text.now) all) }
 {
     let (_, text) = split_while(text, Class::Blank);
     token_at(text)

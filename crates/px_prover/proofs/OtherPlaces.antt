@@ -65,17 +65,17 @@ module _ (loose : Bool) (s : Setting) (formula : List Atom) (vars : ℕ) where
       omega (arith, some, sym (ap left_of possible.1.1) ∙ none)
 
 -- so there is nothing to gather
-pub nothing-more : (s : Setting) (formula : List Atom) (vars : ℕ) (v : ProofStateValue) → IsStanding true s formula vars v
+pub nothing-more : (kept : ℕ) (s : Setting) (formula : List Atom) (vars : ℕ) (v : ProofStateValue) → IsStanding true s formula vars v
     → 1 < length (goals_at v.goals v.first) → (seen : List (List Tick)) (found : List GapPattern)
-    → ArePatternsOf s formula vars seen found → ArePatternsOf s formula vars (seen ++ ticks_in v.choices ∷ []) found
-nothing-more s formula vars v standing two seen found are =
-    patterns-more s formula vars seen (ticks_in v.choices) found found are (
+    → ArePatternsOf kept s formula vars seen found → ArePatternsOf kept s formula vars (seen ++ ticks_in v.choices ∷ []) found
+nothing-more kept s formula vars v standing two seen found are =
+    patterns-more kept s formula vars seen (ticks_in v.choices) found found are (
       λ all. all,
       λ objects gaps. (
         λ offered. inl offered,
         λ offered. elim offered [
           | inl before ↦ before
-          | inr gives ↦ absurd (none-finished true s formula vars v standing two gives.0 gives.1.0 gives.1.1)
+          | inr gives ↦ absurd (none-finished true s formula vars v standing two gives.0 gives.1.1.0 gives.1.1.1)
         ],
       ),
     )

@@ -1,13 +1,14 @@
 -- Gap patterns, equal ones once.
 use Rattle.std.proofs.Common.{◌≡◌, ◌↔◌, ℕ, List, ap}
-use Rattle.std.specs.Prelude.{Contains}
+use Rattle.std.specs.Prelude.{All, Contains}
 use Rattle.std.specs.Bool.{Decides}
 use Rattle.std.specs.Cmp.Lexicographic.{pointwise_decides}
 use Rattle.std.proofs.lemmas.Bool.Decides.{Decides-and, Decides-eqb, Decides-like}
 use Rattle.px_base.specs.ListLaws.{All-at, All-each}
-use Rattle.px_prover.specs.Patterns.{AreGapPatterns, IsPattern}
+use Rattle.px_prover.specs.Patterns.{AreKeptPatterns, ArePatternsOf, IsPattern, Offers}
 use Rattle.px_prover.specs.contracts.pattern.GapPatternPartialEq.TheImpl as pattern_equality
 use Rattle.px_prover.specs.declared.pattern.GapPattern.{GapPattern}
+use Rattle.px_proof.specs.declared.shape.Tick.{Tick}
 use Rattle.px_question.specs.Settings.{Setting}
 use Rattle.px_terms.specs.OrderLaws.{atom_eq-decides, term_eq-decides}
 use Rattle.px_terms.specs.declared.atom.Atom.{Atom}
@@ -19,16 +20,34 @@ pattern_eq-decides a b =
     (Decides-and _ _ (Decides-eqb a.vars b.vars) (Decides-and _ _ (pointwise_decides term_eq-decides a.terms b.terms)
     (pointwise_decides atom_eq-decides a.atoms b.atoms)))
 
--- the patterns of a formula are so in any order and number
-pub patterns-same : (s : Setting) (formula : List Atom) (vars : ℕ) (old new : List GapPattern)
-    → ((pattern : GapPattern) → Contains new pattern ↔ Contains old pattern) → AreGapPatterns s formula vars old
-    → AreGapPatterns s formula vars new
-patterns-same s formula vars old new same are = record {
-  form =
-      All-each (IsPattern s.objects vars) new (λ pattern has. All-at (IsPattern s.objects vars) old pattern are.form
-      ((same pattern).0 has));
-  exact = λ objects gaps. (
-    λ listed. let offered = (are.exact objects gaps).0 listed in (offered.0, (same offered.0).1 offered.1, offered.2),
-    λ offered. (are.exact objects gaps).1 (offered.0, (same offered.0).0 offered.1, offered.2),
-  );
-}
+-- the same patterns, in any order and number
+module _ (old new : List GapPattern) (same : (pattern : GapPattern) → Contains new pattern ↔ Contains old pattern) where
+  same-form : (objects kept : ℕ) → All (IsPattern objects kept) old → All (IsPattern objects kept) new
+  same-form objects kept form =
+      All-each (IsPattern objects kept) new (λ pattern has. All-at (IsPattern objects kept) old pattern form ((same pattern).0 has))
+
+  same-offers : (limit : ℕ) (objects : List ℕ) (gaps : List Atom) → Offers limit new objects gaps ↔ Offers limit old objects gaps
+  same-offers limit objects gaps =
+      (λ h. (h.0, (same h.0).0 h.1, h.2), λ h. (h.0, (same h.0).1 h.1, h.2))
+
+  pub patterns-same : (kept : ℕ) (s : Setting) (formula : List Atom) (vars : ℕ) → AreKeptPatterns kept s formula vars old
+      → AreKeptPatterns kept s formula vars new
+  patterns-same kept s formula vars are = record {
+    form = same-form s.objects kept are.form;
+    exact = λ objects gaps.
+        let both = same-offers s.objects objects gaps in (
+          λ listed. both.1 ((are.exact objects gaps).0 listed),
+          λ offered. (are.exact objects gaps).1 (both.0 offered),
+        );
+  }
+
+  pub pruned-same : (kept : ℕ) (s : Setting) (formula : List Atom) (vars : ℕ) (seen : List (List Tick))
+      → ArePatternsOf kept s formula vars seen old → ArePatternsOf kept s formula vars seen new
+  pruned-same kept s formula vars seen are = record {
+    form = same-form s.objects kept are.form;
+    offers = λ objects gaps.
+        let both = same-offers s.objects objects gaps in (
+          λ offered. (are.offers objects gaps).0 (both.0 offered),
+          λ gives. both.1 ((are.offers objects gaps).1 gives),
+        );
+  }

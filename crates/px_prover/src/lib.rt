@@ -41,7 +41,7 @@
 //! list comes about like this. No clause says how many patterns there are, or in which order. [`patterns_are_lists`] is a law for
 //! callers: the instances of the patterns, ascending, each once, are the gap lists (`AreGapLists` of `px_question`).
 //!
-//! [`gap_closings`] has the same conditions and errors, and returns the patterns without their terms: the atoms that gaps close together,
+//! [`gap_closings`] has the same conditions and errors, and returns patterns without terms: the atoms that gaps close together,
 //! whatever the objects for the formula's variables. Lists that close the same atoms are mostly one then; no clause says how few they are.
 //!
 //! Facts with objects outside the problem are passed over. What these words mean is said in `px_question`: trees without
@@ -51,9 +51,10 @@
 //! Internally places are closed from left to right, over variables whose bindings are undone (`px_proof_state`), in the order
 //! of the shapes (`px_proof_walk`). [`prove`] stops at the first finished list. `gap_patterns` visits the unfinished ones, and at
 //! each gathers a pattern for each list that one more closing finishes; equal patterns are kept once. A walk over unfinished lists
-//! passes over facts and ancestors where one place alone is open, since they leave none open. Where there are more than
-//! a few, a walk that gathers nothing tells first whether they are too many. `gap_lists` puts all objects in the place of their
-//! variables.
+//! passes over facts and ancestors where one place alone is open, since they leave none open. Facts and ancestors bind variables alone,
+//! so where a fact finishes a list without a change of the pattern that it had before, the others that finish it are passed over, too.
+//! Where there are more than a few, a walk that gathers nothing tells first whether they are too many. `gap_lists` puts all objects in the
+//! place of their variables.
 //!
 //! Of the files of `specs/`, public clauses cite `Limits`, `Outcomes`, `PatternLists` and `Patterns`; only private functions cite the
 //! others.

@@ -1,5 +1,6 @@
 //! Gap patterns: gap lists with variables, one for each finished list of loose gap proofs.
 ghost use Rattle.std.specs.Prelude.{◌≡◌, ◌↔◌, ◌⊎◌, ◌<◌, ◌≤◌, cond, true, [], IfOk, length, All, Contains, IsTrue};
+ghost use Rattle.px_proof.specs.declared.shape.Tick.{Tick as TickValue};
 ghost use Rattle.px_prover.specs.Limits.{most_gap_variables};
 ghost use Rattle.px_question.specs.Limits.{AreFewGapShapes, IsGapLimited};
 ghost use Rattle.px_question.specs.Settings.{setting_of};
@@ -8,9 +9,10 @@ ghost use Rattle.px_terms.specs.Validity.{IsValid, IsAtomOf};
 ghost use Rattle.px_terms.specs.declared.atom.Atom.{Atom as AtomValue};
 ghost use Rattle.px_prover.specs.Asked.{IsAsked};
 ghost use Rattle.px_prover.specs.GapAsking.{gap_setting};
+ghost use Rattle.px_prover.specs.Passed.{IsSmall};
 ghost use Rattle.px_prover.specs.Outcomes.{IfGapLimit};
 ghost use Rattle.px_prover.specs.declared.pattern.GapPattern.{GapPattern as PatternValue};
-ghost use Rattle.px_prover.specs.Patterns.{AreGapClosings, AreGapPatterns, AreKeptPatterns, GathersKeptOf, IsPatternBy, ends_of, place_of, renamed};
+ghost use Rattle.px_prover.specs.Patterns.{AreGapClosings, AreGapPatterns, AreKeptPatterns, GathersOf, IsPatternBy, IsPatternOf, PassesOver, ends_of, place_of, renamed, terms_in};
 ghost use Rattle.px_terms.specs.Substitution.{variables_from};
 ghost use Rattle.px_prover.specs.Standing.{ticks_in, IsStanding};
 
@@ -22,6 +24,7 @@ use crate::pattern::GapPattern;
 use crate::walking::are_two_open;
 use px_base::{NoMemory, Sequence, push};
 use px_ops::Model;
+use px_proof::Tick;
 use px_proof_state::ProofState;
 use px_proof_walk::{Gather, Walk, walk_to_end};
 use px_terms::{Atom, Problem, Term};
@@ -31,7 +34,7 @@ use std::alloc::Global;
 const MANY_PATTERNS: usize = 1024;
 
 /// Up to how many lists patterns are gathered at once. Where there are more, a walk first tells whether they are too many.
-const FEW_LISTS: u32 = 64;
+const FEW_LISTS: u32 = 256;
 
 /// Returns the place of the variable in the list of `count` variables, or `count` if it is not there.
 fn place(free: &[u32], count: u32, variable: u32) -> u32
@@ -138,27 +141,20 @@ fn keep(found: &mut Vec<GapPattern>, pattern: GapPattern) -> Result<(), NoMemory
     Ok(())
 }
 
-/// Gathers the pattern of a state in which no place is open.
-fn gather_finished(
-    found: &mut Vec<GapPattern>,
-    question: &GapQuestion,
-    state: &ProofState,
-) -> Result<(), NoMemory>
-    requires stands { IsStanding true (gap_setting question.now) question.now.formula.now question.now.vars state.now }
-    requires finished { state.now.first ≡ 0 }
-    ensures { IfOk result (λ _. GathersKeptOf question.now (ticks_in state.now.choices) found.old.items found.new.items) }
+/// Returns the pattern of a state: what its bindings make of the terms and of the atoms that gaps close.
+fn pattern_of(question: &GapQuestion, state: &ProofState) -> Result<GapPattern, NoMemory>
+    requires { IsStanding true (gap_setting question.now) question.now.formula.now question.now.vars state.now }
+    ensures { IfOk result (λ pattern. IsPatternOf question.now state.now pattern) }
 {
     let alloc = *state.allocator();
     let ends = roots_of(alloc, state.bind())?;
     let roots = ends.as_slice();
     let atoms = missing_atoms(question, state)?;
     let missing = atoms.as_slice();
-    let variables = free_of(alloc, roots, question.vars, missing)?;
-    let free = variables.as_slice();
     let terms = kept_terms(question.with_terms, question.vars);
-    let pattern = pattern_by(alloc, terms, roots, missing, free)?;
-    keep(found, pattern)?;
-    Ok(())
+    let variables = free_of(alloc, roots, terms, missing)?;
+    let free = variables.as_slice();
+    pattern_by(alloc, terms, roots, missing, free)
 }
 
 /// Gathers the pattern of a state if no place is open in it.
@@ -168,12 +164,31 @@ fn gather_here(
     state: &ProofState,
 ) -> Result<(), NoMemory>
     requires { IsStanding true (gap_setting question.now) question.now.formula.now question.now.vars state.now }
-    ensures { IfOk result (λ _. GathersKeptOf question.now (ticks_in state.now.choices) found.old.items found.new.items) }
+    ensures { IfOk result (λ _. GathersOf question.now (ticks_in state.now.choices) found.old.items found.new.items) }
 {
     if state.first() > 0 {
         return Ok(());
     }
-    gather_finished(found, question, state)
+    let pattern = pattern_of(question, state)?;
+    keep(found, pattern)?;
+    Ok(())
+}
+
+/// Returns the tick after which the last open place is tried next, where this one closed it. Facts and ancestors bind variables and
+/// leave no gap, so where the pattern of the state before the closing is found, it stands for all that they give.
+fn next_after(found: &[GapPattern], general: &GapPattern, tick: Tick) -> Tick
+    ensures small { IsSmall result }
+    ensures passed { PassesOver found.now general.now tick result }
+{
+    match tick {
+        Tick::Fact(_) => {
+            if is_last(found, general) {
+                return Tick::Anc(u32::MAX);
+            }
+            sized(tick)
+        }
+        _ => sized(tick),
+    }
 }
 
 /// Leaves each pattern once, in order.
@@ -197,9 +212,9 @@ fn prune(patterns: &mut Vec<GapPattern>, room: usize) -> usize
 
 impl<'a> Gather<GapQuestion<'a>, ProofState> for Patterns {
     ghost use Rattle.px_prover.specs.GapAsking.{gap_setting};
-    ghost use Rattle.px_prover.specs.Patterns.{AreKeptOf};
+    ghost use Rattle.px_prover.specs.Patterns.{ArePatternsOf, terms_in};
 
-    ghost gathered = { λ q g seen. AreKeptOf q.with_terms (gap_setting q) q.formula.now q.vars seen g.found.items };
+    ghost gathered = { λ q g seen. ArePatternsOf (terms_in q) (gap_setting q) q.formula.now q.vars seen g.found.items };
 
     fn gather(
         &mut self,
@@ -211,12 +226,13 @@ impl<'a> Gather<GapQuestion<'a>, ProofState> for Patterns {
             return Ok(());
         }
         let loose = question.loose();
+        let general = pattern_of(question, walk)?;
         let mut last = None;
         while walk.try_after(&loose, last)? {
             gather_here(&mut self.found, question, walk)?;
             match walk.retract(&loose) {
                 None => return Ok(()),
-                Some(tick) => last = Some(sized(tick)),
+                Some(tick) => last = Some(next_after(&self.found, &general, tick)),
             }
         }
         self.room = prune(&mut self.found, self.room);
@@ -246,7 +262,7 @@ fn gathered(alloc: Global, question: &GapQuestion, limit: u32) -> Result<Vec<Gap
     requires asked { IsAsked question.now }
     requires some { 0 < limit }
     requires within { limit ≤ question.now.problem.now.shapes }
-    ensures patterns { IfOk result (λ patterns. AreKeptPatterns question.now.with_terms (gap_setting question.now)
+    ensures patterns { IfOk result (λ patterns. AreKeptPatterns (terms_in question.now) (gap_setting question.now)
         question.now.formula.now question.now.vars patterns.items) }
     ensures few { IfOk result (λ patterns. AreFewGapShapes (gap_setting question.now) question.now.formula.now question.now.vars) }
     ensures limited { limit ≡ question.now.problem.now.shapes
@@ -285,8 +301,8 @@ fn kept_patterns(
     requires formula { All (IsAtomOf problem.now vars) formula.now }
     requires few_variables { vars ≤ most_gap_variables }
     requires some_object { 0 < vars → 0 < problem.now.objects }
-    ensures patterns { IfOk result (λ patterns. AreKeptPatterns with_terms (setting_of problem.now model.now.atoms) formula.now vars
-        patterns.items) }
+    ensures patterns { IfOk result (λ patterns. AreKeptPatterns (cond with_terms vars 0) (setting_of problem.now model.now.atoms) formula.now
+        vars patterns.items) }
     ensures few { IfOk result (λ patterns. AreFewGapShapes (setting_of problem.now model.now.atoms) formula.now vars) }
     ensures limited { IfGapLimit result (IsGapLimited (setting_of problem.now model.now.atoms) formula.now vars) }
 {
@@ -350,8 +366,8 @@ pub fn gap_patterns(
 }
 
 // Alike: `gap_patterns`, of which this leaves out the terms; so its clauses but one are the same.
-/// Returns the patterns of [`gap_patterns`] without their terms: the atoms that are closed by gaps together, whatever the objects for the
-/// formula's variables. Equal ones are dropped now and then while they come; no clause says how much memory that saves.
+/// Returns patterns without terms of the atoms that gaps close together, whatever the objects for the formula's variables: those of
+/// [`gap_patterns`], where lists that close the same atoms are mostly one.
 ///
 /// # Errors
 /// `ShapeLimit` if at least as many shapes of unfinished lists exist as the problem allows, and `NoMemory`.

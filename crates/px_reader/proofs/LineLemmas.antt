@@ -1,5 +1,5 @@
 -- Lines without what ends them, and what reading a line shows.
-use Rattle.px_reader.proofs.Common.{AllByRecursion, IsNameLexeme, all_scalars, spelling, subst, ◌≡◌, ◌≢◌, ℕ, ◌+◌, ◌-◌, ◌<◌, Bool, true, List, [], ◌∷◌, ◌++◌, take, drop, length, get_or, refl, sym, ap, ◌∙◌, inl, inr, arith, Option, None, Some, Result, Ok, Err, IfOk, slice_index, ◌==◌, bytes_eq, eqb-true, take-append-drop, take_more, take_all, bytes_eq-Decides, Lexeme, Lexes, mark, without_mark, without_return, Statement, Line, line_of, Forms, begins_with_word, is_formed, Declared, coded, Stage, Fails, parse-sound, parse-complete, by_test, parse, HasFault, LineEnds, HasCharAt, after_line, MatchOption}
+use Rattle.px_reader.proofs.Common.{AllByRecursion, IsNameLexeme, all_scalars, spelling, subst, ◌≡◌, ◌≢◌, ℕ, ◌+◌, ◌-◌, ◌<◌, Bool, true, List, [], ◌∷◌, ◌++◌, take, drop, length, get_or, refl, sym, ap, ◌∙◌, inl, inr, arith, Option, None, Some, Result, Ok, Err, IfOk, IfSome, slice_index, ◌==◌, bytes_eq, eqb-true, take-append-drop, take_more, take_all, bytes_eq-Decides, Lexeme, Lexes, mark, without_mark, without_return, Statement, Line, line_of, Forms, begins_with_word, is_formed, Declared, coded, Stage, Fails, parse-complete, by_test, HasFault, LineEnds, HasCharAt, after_line, MatchOption}
 use Rattle.px_lines.proofs.Scans.{whole-lexed, not-lexed as not-lexed-text}
 use Rattle.px_lines.specs.Tokens.{is_whole, lexemes_in}
 use Rattle.px_script.proofs.Lexing.{Begins-same, Begins-not-ignored}
@@ -9,7 +9,7 @@ use Rattle.std.specs.Prelude.{encode_utf8, false}
 use Rattle.px_base.specs.declared.no_memory.NoMemory.{NoMemory}
 use Rattle.px_causes.specs.declared.line_fault.LineFault.{LineFault}
 use Rattle.std.specs.Option.{option_and_then}
-use Rattle.px_script.proofs.Forms.{there}
+use Rattle.px_lines.proofs.Walks.{some-same}
 use Rattle.px_script.proofs.ReadRows.{IsLineOf, formed-sound}
 use Rattle.px_script.proofs.Rows.{formed_line, statement_of}
 use Rattle.px_script.specs.Declarations.{has_building}
@@ -37,20 +37,29 @@ unreturned (b ∷ bs) none = by_test (slice_index (b ∷ bs) (length (b ∷ bs) 
     (λ e. absurd (none (take (length (b ∷ bs) - 1) (b ∷ bs))
     (last-of (b ∷ bs) (omega arith) ∙ ap (λ t. take (length (b ∷ bs) - 1) (b ∷ bs) ++ t ∷ []) (eqb-true _ 13 e)))) (λ e. rw e refl)
 
--- A line in its form was read of the lexemes, or none was, and the statement that it is.
+-- A line was read of the lexemes, which is that of a statement.
 module _ (d : Declared) (lexemes : List Lexeme) where
-  pub parsed : (b : Bool) (l : Line) (found : Option Statement) → has_building d ≡ b → Some l ≡ formed_line d lexemes
-      → found ≡ statement_of b l → found ≡ parse d lexemes
-  parsed b l found building is made = made ∙ ap (λ t. statement_of t l) (sym building)
-      ∙ ap (option_and_then (statement_of (has_building d))) is
+  -- the line of the statement that the lexemes are makes it again
+  statement-again : (s : Statement) → Forms d lexemes s → statement_of (has_building d) (line_of s) ≡ Some s
+  statement-again s forms = by_line (formed_line d lexemes) (formed-sound d lexemes) (parse-complete d lexemes s forms)
+    where
+      by_line : (o : Option Line) → IfSome o (λ l. IsLineOf (has_building d) lexemes l × (is_formed d l ≡ true))
+          → option_and_then (statement_of (has_building d)) o ≡ Some s → statement_of (has_building d) (line_of s) ≡ Some s
+      by_line None sound parsed = cc
+      by_line (Some l) sound parsed = subst (λ t. statement_of (has_building d) t ≡ Some s) (sym (sound.0.1 s parsed)) parsed
 
-  pub unparsed : None ≡ formed_line d lexemes → None ≡ parse d lexemes
-  unparsed is = ap (option_and_then (statement_of (has_building d))) is
+  module _ (b : Bool) (building : has_building d ≡ b) (l : Line) (read : (s : Statement) × Forms d lexemes s × (l ≡ line_of s)) where
+    made : statement_of b l ≡ Some read.0
+    made = ap (λ t. statement_of t l) (sym building) ∙ ap (statement_of (has_building d)) read.2 ∙ statement-again read.0 read.1
 
-  -- the line is the statement's
-  pub same-line : (l : Line) (s : Statement) → Some l ≡ formed_line d lexemes → Some s ≡ statement_of (has_building d) l → line_of s ≡ l
-  same-line l s is made = (there (λ l. IsLineOf (has_building d) lexemes l × (is_formed d l ≡ true)) (formed_line d lexemes) l
-      (formed-sound d lexemes) (sym is)).0.1 s (sym made)
+    -- what is made of the line is the statement, and the line is the statement's
+    pub is-statement : (s : Statement) → Some s ≡ statement_of b l → Forms d lexemes s × (line_of s ≡ l)
+    is-statement s is = let same : s ≡ read.0 = some-same s read.0 (is ∙ made) in
+        (subst (Forms d lexemes) (sym same) read.1, ap line_of same ∙ sym read.2)
+
+    -- and something is made of it
+    pub is-made : {A : Type 0} → None ≡ statement_of b l → A
+    is-made is = let e = is ∙ made in cc
 
 -- whether a line begins with a word is told by its first lexeme
 pub same-word : (d : Declared) (first : Lexeme) (others : List Lexeme) → begins_with_word d (first ∷ []) ≡ true
@@ -62,28 +71,22 @@ same-word d (sign s) others is = cc
 
 -- A line has these lexemes, which the parser was given.
 module _ (stage : Stage) (d : Declared) (line : List ℕ) where
-  form : (lexemes : List Lexeme) (s : Statement) → Some s ≡ parse d lexemes → Forms d lexemes s
-  form lexemes s e = parse-sound d lexemes s (sym e)
-
-  pub formed : (lexemes : List Lexeme) (s : Statement) → Some s ≡ parse d lexemes → is_formed d (line_of s) ≡ true
-  formed lexemes s e = (form lexemes s e).1
-
-  pub named : (lexemes : List Lexeme) → Lexes line lexemes → all_scalars line ≡ true → (s : Statement) → Some s ≡ parse d lexemes
+  pub named : (lexemes : List Lexeme) → Lexes line lexemes → all_scalars line ≡ true → (s : Statement) → Forms d lexemes s
       → AllByRecursion IsNameLexeme (spelling s)
-  named lexemes lexes scalars s e = subst (AllByRecursion IsNameLexeme) (form lexemes s e).0 (lexemes-named lexemes line scalars lexes)
+  named lexemes lexes scalars s forms = subst (AllByRecursion IsNameLexeme) forms.0 (lexemes-named lexemes line scalars lexes)
 
-  pub ends-read : (n : ℕ) (after : Declared) (lexemes : List Lexeme) → Lexes line lexemes → (s : Statement) → Some s ≡ parse d lexemes
+  pub ends-read : (n : ℕ) (after : Declared) (lexemes : List Lexeme) → Lexes line lexemes → (s : Statement) → Forms d lexemes s
       → (r : Result (Option LineFault) NoMemory) → IfOk r (HasFault stage d s)
       → IfOk r (λ fault. MatchOption fault (after ≡ after_line n d s) (λ _. Unit {0})) → IfOk r (LineEnds stage n d line after)
-  ends-read n after [] lexes s e r fault declared = cc
-  ends-read n after (x ∷ xs) lexes s e (Ok None) fault declared = (x ∷ xs, lexes, (s, form (x ∷ xs) s e, fault, declared))
-  ends-read n after (x ∷ xs) lexes s e (Ok (Some f)) fault declared = inr (x ∷ xs, lexes, inr (inr (s, form (x ∷ xs) s e, fault)))
-  ends-read n after (x ∷ xs) lexes s e (Err none) fault declared = tt
+  ends-read n after [] lexes s forms r fault declared = let no = forms.0 in cc
+  ends-read n after (x ∷ xs) lexes s forms (Ok None) fault declared = (x ∷ xs, lexes, (s, forms, fault, declared))
+  ends-read n after (x ∷ xs) lexes s forms (Ok (Some f)) fault declared = inr (x ∷ xs, lexes, inr (inr (s, forms, fault)))
+  ends-read n after (x ∷ xs) lexes s forms (Err none) fault declared = tt
 
-  pub fails-form : (lexemes : List Lexeme) → Lexes line lexemes → begins_with_word d lexemes ≡ true → None ≡ parse d lexemes
-      → Fails stage d line (coded 2)
-  fails-form [] lexes word e = cc
-  fails-form (x ∷ xs) lexes word e = inr (x ∷ xs, lexes, inr (inl (word, λ s forms. let p = parse-complete d (x ∷ xs) s forms in cc, refl)))
+  pub fails-form : (lexemes : List Lexeme) → Lexes line lexemes → begins_with_word d lexemes ≡ true
+      → ((s : Statement) → ¬ Forms d lexemes s) → Fails stage d line (coded 2)
+  fails-form [] lexes word none = cc
+  fails-form (x ∷ xs) lexes word none = inr (x ∷ xs, lexes, inr (inl (word, none, refl)))
 
   -- the first lexeme of the line, and the characters that follow it
   module _ (first : Lexeme) (rest : List ℕ) (begins : Begins line first rest) where
@@ -100,7 +103,8 @@ module _ (stage : Stage) (d : Declared) (line : List ℕ) where
 
   -- no line in its form is read of what follows, whose characters are lexemes or not
   pub fails-unread : (first : Lexeme) (text : List ℕ) → Begins line first (chars text) → begins_with_word d (first ∷ []) ≡ true
-      → ((others : List Lexeme) → Lexes (chars text) others → None ≡ parse d (first ∷ others)) → Fails stage d line (coded 2)
+      → ((others : List Lexeme) → Lexes (chars text) others → (s : Statement) → ¬ Forms d (first ∷ others) s)
+      → Fails stage d line (coded 2)
   fails-unread first text begins word none = by_test (is_whole text)
       (λ whole. let is = whole-lexed text whole in
       fails-form (first ∷ lexemes_in text) (chars text, begins, is) (same-word d first (lexemes_in text) word) (none (lexemes_in text) is))

@@ -8,46 +8,40 @@ use Rattle.px_question.specs.Settings.{setting_of}
 use Rattle.px_terms.specs.declared.atom.Atom.{Atom}
 use Rattle.px_gaps.specs.Closings.{IsMissingIn}
 use Rattle.px_gaps.specs.Described.{IsPlainPattern}
-use Rattle.px_gaps.proofs.ClosingLemmas.{kept-missing, kept-plain}
-use Rattle.px_gaps.proofs.Describing.{patterns-plain, provable-ground}
+use Rattle.px_gaps.proofs.Describing.{closings-ground, closings-plain}
 use Rattle.px_gaps.proofs.GapLemmas.{missing-is_gap, not_limited}
 use Rattle.px_gaps.proofs.differences.gaps.Goals as goal
 
 pub missing_by-requires-clause-patterns : goal.missing_by-requires-clause-patterns
 missing_by-requires-clause-patterns c =
     subst (All (IsPlainPattern c.args.problem.now.objects)) (sym c.deref.ensures.value)
-    (kept-plain c.in_ok-answer.ensures.answer.0 c.in_ok-answer.answer.patterns.items c.in_ok-answer.ensures.answer.2
-    c.args.problem.now.objects
-    (patterns-plain c.args.problem.now c.requires.problem c.args.model.now.atoms c.args.formula.now c.args.vars c.requires.formula
-    c.in_ok-answer.ensures.answer.0 c.in_ok-answer.ensures.answer.1.all))
+    (closings-plain c.args.problem.now c.requires.problem c.args.model.now.atoms c.args.formula.now c.args.vars c.requires.formula
+    c.in_ok-answer.answer.patterns.items c.in_ok-answer.ensures.answer.all)
 
 pub missing_by-requires-clause-provable : goal.missing_by-requires-clause-provable
 missing_by-requires-clause-provable c =
-    provable-ground c.args.problem.now c.requires.problem c.args.model.now.atoms c.args.formula.now c.args.vars c.requires.formula
-    c.in_ok-answer.ensures.answer.0 c.in_ok-answer.answer.provable.atoms c.in_ok-answer.ensures.answer.1
+    closings-ground c.args.problem.now c.requires.problem c.args.model.now.atoms c.args.formula.now c.args.vars c.requires.formula
+    c.in_ok-answer.answer.patterns.items c.in_ok-answer.ensures.answer.all c.in_ok-answer.answer.provable.atoms c.in_ok-answer.ensures.answer
 
 pub returns-clause-exact : goal.returns-clause-exact
 returns-clause-exact c = λ atom.
     let s = setting_of c.args.problem.now c.args.model.now.atoms in
     let provable = c.in_ok-answer.answer.provable.atoms in
     let is =
-    missing-is_gap s c.args.formula.now c.args.vars c.in_ok-answer.ensures.answer.0 provable c.in_ok-answer.ensures.answer.1
+    missing-is_gap s c.args.formula.now c.args.vars c.in_ok-answer.answer.patterns.items provable c.in_ok-answer.ensures.answer
     c.requires.no_answer atom in
     let missing =
     subst (λ (ps : List GapPattern). Contains c.in_ok-missing.missing.atoms atom
     ↔ IsMissingIn (lists_of c.args.problem.now.objects ps) provable atom) c.deref.ensures.value (c.in_ok-missing.ensures atom) in
-    let kept =
-    kept-missing c.in_ok-answer.ensures.answer.0 c.in_ok-answer.answer.patterns.items c.in_ok-answer.ensures.answer.2
-    c.args.problem.now.objects provable atom in
     let same : c.into_vec.result.items ≡ c.in_ok-missing.missing.atoms =
     c.into_vec.ensures ∙ c.in_ok-from_slice.ensures ∙ c.atoms.ensures.value in
     subst (λ (l : List Atom). Contains l atom ↔ IsGapOf s c.args.formula.now c.args.vars atom) (sym same)
-    (λ h. is.0 (kept.0 (missing.0 h)), λ g. missing.1 (kept.1 (is.1 g)))
+    (λ h. is.0 (missing.0 h), λ g. missing.1 (is.1 g))
 
 pub returns-clause-unlimited : goal.returns-clause-unlimited
 returns-clause-unlimited c =
-    not_limited (setting_of c.args.problem.now c.args.model.now.atoms) c.args.formula.now c.args.vars c.in_ok-answer.ensures.answer.0
-    c.in_ok-answer.answer.provable.atoms c.in_ok-answer.ensures.answer.1
+    not_limited (setting_of c.args.problem.now c.args.model.now.atoms) c.args.formula.now c.args.vars c.in_ok-answer.answer.patterns.items
+    c.in_ok-answer.answer.provable.atoms c.in_ok-answer.ensures.answer
 
 pub returns-clause-below : goal.returns-clause-below
 returns-clause-below c =

@@ -5,45 +5,35 @@ use Rattle.px_question.specs.Gaps.{MeetsGapLimit}
 use Rattle.px_question.specs.Settings.{setting_of}
 use Rattle.px_gaps.specs.Forms.{IsStoodFor}
 use Rattle.px_gaps.specs.Provable.{LimitsOne}
-use Rattle.px_gaps.proofs.ClosingLemmas.{AreForms, kept-forms}
-use Rattle.px_gaps.proofs.Describing.{answer-of, forms-are, limit-of}
+use Rattle.px_gaps.proofs.Describing.{AreForms, closings-answer, closings-forms, closings-limit}
 use Rattle.px_gaps.proofs.Limits.{limit_weaker}
 use Rattle.px_gaps.proofs.gap_answer.ask_closings.Goals as goal
 
 pub provable_of-requires-clause-forms : goal.provable_of-requires-clause-forms
 provable_of-requires-clause-forms c =
-    let whole = c.in_ok-patterns.ensures.closings in
-    let are : AreForms whole.0 c.deref-2.result.now =
-    kept-forms whole.0 c.in_ok-patterns.patterns.items whole.2 c.deref-2.result.now
-    (subst (AreForms c.in_ok-patterns.patterns.items) (sym c.deref-2.ensures.value)
-    (subst (λ (ps : List GapPattern). AreForms ps c.in_ok-forms.forms.items) c.deref.ensures.value c.in_ok-forms.ensures)) in
-    forms-are c.args.problem.now c.requires.problem c.args.model.now.atoms c.args.formula.now c.args.vars c.requires.formula
-    whole.0 whole.1 c.deref-2.result.now are
+    let are : AreForms c.in_ok-patterns.patterns.items c.deref-2.result.now =
+    subst (AreForms c.in_ok-patterns.patterns.items) (sym c.deref-2.ensures.value)
+    (subst (λ (ps : List GapPattern). AreForms ps c.in_ok-forms.forms.items) c.deref.ensures.value c.in_ok-forms.ensures) in
+    closings-forms c.args.problem.now c.requires.problem c.args.model.now.atoms c.args.formula.now c.args.vars c.requires.formula
+    c.in_ok-patterns.patterns.items c.in_ok-patterns.ensures.closings c.deref-2.result.now are
 
 pub returns-in_err-provable-clause-limited : goal.returns-in_err-provable-clause-limited
 returns-in_err-provable-clause-limited c =
     let s = setting_of c.args.problem.now c.args.model.now.atoms in
-    let whole = c.in_ok-patterns.ensures.closings in
-    let are : AreForms whole.0 c.deref-2.result.now =
-    kept-forms whole.0 c.in_ok-patterns.patterns.items whole.2 c.deref-2.result.now
-    (subst (AreForms c.in_ok-patterns.patterns.items) (sym c.deref-2.ensures.value)
-    (subst (λ (ps : List GapPattern). AreForms ps c.in_ok-forms.forms.items) c.deref.ensures.value c.in_ok-forms.ensures)) in
+    let are : AreForms c.in_ok-patterns.patterns.items c.deref-2.result.now =
+    subst (AreForms c.in_ok-patterns.patterns.items) (sym c.deref-2.ensures.value)
+    (subst (λ (ps : List GapPattern). AreForms ps c.in_ok-forms.forms.items) c.deref.ensures.value c.in_ok-forms.ensures) in
     let p = err_from_is_err_and c.from_residual-in_err-provable.result c.from_residual-in_err-provable.ensures.1 in
     rw (p.1, p.2) (limit_weaker (LimitsOne s (IsStoodFor c.args.problem.now.objects c.deref-2.result.now))
     (MeetsGapLimit s c.args.formula.now c.args.vars) _
-    (limit-of c.args.problem.now c.requires.problem c.args.model.now.atoms c.args.formula.now c.args.vars c.requires.formula
-    whole.0 whole.1 c.deref-2.result.now are) c.in_err-provable.ensures.limited)
+    (closings-limit c.args.problem.now c.requires.problem c.args.model.now.atoms c.args.formula.now c.args.vars c.requires.formula
+    c.in_ok-patterns.patterns.items c.in_ok-patterns.ensures.closings c.deref-2.result.now are) c.in_err-provable.ensures.limited)
 
 pub returns-clause-answer : goal.returns-clause-answer
 returns-clause-answer c =
-    let whole = c.in_ok-patterns.ensures.closings in
-    let are : AreForms whole.0 c.deref-2.result.now =
-    kept-forms whole.0 c.in_ok-patterns.patterns.items whole.2 c.deref-2.result.now
-    (subst (AreForms c.in_ok-patterns.patterns.items) (sym c.deref-2.ensures.value)
-    (subst (λ (ps : List GapPattern). AreForms ps c.in_ok-forms.forms.items) c.deref.ensures.value c.in_ok-forms.ensures)) in (
-      whole.0,
-      answer-of c.args.problem.now c.requires.problem c.args.model.now.atoms c.args.formula.now c.args.vars c.requires.formula
-          whole.0 whole.1 c.deref-2.result.now are c.in_ok-patterns.ensures.few
-          c.in_ok-provable.provable.atoms c.in_ok-provable.ensures.found,
-      whole.2,
-    )
+    let are : AreForms c.in_ok-patterns.patterns.items c.deref-2.result.now =
+    subst (AreForms c.in_ok-patterns.patterns.items) (sym c.deref-2.ensures.value)
+    (subst (λ (ps : List GapPattern). AreForms ps c.in_ok-forms.forms.items) c.deref.ensures.value c.in_ok-forms.ensures) in
+    closings-answer c.args.problem.now c.requires.problem c.args.model.now.atoms c.args.formula.now c.args.vars c.requires.formula
+    c.in_ok-patterns.patterns.items c.in_ok-patterns.ensures.closings c.deref-2.result.now are c.in_ok-patterns.ensures.few
+    c.in_ok-provable.provable.atoms c.in_ok-provable.ensures.found

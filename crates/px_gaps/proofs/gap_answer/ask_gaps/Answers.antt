@@ -1,20 +1,13 @@
-use Rattle.std.proofs.Common.{◌≡◌, List, sym, subst}
-use Rattle.std.specs.Prelude.{◌↔◌, Contains}
+use Rattle.std.proofs.Common.{List, sym, subst}
 use Rattle.std.proofs.lemmas.Result.{err_from_is_err_and}
 use Rattle.px_prover.specs.declared.pattern.GapPattern.{GapPattern}
 use Rattle.px_question.specs.Gaps.{MeetsGapLimit}
 use Rattle.px_question.specs.Settings.{setting_of}
-use Rattle.px_terms.specs.declared.atom.Atom.{Atom}
-use Rattle.px_gaps.specs.Closings.{OneOf}
-use Rattle.px_gaps.specs.Forms.{IsStoodFor, form_by}
+use Rattle.px_gaps.specs.Forms.{IsStoodFor}
 use Rattle.px_gaps.specs.Provable.{LimitsOne}
-use Rattle.px_gaps.proofs.Describing.{answer-of, forms-are, limit-of}
+use Rattle.px_gaps.proofs.Describing.{AreForms, answer-of, forms-are, limit-of}
 use Rattle.px_gaps.proofs.Limits.{limit_weaker}
 use Rattle.px_gaps.proofs.gap_answer.ask_gaps.Goals as goal
-
-abbrev AreForms : List GapPattern → List Atom → Type 0
-AreForms patterns forms =
-    (form : Atom) → Contains forms form ↔ OneOf patterns (λ (pattern : GapPattern). OneOf pattern.atoms (λ atom. form_by atom ≡ form))
 
 pub provable_of-requires-clause-forms : goal.provable_of-requires-clause-forms
 provable_of-requires-clause-forms c =

@@ -3,8 +3,9 @@ use Rattle.px_proof.specs.declared.shape.Tick.{Tick}
 use Rattle.px_prover.proofs.Beginnings.{all-within, begins-possible, begins-standing}
 use Rattle.px_prover.proofs.GapDeciding.{decided-few_gaps, decided-gap_limit}
 use Rattle.px_prover.proofs.PatternDeciding.{decided-patterns}
-use Rattle.px_prover.proofs.Keeping.{kept-same}
+use Rattle.px_prover.proofs.PatternOrder.{patterns-same}
 use Rattle.px_prover.specs.GapAsking.{gap_setting}
+use Rattle.px_prover.specs.Patterns.{terms_in}
 use Rattle.px_proof_walk.specs.Possible.{IsGoingOn}
 use Rattle.px_proof_walk.specs.Search.{LimitComes}
 use Rattle.px_prover.proofs.patterns.gathered.Goals as goal
@@ -24,12 +25,11 @@ returns-in-Ok-None-clause-patterns c =
     let s = gap_setting c.args.question.now in
     let formula = c.args.question.now.formula.now in
     let vars = c.args.question.now.vars in
-    let h = rw c.in-Ok-None.field-0-is at c.in-Ok-None.ensures.all in (
-      h.2.0,
-      decided-patterns s formula vars c.requires.asked.proper c.requires.asked.some_atom h.0 h.2.0
-          (all-within s formula vars c.requires.asked.proper c.args.limit h.0 c.requires.within h.1) h.2.1,
-      kept-same c.args.question.now.with_terms h.2.0 c.walk_to_end.new.gather.found.items c.unite.new.patterns.items h.2.2 c.unite.ensures,
-    )
+    let h = rw c.in-Ok-None.field-0-is at c.in-Ok-None.ensures.all in
+    let kept = terms_in c.args.question.now in
+    patterns-same c.walk_to_end.new.gather.found.items c.unite.new.patterns.items c.unite.ensures kept s formula vars
+    (decided-patterns kept s formula vars c.requires.asked.proper c.requires.asked.some_atom h.0 c.walk_to_end.new.gather.found.items
+    (all-within s formula vars c.requires.asked.proper c.args.limit h.0 c.requires.within h.1) h.2)
 
 pub returns-in-Ok-None-clause-few : goal.returns-in-Ok-None-clause-few
 returns-in-Ok-None-clause-few c =

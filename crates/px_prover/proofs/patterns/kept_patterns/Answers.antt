@@ -1,12 +1,12 @@
 use Rattle.std.proofs.Common.{◌∷◌, ◌++◌, ◌≡◌, ◌∙◌, ◌≤◌, ◌<◌, ap, arith, refl, sym, [], subst, List, ℕ, length}
-use Rattle.std.specs.Prelude.{All}
+use Rattle.std.specs.Prelude.{All, cond}
 use Rattle.px_prover.specs.Limits.{most_gap_variables}
 use Rattle.px_ops.specs.Models.{IsModel}
 use Rattle.px_prover.specs.Standing.{IsProperQuestion}
 use Rattle.px_prover.proofs.Answering.{asked-of}
 use Rattle.px_prover.proofs.GapDeciding.{decided-without_few, empty-test, filled-test}
 use Rattle.px_prover.proofs.PatternDeciding.{decided-one}
-use Rattle.px_prover.proofs.Keeping.{kept-more, kept-none, kept-whole, pushed, whole_of}
+use Rattle.px_prover.proofs.Keeping.{few-kept}
 use Rattle.px_prover.specs.Patterns.{AreKeptPatterns}
 use Rattle.px_terms.specs.Substitution.{variables_from}
 use Rattle.px_prover.specs.declared.pattern.GapPattern.{GapPattern}
@@ -31,20 +31,14 @@ returns-in-Ok-push-clause-patterns c =
     c.requires.some_object in
     let empty : length c.args.formula.now ≡ 0 = empty-test c.args.formula.now c.is_empty.result c.is_empty.ensures c.if-is_empty.true in
     let s = setting_of c.args.problem.now c.atoms-facts.result.now in
-    let pattern = c.in-Ok.pattern in
-    let whole = whole_of (variables_from 0 c.args.vars) pattern in
-    let made : c.push.new.items.items ≡ pattern ∷ [] =
-    c.in-Ok-push.ensures.ok ∙ ap (λ (xs : List GapPattern). xs ++ pattern ∷ []) c.new-found.ensures.items in
-    subst (λ (xs : List Atom). AreKeptPatterns c.args.with_terms (setting_of c.args.problem.now xs) c.args.formula.now c.args.vars
-    c.push.new.items.items) c.atoms-facts.ensures.value (
-      whole ∷ [],
-      decided-one s c.args.formula.now c.args.vars asked empty whole (whole ∷ []) c.in-Ok.ensures.vars_are refl c.in-Ok.ensures.atoms_are
-          refl,
-      kept-more c.args.with_terms [] [] c.push.new.items.items whole pattern (kept-none c.args.with_terms)
-          (kept-whole c.args.with_terms c.args.vars c.kept_terms.result (variables_from 0) pattern c.kept_terms.ensures refl
-          c.in-Ok.ensures.terms_are)
-          (pushed [] c.push.new.items.items pattern made),
-    )
+    let kept = cond c.args.with_terms c.args.vars 0 in
+    let made : c.push.new.items.items ≡ c.in-Ok.pattern ∷ [] =
+    c.in-Ok-push.ensures.ok ∙ ap (λ (xs : List GapPattern). xs ++ c.in-Ok.pattern ∷ []) c.new-found.ensures.items in
+    subst (λ (xs : List Atom). AreKeptPatterns kept (setting_of c.args.problem.now xs) c.args.formula.now c.args.vars c.push.new.items.items)
+    c.atoms-facts.ensures.value
+    (decided-one kept s c.args.formula.now c.args.vars asked (few-kept c.args.with_terms c.args.vars) empty c.in-Ok.pattern
+    c.push.new.items.items c.in-Ok.ensures.vars_are (c.in-Ok.ensures.terms_are ∙ ap (variables_from 0) c.kept_terms.ensures)
+    c.in-Ok.ensures.atoms_are made)
 
 pub returns-in-Ok-push-clause-few : goal.returns-in-Ok-push-clause-few
 returns-in-Ok-push-clause-few c =
