@@ -1,42 +1,31 @@
 -- What an operator's instance changes in a model decides what it leaves.
 use Rattle.std.proofs.Common.{◌≡◌, ◌∙◌, ◌++◌, ℕ, Bool, List, [], ◌∷◌, map, refl, ap, sym, subst}
-use Rattle.std.specs.Prelude.{◌||◌, All, not, slice_get, Some}
+use Rattle.std.specs.Prelude.{◌||◌, not, slice_get, Some}
 use Rattle.std.specs.List.{filter, list_any}
 use Rattle.px_terms.specs.AtomSets.{atom_set}
 use Rattle.px_terms.specs.Instances.{is_instance}
-use Rattle.px_terms.specs.Language.{IsPlainBelow, IsVariableBelow}
 use Rattle.px_terms.specs.Operators.{adds, atoms_of, results_of, schema_of}
 use Rattle.px_terms.specs.Substitution.{substitute_atom}
 use Rattle.px_terms.specs.declared.atom.Atom.{Atom}
 use Rattle.px_terms.specs.declared.instance.OpInst.{OpInst}
 use Rattle.px_terms.specs.declared.problem.Problem.{Problem}
-use Rattle.px_terms.specs.declared.term.Term.{Term}
-use Rattle.px_terms.specs.declared.term.Term.TheVariants.{Obj, Var, Any}
 use Rattle.px_table.specs.declared.entry.Entry.{Entry}
 use Rattle.px_table.specs.declared.entry.Entry.TheVariants.{Op}
 use Rattle.px_entries.specs.Entries.{effect_of}
 use Rattle.px_numbers.specs.Numbers.{Kept, IsModelAt, KeepsAll}
 use Rattle.px_numbers.specs.NumberLaws.{one_at, one_model}
 use Rattle.px_ends.specs.Tasks.{Task}
-use Rattle.px_search.specs.Notes.{IsAlterationAt, IsAlterationOf, IsAlteredAt, IsEntryAt, IsResultAt, model_altered}
-use Rattle.px_search.specs.declared.notes.Alteration.{Alteration}
-use Rattle.px_search.specs.declared.notes.EntryPlace.{EntryPlace}
-
-plain_variable : (n : ℕ) (t : Term) → IsPlainBelow n t → IsVariableBelow n t
-plain_variable n (Obj o) h = tt
-plain_variable n (Var v) h = h
-plain_variable n Any h = tt
-
-pub plain-variables : (n : ℕ) (atoms : List Atom) → All (λ (atom : Atom). All (IsPlainBelow n) atom.args) atoms
-    → All (λ (atom : Atom). All (IsVariableBelow n) atom.args) atoms
-plain-variables n atoms all k atom below j term within = plain_variable n _ (all k atom below j term within)
+use Rattle.px_search.specs.Cache.{IsAlterationAt, IsAlterationOf, IsAlteredAt, IsEntryAt, IsResultAt, model_altered}
+use Rattle.px_search.specs.declared.cache.Alteration.{Alteration}
+use Rattle.px_search.specs.declared.cache.EntryPlace.{EntryPlace}
 
 any-mapped : (test : Atom → Bool) (f : Atom → Atom) (atoms : List Atom) → list_any test (map f atoms) ≡ list_any (λ x. test (f x)) atoms
 any-mapped test f [] = refl
 any-mapped test f (x ∷ xs) = ap (λ b. test (f x) || b) (any-mapped test f xs)
 
 -- the model that the instance leaves is the one that is altered so
-pub altered-by : (problem : Problem) (inst : OpInst) (facts deleted added : List Atom) → deleted ≡ atoms_of (schema_of problem inst).del inst
+pub altered-by : (problem : Problem) (inst : OpInst) (facts deleted added : List Atom) → deleted ≡ atoms_of (schema_of problem inst).del
+    inst
     → added ≡ adds problem inst → results_of problem facts (inst ∷ []) ≡ model_altered deleted added facts
 altered-by problem inst facts deleted added deleted_is added_is =
     let patterns = (schema_of problem inst).del in

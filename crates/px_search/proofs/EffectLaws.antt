@@ -11,11 +11,8 @@ use Rattle.px_entries.specs.Learned.{AreLearned}
 use Rattle.px_terms.specs.declared.atom.Atom.{Atom}
 use Rattle.px_terms.specs.declared.instance.OpInst.{OpInst}
 use Rattle.px_terms.specs.declared.problem.Problem.{Problem}
-use Rattle.px_terms.specs.declared.term.Term.{Term}
-use Rattle.px_terms.specs.declared.term.Term.TheVariants.{Obj, Var, Any}
-use Rattle.px_terms.specs.Language.{IsVariableBelow}
 use Rattle.px_terms.specs.Operators.{result_of, results_of}
-use Rattle.px_terms.specs.Validity.{IsTermOf, IsGroundInstanceOf}
+use Rattle.px_terms.specs.Validity.{IsGroundInstanceOf}
 use Rattle.px_table.specs.declared.entry.Entry.{Entry}
 use Rattle.px_table.specs.declared.entry.Entry.TheVariants.{Op, Macro}
 use Rattle.px_table.specs.declared.table.Table.{Table}
@@ -23,14 +20,6 @@ use Rattle.px_table.specs.Kernels.{instance_under, steps_under}
 use Rattle.px_table.specs.Tables.{IsStepOf, IsTable, empty_table}
 use Rattle.px_terms.specs.ValidityLaws.{instance-is_ground}
 use Rattle.px_table.specs.UnderLaws.{step_under-objects}
-
-variable-of : (problem : Problem) (params : ℕ) (t : Term) → IsTermOf problem params t → IsVariableBelow params t
-variable-of problem params (Obj n) h = tt
-variable-of problem params (Var v) h = h
-variable-of problem params Any h = tt
-
-pub variables-of : (problem : Problem) (params : ℕ) (inst : OpInst) → IsStepOf problem params inst → All (IsVariableBelow params) inst.args
-variables-of problem params inst is k d below = variable-of problem params _ (is.terms k d below)
 
 pub ground-of : (problem : Problem) (sigma : List ℕ) (inst : OpInst) → IsStepOf problem (length sigma) inst
     → IsGroundInstanceOf problem (instance_under sigma inst)

@@ -22,8 +22,11 @@ take-get (suc n) (suc k) (y ∷ xs) x e h = take-get n k xs x e (omega arith)
 index_is : {A : Type 0} (xs : List A) (k : ℕ) (x d : A) → slice_get xs k ≡ Some x → slice_index_or xs k d ≡ x
 index_is xs k x d e = cc (at_index xs k d (place-within-list xs k x e), e)
 
-never_less : (m : Move) → ¬ (move_cmp m m ≡ Less)
+pub never_less : (m : Move) → ¬ (move_cmp m m ≡ Less)
 never_less m h = let e : Less ≡ Equal = sym h ∙ tied_itself move_cmp-total m in cc
+
+pub never_both : (m n : Move) → move_cmp m n ≡ Less → ¬ (move_cmp n m ≡ Less)
+never_both m n low high = never_less m (move_cmp-total.trans m n m low high)
 
 module _ (task : Task) (found : List (List Move)) (place : ℕ) (picked : List ℕ) (p : List Move)
     (at : slice_get found place ≡ Some p) (moves : List Move) (are : AreFirstOf task (node_of task p) moves) where
@@ -32,9 +35,6 @@ module _ (task : Task) (found : List (List Move)) (place : ℕ) (picked : List �
       let is = are.ordered k l a less (place-within-list moves l b at_b) in
       subst (λ (x : Move). move_cmp a x ≡ Less) (index_is moves l b a at_b)
       (subst (λ (x : Move). move_cmp x (slice_index_or moves l a) ≡ Less) (index_is moves k a a at_a) is)
-
-  both_less : (m n : Move) → move_cmp m n ≡ Less → ¬ (move_cmp n m ≡ Less)
-  both_less m n low high = never_less m (move_cmp-total.trans m n m low high)
 
   -- the move that isn't made yet leads to a node that isn't found: then it is the first such
   pub first_new : (i : ℕ) (m : Move) → IsMaking task found place picked (take i moves) → slice_get moves i ≡ Some m
@@ -45,7 +45,7 @@ module _ (task : Task) (found : List (List Move)) (place : ℕ) (picked : List �
     new = new;
     first = λ n can lower. elim (are.others n can) [
       | inl has ↦ made_before n lower (place_of moves n has)
-      | inr after_all ↦ absurd (both_less m n (after_all m (contains_place moves i m at_m)) lower)
+      | inr after_all ↦ absurd (never_both m n (after_all m (contains_place moves i m at_m)) lower)
     ];
   }
     where
@@ -54,7 +54,7 @@ module _ (task : Task) (found : List (List Move)) (place : ℕ) (picked : List �
       made_before n lower (k, at_k) = elim (place_order k i) [
         | inl less ↦ making.made p n at (contains_place (take i moves) k n (take-get i k moves n at_k less))
         | inr more ↦ elim (place_order i k) [
-          | inl above ↦ absurd (both_less m n (pair i k m n above at_m at_k) lower)
+          | inl above ↦ absurd (never_both m n (pair i k m n above at_m at_k) lower)
           | inr below ↦
               let number : k ≡ i = omega (arith, more, below) in
               let e : n ≡ m = cc (ap (slice_get moves) number, at_k, at_m) in

@@ -28,16 +28,16 @@ use Rattle.px_numbers.specs.Numbers.{Kept, IsKeyOf, IsModelAt, IsStackAt, IsTopO
 use Rattle.px_numbers.specs.NumberLaws.{one_at, one_model, one_stack, model_at-grows, stack_at-grows}
 use Rattle.px_ops.specs.KeepLaws.{place_within}
 use Rattle.px_ends.specs.Tasks.{Task, needs_at, needs_with, goal_from}
-use Rattle.px_search.specs.declared.notes.EntryPlace.{EntryPlace}
-use Rattle.px_search.specs.declared.notes.Offer.{Offer}
+use Rattle.px_search.specs.declared.cache.EntryPlace.{EntryPlace}
+use Rattle.px_search.specs.declared.cache.Offer.{Offer}
 use Rattle.px_search.specs.declared.step.Step.{Step}
 use Rattle.px_search.specs.declared.step.Step.TheVariants as step
 use Rattle.px_search.specs.Asking.{IsTriedAt}
-use Rattle.px_search.specs.Notes.{IsStepsAt, IsTopAt}
-use Rattle.px_search.specs.Going.{IsBegunOn, IsGoneOn}
+use Rattle.px_search.specs.Cache.{IsStepsAt, IsTopAt}
+use Rattle.px_search.specs.Going.{AreFirstSuccessors, IsGoneOn}
 use Rattle.px_search.specs.Steps.{AreStepsOf, unstruck}
-use Rattle.px_search.proofs.BeginningLaws.{all-begun}
-use Rattle.px_search.proofs.StruckLaws.{begun-struck}
+use Rattle.px_search.proofs.BeginningLaws.{all-successors}
+use Rattle.px_search.proofs.StruckLaws.{successors-struck}
 use Rattle.px_search.proofs.Stepping.{applicable-unlimited, applicable-moves, closed-unlimited, closed-moves, open-every, open-first, open-moves, open-unlimited}
 
 -- ---- the top of a stack
@@ -149,7 +149,7 @@ module _ (task : Task) where
     unlimited = open-unlimited task node gaps opens.exact opens.questions.unlimited unlimited;
   }
 
-  pub begun-open : (kept : Kept) (node : Node) (gaps : List Atom) (entries : List Entry) (steps : List Step) (is_all : Bool)
+  pub successors-open : (kept : Kept) (node : Node) (gaps : List Atom) (entries : List Entry) (steps : List Step) (is_all : Bool)
       → IsOpenWith task.problem (needs_at task node) gaps → IsStrictlySortedBy order_of_entries entries
       → ((entry : Entry) → Contains entries entry → IsPushable task.problem task.tables gaps node.stack node.model entry)
       → ((entry : Entry) → IsPushable task.problem task.tables gaps node.stack node.model entry
@@ -158,8 +158,8 @@ module _ (task : Task) where
       → ((entry : Entry) → IsRelevant task.problem task.tables gaps node.stack entry
       → AreUnlimited task.problem (obligations_of task.problem task.tables node.model entry))
       → AreStepsOf kept steps (map move.Push entries)
-      → IsBegunOn task kept node steps is_all
-  begun-open kept node gaps entries steps is_all opens sorted sound others every unlimited are = record {
+      → AreFirstSuccessors task kept node steps is_all
+  successors-open kept node gaps entries steps is_all opens sorted sound others every unlimited are = record {
     moves = map move.Push entries;
     are = open-first task node gaps opens.exact opens.not_applicable entries sorted sound others;
     every = λ all. open-every task node gaps opens.exact opens.not_applicable entries (every all);
@@ -169,7 +169,7 @@ module _ (task : Task) where
 
   -- ---- with an entry on top
 
-  module _ (kept : Kept) (place : EntryPlace) (below : ℕ) (model : List Atom) (stack : List Entry)
+  module _ {kept : Kept} {place : EntryPlace} {below : ℕ} {model : List Atom} {stack : List Entry}
       (t : IsTopAt kept place below model stack) where
     abbrev pub the_node : Node
     the_node = record { model = model; stack = stack }
@@ -193,41 +193,43 @@ module _ (task : Task) where
 
     -- the moves over the entry alone, where these don't depend on the stack
     pub alone-gone : (steps : List Step) (is_all : Bool) → IsGoneOn task kept (record { model = model; stack = t.entry ∷ [] }) steps
-        → IsBegunOn task kept (record { model = model; stack = take 1 stack }) steps is_all
+        → AreFirstSuccessors task kept (record { model = model; stack = take 1 stack }) steps is_all
     alone-gone steps is_all gone =
-        subst (λ (s : List Entry). IsBegunOn task kept (record { model = model; stack = s }) steps is_all) (sym first-top)
-        (all-begun task kept (record { model = model; stack = t.entry ∷ [] }) steps is_all gone)
+        subst (λ (s : List Entry). AreFirstSuccessors task kept (record { model = model; stack = s }) steps is_all) (sym first-top)
+        (all-successors task kept (record { model = model; stack = t.entry ∷ [] }) steps is_all gone)
 
     pub alone-applicable : (is_all : Bool) → IsKnownOf task.problem (needs_with task model stack) Applicable
-        → IsBegunOn task kept (record { model = model; stack = take 1 stack }) (step.Apply ∷ []) is_all
+        → AreFirstSuccessors task kept (record { model = model; stack = take 1 stack }) (step.Apply ∷ []) is_all
     alone-applicable is_all known =
         alone-gone (step.Apply ∷ []) is_all (gone-applicable kept (record { model = model; stack = t.entry ∷ [] }) (λ e. cc)
         (alone-top Applicable known))
 
     pub alone-closed : (is_all : Bool) → IsKnownOf task.problem (needs_with task model stack) Closed
-        → IsBegunOn task kept (record { model = model; stack = take 1 stack }) [] is_all
+        → AreFirstSuccessors task kept (record { model = model; stack = take 1 stack }) [] is_all
     alone-closed is_all known =
         alone-gone [] is_all (gone-closed kept (record { model = model; stack = t.entry ∷ [] }) (alone-top Closed known))
 
     -- where only pushes over the entry alone are known
-    pub begun-over : (steps left : List Step) (is_all : Bool)
-        → IsBegunOn task kept (record { model = model; stack = t.entry ∷ [] }) steps is_all
+    pub successors-over : (steps left : List Step) (is_all : Bool)
+        → AreFirstSuccessors task kept (record { model = model; stack = t.entry ∷ [] }) steps is_all
         → ((entries : List Entry) (moves : List Move) → IsStackAt kept below entries → AreStepsOf kept steps moves
-        → AreStepsOf kept left (unstruck entries moves)) → IsBegunOn task kept the_node left is_all
-    begun-over steps left is_all begun struck =
-        subst (λ (s : List Entry). IsBegunOn task kept (record { model = model; stack = s }) left is_all) (sym t.stack_is)
-        (begun-struck task model t.entry t.rest kept steps left is_all begun (struck t.rest begun.moves t.below_at begun.steps_are))
+        → AreStepsOf kept left (unstruck entries moves)) → AreFirstSuccessors task kept the_node left is_all
+    successors-over steps left is_all successors struck =
+        subst (λ (s : List Entry). AreFirstSuccessors task kept (record { model = model; stack = s }) left is_all) (sym t.stack_is)
+        (successors-struck task model t.entry t.rest kept steps left is_all successors
+        (struck t.rest successors.moves t.below_at successors.steps_are))
 
     -- what is kept for the place
-    pub begun-cached : (offer : Offer) (left : List Step) → IsStepsAt task kept place offer
+    pub successors-from-cache : (offer : Offer) (left : List Step) → IsStepsAt task kept place offer
         → ((entries : List Entry) (moves : List Move) → IsStackAt kept below entries → AreStepsOf kept offer.steps moves
-        → AreStepsOf kept left (unstruck entries moves)) → IsBegunOn task kept the_node left offer.is_all
-    begun-cached offer left (built, entry, built_at, entry_at, begun) struck =
+        → AreStepsOf kept left (unstruck entries moves)) → AreFirstSuccessors task kept the_node left offer.is_all
+    successors-from-cache offer left (built, entry, built_at, entry_at, successors) struck =
         let models : built ≡ model = one_model kept place.model built model built_at t.model_at in
         let entries : entry ≡ t.entry = one_at kept.entries place.entry entry t.entry entry_at t.entry_at in
-        begun-over offer.steps left offer.is_all
-        (subst (λ (e : Entry). IsBegunOn task kept (record { model = model; stack = e ∷ [] }) offer.steps offer.is_all) entries
-        (subst (λ (m : List Atom). IsBegunOn task kept (record { model = m; stack = entry ∷ [] }) offer.steps offer.is_all) models begun))
+        successors-over offer.steps left offer.is_all
+        (subst (λ (e : Entry). AreFirstSuccessors task kept (record { model = model; stack = e ∷ [] }) offer.steps offer.is_all) entries
+        (subst (λ (m : List Atom). AreFirstSuccessors task kept (record { model = m; stack = entry ∷ [] }) offer.steps offer.is_all)
+        models successors))
         struck
 
 -- the node of a pair, by the numbers of its model and of its top
@@ -268,7 +270,12 @@ pub record Read (task : Task) (kept : Kept) (key : NodeKey) (frame : Frame) (mod
   pub model_at : IsModelAt kept key.model model
   pub stack_is : stack ≡ node.stack
 
-module _ (task : Task) (kept : Kept) (key : NodeKey) (frame : Frame) (model : List Atom) (stack : List Entry)
+pub read-of : (task : Task) (kept : Kept) (key : NodeKey) (frame : Frame) (model : List Atom) (stack : List Entry)
+    (n : (node : Node) × IsKeyOf kept key node × All (IsEntry task.problem task.tables) node.stack × IsTopOf kept node.stack (Some frame))
+    → IsModelAt kept key.model model → stack ≡ n.0.stack → Read task kept key frame model stack
+read-of task kept key frame model stack n model_at is = record { node = n.0; stands = n.1; top = n.3; model_at = model_at; stack_is = is }
+
+module _ {task : Task} {kept : Kept} {key : NodeKey} {frame : Frame} {model : List Atom} {stack : List Entry}
     (r : Read task kept key frame model stack) where
   abbrev pub read-place : EntryPlace
   read-place = record { model = key.model; entry = frame.entry }
@@ -286,18 +293,17 @@ module _ (task : Task) (kept : Kept) (key : NodeKey) (frame : Frame) (model : Li
       → IsKnownOf task.problem (obligations_of task.problem task.tables model entry) given → given ≡ known
       → IsKnownOf task.problem (needs_with task model stack) known
   read-known entry known given at is same =
-      known-top task kept read-place frame.below model stack read-top entry known at
+      known-top task read-top entry known at
       (subst (IsKnownOf task.problem (obligations_of task.problem task.tables model entry)) same is)
 
 -- the first moves of the node with this frame on top, by what is kept for its place
-pub begun-found : (task : Task) (kept : Kept) (key : NodeKey) (frame : Frame) (offer : Offer) (left : List Step)
+pub successors-found : (task : Task) (kept : Kept) (key : NodeKey) (frame : Frame) (offer : Offer) (left : List Step)
     → IsStepsAt task kept (record { model = key.model; entry = frame.entry }) offer
     → ((entries : List Entry) (moves : List Move) → IsStackAt kept frame.below entries → AreStepsOf kept offer.steps moves
     → AreStepsOf kept left (unstruck entries moves))
     → (one : Node) → IsKeyOf kept key one → IsTopOf kept one.stack (Some frame) → (node : Node) → IsKeyOf kept key node
-    → IsBegunOn task kept node left offer.is_all
-begun-found task kept key frame offer left kept_steps struck one stands top node other =
-    of_node kept key (λ (n : Node). IsBegunOn task kept n left offer.is_all) node one.model one.stack other stands.model
+    → AreFirstSuccessors task kept node left offer.is_all
+successors-found task kept key frame offer left kept_steps struck one stands top node other =
+    of_node kept key (λ (n : Node). AreFirstSuccessors task kept n left offer.is_all) node one.model one.stack other stands.model
     (stack_of kept key one node one.stack stands other refl)
-    (begun-cached task kept (record { model = key.model; entry = frame.entry }) frame.below one.model one.stack
-    (top_at kept key.model frame one.model one.stack stands.model top) offer left kept_steps struck)
+    (successors-from-cache task (top_at kept key.model frame one.model one.stack stands.model top) offer left kept_steps struck)

@@ -28,7 +28,7 @@ use Rattle.px_search.specs.declared.picker.Picker.{Picker}
 use Rattle.px_search.specs.declared.step.Step.{Step}
 use Rattle.px_search.specs.declared.step.Origin.{Origin}
 use Rattle.px_search.specs.Asking.{IsTriedAt}
-use Rattle.px_search.specs.Going.{IsAskedAt, IsBegunOn, LimitsNode}
+use Rattle.px_search.specs.Going.{IsAskedAt, AreFirstSuccessors, LimitsNode}
 use Rattle.px_search.specs.Looping.{AreFoundBy, AreNumbered, AtPick, Between, Going, IsFull, IsLimitedAt, IsReached, IsSpent, Trying}
 use Rattle.px_search.specs.Picking.{AreWithin, IsOnward, IsPickerOf}
 use Rattle.px_search.specs.Searching.{IsBelowLimit, IsMaking, Searching, order_of}
@@ -246,9 +246,9 @@ module _ (task : Task) where
       record { found = b.found; between = b.between; is_next = is_next; numbered = b.numbered; picking = picking }
 
   -- no move from it is made yet
-  abbrev pub pick-going : (kept : Kept) (keys : List NodeKey) (origins : List Origin) (picker : Picker) (picked : List ℕ) (next : ℕ)
+  abbrev pub pick-going : {kept : Kept} {keys : List NodeKey} {origins : List Origin} {picker : Picker} {picked : List ℕ} {next : ℕ}
       → AtPick task kept keys origins picker picked next → Going task kept keys origins picker picked next []
-  pick-going kept keys origins picker picked next a = record {
+  pick-going {kept} {keys} {origins} {picker} {picked} {next} a = record {
     found = a.found;
     making = making_start task a.found picked a.between next a.is_next;
     numbered = a.numbered;
@@ -267,10 +267,10 @@ module _ (task : Task) where
 
   -- ---- at a node
 
-  abbrev pub going-grows : (old new : Kept) (keys : List NodeKey) (origins : List Origin) (picker : Picker) (picked : List ℕ) (next : ℕ)
-      (tried : List Move) → KeepsAll old new → Going task old keys origins picker picked next tried
+  abbrev pub going-grows : {old new : Kept} {keys : List NodeKey} {origins : List Origin} {picker : Picker} {picked : List ℕ} {next : ℕ}
+      {tried : List Move} → KeepsAll old new → Going task old keys origins picker picked next tried
       → Going task new keys origins picker picked next tried
-  going-grows old new keys origins picker picked next tried keeps g = record {
+  going-grows {old} {new} {keys} {origins} {picker} {picked} {next} {tried} keeps g = record {
     found = g.found;
     making = g.making;
     numbered = numbered-grows old new keys origins g.found keeps g.numbered;
@@ -278,10 +278,10 @@ module _ (task : Task) where
   }
 
   -- the node whose moves are to be made
-  pub here_of : (kept : Kept) (keys : List NodeKey) (origins : List Origin) (picker : Picker) (picked : List ℕ) (next : ℕ)
-      (tried : List Move) (key : NodeKey) → Going task kept keys origins picker picked next tried → slice_get keys next ≡ Some key
+  pub here_of : {kept : Kept} {keys : List NodeKey} {origins : List Origin} {picker : Picker} {picked : List ℕ} {next : ℕ}
+      {tried : List Move} {key : NodeKey} → Going task kept keys origins picker picked next tried → slice_get keys next ≡ Some key
       → IsAskedAt task kept key
-  here_of kept keys origins picker picked next tried key g at =
+  here_of {kept} {keys} {origins} {picker} {picked} {next} {tried} {key} g at =
       let here = list_of kept keys origins g.found g.numbered next key at in
       let has = contains_place g.found next here.0 here.1 in
       record {
@@ -291,61 +291,61 @@ module _ (task : Task) where
         tried = (λ solved. g.making.searching.unsolved here.0 has solved, λ empty. g.making.searching.tested here.0 has empty);
       }
 
-  pub trying-start : (old new : Kept) (keys : List NodeKey) (origins : List Origin) (picker : Picker) (picked : List ℕ) (next : ℕ)
-      (key : NodeKey) (steps : List Step) (is_all : Bool) → KeepsAll old new → Going task old keys origins picker picked next []
-      → slice_get keys next ≡ Some key → ((node : Node) → IsKeyOf old key node → IsBegunOn task new node steps is_all)
+  pub trying-start : {old new : Kept} {keys : List NodeKey} {origins : List Origin} {picker : Picker} {picked : List ℕ} {next : ℕ}
+      {key : NodeKey} (steps : List Step) (is_all : Bool) → KeepsAll old new → Going task old keys origins picker picked next []
+      → slice_get keys next ≡ Some key → ((node : Node) → IsKeyOf old key node → AreFirstSuccessors task new node steps is_all)
       → Trying task new keys origins picker picked next steps is_all 0
-  trying-start old new keys origins picker picked next key steps is_all keeps g at begun =
+  trying-start {old} {new} {keys} {origins} {picker} {picked} {next} {key} steps is_all keeps g at successors =
       let here = list_of old keys origins g.found g.numbered next key at in
       record {
         list = here.0;
-        begun = begun (goes here.0) here.2;
-        going = going-grows old new keys origins picker picked next [] keeps g;
+        successors = successors (goes here.0) here.2;
+        going = going-grows keeps g;
         list_at = here.1;
       }
 
-  abbrev pub trying-grows : (old new : Kept) (keys : List NodeKey) (origins : List Origin) (picker : Picker) (picked : List ℕ) (next : ℕ)
-      (steps : List Step) (is_all : Bool) (i : ℕ) → KeepsAll old new → Trying task old keys origins picker picked next steps is_all i
+  abbrev pub trying-grows : {old new : Kept} {keys : List NodeKey} {origins : List Origin} {picker : Picker} {picked : List ℕ} {next : ℕ}
+      {steps : List Step} {is_all : Bool} {i : ℕ} → KeepsAll old new → Trying task old keys origins picker picked next steps is_all i
       → Trying task new keys origins picker picked next steps is_all i
-  trying-grows old new keys origins picker picked next steps is_all i keeps t = record {
+  trying-grows {old} {new} {keys} {origins} {picker} {picked} {next} {steps} {is_all} {i} keeps t = record {
     list = t.list;
-    begun =
+    successors =
         record {
-          moves = t.begun.moves;
-          are = t.begun.are;
-          every = t.begun.every;
-          steps_are = steps-grow old new steps t.begun.moves keeps t.begun.steps_are;
-          unlimited = t.begun.unlimited;
+          moves = t.successors.moves;
+          are = t.successors.are;
+          every = t.successors.every;
+          steps_are = steps-grow old new steps t.successors.moves keeps t.successors.steps_are;
+          unlimited = t.successors.unlimited;
         };
-    going = going-grows old new keys origins picker picked next (take i t.begun.moves) keeps t.going;
+    going = going-grows keeps t.going;
     list_at = t.list_at;
   }
 
   -- the pair at the place is the node
-  pub same_here : (kept : Kept) (keys : List NodeKey) (origins : List Origin) (picker : Picker) (picked : List ℕ) (next : ℕ)
-      (steps : List Step) (is_all : Bool) (i : ℕ) (key : NodeKey) → (t : Trying task kept keys origins picker picked next steps is_all i)
+  pub same_here : {kept : Kept} {keys : List NodeKey} {origins : List Origin} {picker : Picker} {picked : List ℕ} {next : ℕ}
+      {steps : List Step} {is_all : Bool} {i : ℕ} {key : NodeKey} → (t : Trying task kept keys origins picker picked next steps is_all i)
       → slice_get keys next ≡ Some key → IsKeyOf kept key (goes t.list)
-  same_here kept keys origins picker picked next steps is_all i key t at =
+  same_here {kept} {keys} {origins} {picker} {picked} {next} {steps} {is_all} {i} {key} t at =
       key_is kept keys origins t.going.found t.going.numbered next key t.list at t.list_at
 
   -- the place is that of a node
-  pub trying-within : (kept : Kept) (keys : List NodeKey) (origins : List Origin) (picker : Picker) (picked : List ℕ) (next : ℕ)
-      (steps : List Step) (is_all : Bool) (i : ℕ) → Trying task kept keys origins picker picked next steps is_all i → next < length keys
-  trying-within kept keys origins picker picked next steps is_all i t =
+  pub trying-within : {kept : Kept} {keys : List NodeKey} {origins : List Origin} {picker : Picker} {picked : List ℕ} {next : ℕ}
+      {steps : List Step} {is_all : Bool} {i : ℕ} → Trying task kept keys origins picker picked next steps is_all i → next < length keys
+  trying-within {kept} {keys} {origins} {picker} {picked} {next} {steps} {is_all} {i} t =
       omega (arith, counted kept keys origins t.going.found t.going.numbered, place_within t.going.found next t.list t.list_at)
 
   -- there is room for more, or as many as may be kept
-  pub going-room : (kept : Kept) (keys : List NodeKey) (origins : List Origin) (picker : Picker) (picked : List ℕ) (next : ℕ)
-      (tried : List Move) → Going task kept keys origins picker picked next tried → length keys ≤ task.nodes
-  going-room kept keys origins picker picked next tried g =
+  pub going-room : {kept : Kept} {keys : List NodeKey} {origins : List Origin} {picker : Picker} {picked : List ℕ} {next : ℕ}
+      {tried : List Move} → Going task kept keys origins picker picked next tried → length keys ≤ task.nodes
+  going-room {kept} {keys} {origins} {picker} {picked} {next} {tried} g =
       omega (arith, counted kept keys origins g.found g.numbered, g.making.searching.room)
 
   -- a question of the node that was picked meets the limit
-  pub limit-here : (old new : Kept) (keys : List NodeKey) (origins : List Origin) (picker : Picker) (picked : List ℕ) (next : ℕ)
-      (key : NodeKey) (limit : MetLimit) → KeepsAll old new → AtPick task old keys origins picker picked next
+  pub limit-here : {old new : Kept} {keys : List NodeKey} {origins : List Origin} {picker : Picker} {picked : List ℕ} {next : ℕ}
+      {key : NodeKey} (limit : MetLimit) → KeepsAll old new → AtPick task old keys origins picker picked next
       → slice_get keys next ≡ Some key → ((node : Node) → IsKeyOf old key node → LimitsNode task node limit)
       → IsLimitedAt task new keys origins (record { key = key; met = limit })
-  limit-here old new keys origins picker picked next key limit keeps a at limits =
+  limit-here {old} {new} {keys} {origins} {picker} {picked} {next} {key} limit keeps a at limits =
       let here = list_of old keys origins a.found a.numbered next key at in
       let l = limits (goes here.0) here.2 in
       record {
@@ -358,25 +358,25 @@ module _ (task : Task) where
         stands = stands-grows old new key (goes here.0) keeps here.2;
       }
 
-  pub going-next : (kept : Kept) (keys : List NodeKey) (origins : List Origin) (picker : Picker) (picked : List ℕ) (next : ℕ)
-      (steps : List Step) (is_all : Bool) (i : ℕ) (t : Trying task kept keys origins picker picked next steps is_all i)
-      → take i t.begun.moves ≡ t.begun.moves → is_all ≡ true → Between task kept keys origins picker (next ∷ picked)
-  going-next kept keys origins picker picked next steps is_all i t whole all = record {
+  pub going-next : {kept : Kept} {keys : List NodeKey} {origins : List Origin} {picker : Picker} {picked : List ℕ} {next : ℕ}
+      {steps : List Step} {is_all : Bool} {i : ℕ} (t : Trying task kept keys origins picker picked next steps is_all i)
+      → take i t.successors.moves ≡ t.successors.moves → is_all ≡ true → Between task kept keys origins picker (next ∷ picked)
+  going-next {kept} {keys} {origins} {picker} {picked} {next} {steps} {is_all} {i} t whole all = record {
     found = t.going.found;
-    between = between_next task t.going.found next picked t.list t.list_at t.begun.moves
+    between = between_next task t.going.found next picked t.list t.list_at t.successors.moves
         (subst (λ (l : List Move). IsMaking task t.going.found next picked l) whole t.going.making)
-        (t.begun.every all) t.begun.unlimited;
+        (t.successors.every all) t.successors.unlimited;
     numbered = t.going.numbered;
     picking = t.going.picking;
   }
 
   -- ---- a move of the node
 
-  module _ (kept : Kept) (once : AreEachOnce kept) (keys : List NodeKey) (origins : List Origin) (picker : Picker) (picked : List ℕ)
-      (next : ℕ) (steps : List Step) (is_all : Bool) (i : ℕ) (s : Step)
-      (t : Trying task kept keys origins picker picked next steps is_all i) (m : Move) (at_m : slice_get t.begun.moves i ≡ Some m)
-      (step_is : DescribesMove kept s m) (there : NodeKey) (there_stands : IsKeyOf kept there (after task (goes t.list) m)) where
-    abbrev pub g : Going task kept keys origins picker picked next (take i t.begun.moves)
+  module _ {kept : Kept} (once : AreEachOnce kept) {keys : List NodeKey} {origins : List Origin} {picker : Picker} {picked : List ℕ}
+      {next : ℕ} {steps : List Step} {is_all : Bool} {i : ℕ} (s : Step)
+      (t : Trying task kept keys origins picker picked next steps is_all i) {m : Move} (at_m : slice_get t.successors.moves i ≡ Some m)
+      (step_is : DescribesMove kept s m) {there : NodeKey} (there_stands : IsKeyOf kept there (after task (goes t.list) m)) where
+    abbrev pub g : Going task kept keys origins picker picked next (take i t.successors.moves)
     g = t.going
 
     abbrev pub next_node : Node
@@ -401,7 +401,7 @@ module _ (task : Task) where
     found_counts = counted kept keys origins g.found g.numbered ∙ g.numbered.one_more
 
     key_within : next < length keys
-    key_within = trying-within kept keys origins picker picked next steps is_all i t
+    key_within = trying-within t
 
     -- the places that were picked are those of found lists
     pub picked-within : AreWithin g.found (next ∷ picked)
@@ -424,21 +424,21 @@ module _ (task : Task) where
         subst (λ (n : ℕ). slice_get (g.found ++ more_moves ∷ []) n ≡ Some more_moves) number (at_end g.found more_moves)
 
     -- one more of the moves was made
-    one_tried : (found : List (List Move)) → IsMaking task found next picked (take (suc i) t.begun.moves)
-        → IsMaking task found next picked (take (i + 1) t.begun.moves)
+    one_tried : (found : List (List Move)) → IsMaking task found next picked (take (suc i) t.successors.moves)
+        → IsMaking task found next picked (take (i + 1) t.successors.moves)
     one_tried found making =
         let number : suc i ≡ i + 1 = omega arith in
-        subst (λ (n : ℕ). IsMaking task found next picked (take n t.begun.moves)) number making
+        subst (λ (n : ℕ). IsMaking task found next picked (take n t.successors.moves)) number making
 
     pub trying-seen : Contains keys there → Trying task kept keys origins picker picked next steps is_all (i + 1)
     trying-seen has =
         let reached = from_map g.found next_node (seen kept keys (map goes g.found) there next_node g.numbered.stand there_stands has) in
         record {
           list = t.list;
-          begun = t.begun;
+          successors = t.successors;
           going = record {
             found = g.found;
-            making = one_tried g.found (making_seen task g.found next picked t.list t.list_at t.begun.moves i m g.making at_m reached);
+            making = one_tried g.found (making_seen task g.found next picked t.list t.list_at t.successors.moves i m g.making at_m reached);
             numbered = g.numbered;
             picking = g.picking;
           };
@@ -456,7 +456,7 @@ module _ (task : Task) where
       stands = new_stands;
       entries = entries_at more_moves (made-push (space_of task) (order_of task) (initial_node task) t.list m
           (list-made g.found (next ∷ picked) picked g.making.searching next t.list t.list_at)
-          (t.begun.are.allowed m (contains_place t.begun.moves i m at_m)));
+          (t.successors.are.allowed m (contains_place t.successors.moves i m at_m)));
     }
 
     pub numbered-more : AreNumbered task kept (keys ++ there ∷ []) more_origins (g.found ++ more_moves ∷ [])
@@ -470,7 +470,7 @@ module _ (task : Task) where
 
     module _ (fresh : ¬ Contains keys there) where
       is_new : IsNew (space_of task) (order_of task) g.found t.list m
-      is_new = first_new task g.found next picked t.list t.list_at t.begun.moves t.begun.are i m g.making at_m
+      is_new = first_new task g.found next picked t.list t.list_at t.successors.moves t.successors.are i m g.making at_m
           (λ r. unseen kept once keys (map goes g.found) there next_node g.numbered.stand there_stands fresh
           (subst (λ (x : Node). Contains (map goes g.found) x) r.2 (to_map g.found r.0 r.1)))
 
@@ -484,11 +484,11 @@ module _ (task : Task) where
           let t_new = subst (λ (x : Node). IsTriedAt task x Unanswered) (sym new_goes) tried in
           record {
             list = t.list;
-            begun = t.begun;
+            successors = t.successors;
             going = record {
               found = g.found ++ more_moves ∷ [];
               making = one_tried (g.found ++ more_moves ∷ [])
-                  (making_found task g.found next picked t.list t.list_at t.begun.moves i m g.making at_m
+                  (making_found task g.found next picked t.list t.list_at t.successors.moves i m g.making at_m
                   (searching_found task g.found next picked g.making.searching t.list t.list_at m is_new (room_there room) t_new.0
                   t_new.1));
               numbered = numbered-more;
@@ -509,8 +509,8 @@ module _ (task : Task) where
           let t_new = subst (λ (x : Node). IsTriedAt task x Answered) (sym new_goes) tried in (
             g.found ++ more_moves ∷ [],
             found-more,
-            ends_found task g.found next picked g.making.searching t.list t.list_at m is_new (room_there room) t_new.0 t.begun.unlimited
-                t_new.1,
+            ends_found task g.found next picked g.making.searching t.list t.list_at m is_new (room_there room) t_new.0
+                t.successors.unlimited t_new.1,
           )
 
       pub going-limit : (limit : MetLimit) → length keys < task.nodes → IsTriedAt task next_node (Limited limit)
@@ -520,8 +520,8 @@ module _ (task : Task) where
           record {
             found = g.found ++ more_moves ∷ [];
             are = found-more;
-            first = first_there task g.found next picked g.making.searching t.list t.list_at m is_new t.begun.unlimited (room_there room)
-                t_new.0 limit t_new.1 t_new.2;
+            first = first_there task g.found next picked g.making.searching t.list t.list_at m is_new t.successors.unlimited
+                (room_there room) t_new.0 limit t_new.1 t_new.2;
             stands = new_stands;
           }
 
@@ -537,6 +537,6 @@ module _ (task : Task) where
           (traced (g.found ++ more_moves ∷ []) more_trace) in
           subst (λ (n : ℕ). IsFull task kept (keys ++ there ∷ []) more_origins n) (ap length same ∙ sym count_is) (record {
             found = g.found;
-            end = ends_full task g.found next picked g.making.searching t.list t.list_at m is_new full t.begun.unlimited;
+            end = ends_full task g.found next picked g.making.searching t.list t.list_at m is_new full t.successors.unlimited;
             are = found-more;
           })

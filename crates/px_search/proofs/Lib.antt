@@ -2,7 +2,7 @@
 pub mod AlterationLaws
 pub mod Answering
 pub mod BeginningLaws
-pub mod BegunLaws
+pub mod SuccessorLaws
 pub mod EffectLaws
 pub mod FirstLimits
 pub mod FirstMoves
@@ -11,13 +11,13 @@ pub mod GoingLaws
 pub mod JoinLaws
 pub mod LoopLaws
 pub mod NodeLemmas
-pub mod NoteLaws
+pub mod CacheLaws
 pub mod OfferLaws
 pub mod OriginLemmas
 pub mod Pairs
 pub mod PickLaws
 pub mod PickerLaws
-pub mod SceneLaws
+pub mod CurrentLaws
 pub mod StackSums
 pub mod StepLaws
 pub mod Stepping

@@ -26,16 +26,16 @@ use Rattle.px_search.specs.declared.step.Step.{Step}
 use Rattle.px_search.specs.declared.step.Origin.{Origin}
 use Rattle.px_search.specs.Asking.{IsTriedAt}
 use Rattle.px_search.specs.Looping.{AreFoundBy, Between, IsExploring, IsFull, IsLimitedAt, IsReached, IsUnexplored, Trying}
-use Rattle.px_search.specs.Notes.{AreRight, HaveGrown}
-use Rattle.px_search.specs.Scenes.{IsScene}
+use Rattle.px_search.specs.Cache.{AreRight, HaveGrown}
+use Rattle.px_search.specs.CurrentModels.{IsCurrent}
 use Rattle.px_search.specs.Searching.{order_of}
 use Rattle.px_search.specs.Picking.{AreWithin, IsOnward, IsPickerOf}
 use Rattle.px_search.specs.Steps.{DescribesMove, AreStepsOf, AreEarlier, Trace}
 use Rattle.px_search.proofs.GoingLaws.{counted, here_of, between-start, found-start, trying-grows, trying-seen, trying-new, going-found, going-limit, going-full, going-next, going-room, onward, same_here, kept_old, kept_new, more_earlier, picked-within, some_trace}
 use Rattle.px_search.proofs.FirstLimits.{first_at_start}
 use Rattle.px_search.proofs.ValueEndings.{linear}
-use Rattle.px_search.proofs.NoteLaws.{right-grows}
-use Rattle.px_search.proofs.SceneLaws.{scene-grows, scene-start}
+use Rattle.px_search.proofs.CacheLaws.{right-grows}
+use Rattle.px_search.proofs.CurrentLaws.{current-grows, current-start}
 use Rattle.px_search.proofs.StepLaws.{step-grows, steps-count}
 
 -- ---- the step at a place
@@ -56,20 +56,20 @@ module _ (task : Task) where
   -- ---- what is kept
 
   -- what is kept stays right, whatever nodes there are
-  pub exploring-grows : (old new : Explored) → HaveGrown task old.notes new.notes → old.scene ≡ new.scene → IsExploring task old
+  pub exploring-grows : (old new : Explored) → HaveGrown task old.cache new.cache → old.current ≡ new.current → IsExploring task old
       → IsExploring task new
   exploring-grows old new grown same exploring = record {
-    notes = grown.right;
-    scene = subst (IsScene task new.notes.numbers) same (scene-grows task old.notes.numbers new.notes.numbers old.scene grown.keeps
-        exploring.scene);
+    cache = grown.right;
+    current = subst (IsCurrent task new.cache.numbers) same (current-grows task old.cache.numbers new.cache.numbers old.current grown.keeps
+        exploring.current);
   }
 
   -- what is kept is right where no model was looked at yet
-  pub exploring-start : (old new : Explored) → IsUnexplored task old → KeepsAll old.notes.numbers new.notes.numbers
-      → record old.notes { numbers = new.notes.numbers } ≡ new.notes → old.scene ≡ new.scene → IsExploring task new
-  exploring-start old new given keeps same_notes same_scene = record {
-    notes = subst (AreRight task) same_notes (right-grows task old.notes new.notes.numbers keeps given.notes);
-    scene = subst (IsScene task new.notes.numbers) same_scene (scene-start task new.notes.numbers old.scene given.scene);
+  pub exploring-start : (old new : Explored) → IsUnexplored task old → KeepsAll old.cache.numbers new.cache.numbers
+      → record old.cache { numbers = new.cache.numbers } ≡ new.cache → old.current ≡ new.current → IsExploring task new
+  exploring-start old new given keeps same_cache same_current = record {
+    cache = subst (AreRight task) same_cache (right-grows task old.cache new.cache.numbers keeps given.cache);
+    current = subst (IsCurrent task new.cache.numbers) same_current (current-start task new.cache.numbers old.current given.current);
   }
 
   -- ---- the start
@@ -135,34 +135,34 @@ module _ (task : Task) where
       (steps : List Step) (is_all : Bool) (i : ℕ) (s : Step) (there : NodeKey) : Type 0 where
     pub t : Trying task kept keys origins picker picked next steps is_all i
     pub m : Move
-    pub at_m : slice_get t.begun.moves i ≡ Some m
+    pub at_m : slice_get t.successors.moves i ≡ Some m
     pub step_is : DescribesMove kept s m
     pub stands : IsKeyOf kept there (after task (node_of task t.list) m)
 
-  pub step_on : (old new : Kept) (keys : List NodeKey) (origins : List Origin) (picker : Picker) (picked : List ℕ) (next : ℕ)
-      (steps : List Step) (is_all : Bool) (i : ℕ) (s : Step) (key there : NodeKey)
+  pub step_on : {old new : Kept} {keys : List NodeKey} {origins : List Origin} {picker : Picker} {picked : List ℕ} {next : ℕ}
+      {steps : List Step} {is_all : Bool} {i : ℕ} {key there : NodeKey} (s : Step)
       → Trying task old keys origins picker picked next steps is_all i → slice_get keys next ≡ Some key → KeepsAll old new
       → ((node : Node) (m : Move) → IsKeyOf old key node → DescribesMove old s m → IsKeyOf new there (after task node m))
       → slice_get steps i ≡ Some s → Stepped new keys origins picker picked next steps is_all i s there
-  step_on old new keys origins picker picked next steps is_all i s key there t at keeps makes step_at' =
-      let r = step_move old steps t.begun.moves i s t.begun.steps_are step_at' in
+  step_on {old} {new} {keys} {origins} {picker} {picked} {next} {steps} {is_all} {i} {key} {there} s t at keeps makes step_at' =
+      let r = step_move old steps t.successors.moves i s t.successors.steps_are step_at' in
       record {
-        t = trying-grows task old new keys origins picker picked next steps is_all i keeps t;
+        t = trying-grows task keeps t;
         m = r.0;
         at_m = r.1;
         step_is = step-grows old new s r.0 keeps r.2;
-        stands = makes (node_of task t.list) r.0 (same_here task old keys origins picker picked next steps is_all i key t at) r.2;
+        stands = makes (node_of task t.list) r.0 (same_here task t at) r.2;
       }
 
-  pub asks_step : (kept : Kept) (keys : List NodeKey) (origins : List Origin) (picker : Picker) (picked : List ℕ) (next : ℕ)
-      (steps : List Step) (is_all : Bool) (i : ℕ) (key : NodeKey) → Trying task kept keys origins picker picked next steps is_all i
+  pub asks_step : {kept : Kept} {keys : List NodeKey} {origins : List Origin} {picker : Picker} {picked : List ℕ} {next : ℕ}
+      {steps : List Step} {is_all : Bool} {i : ℕ} {key : NodeKey} → Trying task kept keys origins picker picked next steps is_all i
       → slice_get keys next ≡ Some key
       → (node : Node) × IsKeyOf kept key node × All (IsEntry task.problem task.tables) node.stack
-  asks_step kept keys origins picker picked next steps is_all i key t at =
-      let h = here_of task kept keys origins picker picked next (take i t.begun.moves) key t.going at in (h.node, h.stands, h.entries)
+  asks_step {kept} {keys} {origins} {picker} {picked} {next} {steps} {is_all} {i} {key} t at =
+      let h = here_of task t.going at in (h.node, h.stands, h.entries)
 
-  module _ (kept : Kept) (once : AreEachOnce kept) (keys new : List NodeKey) (origins : List Origin) (picker : Picker) (picked : List ℕ)
-      (next : ℕ) (steps : List Step) (is_all : Bool) (i : ℕ) (s : Step) (there : NodeKey) (place : ℕ)
+  module _ {kept : Kept} (once : AreEachOnce kept) {keys new : List NodeKey} {origins : List Origin} {picker : Picker} {picked : List ℕ}
+      {next : ℕ} {steps : List Step} {is_all : Bool} {i : ℕ} {s : Step} {there : NodeKey} {place : ℕ}
       (st : Stepped kept keys origins picker picked next steps is_all i s there) (kept_key : Keeps keys new there place) where
     abbrev origin : Origin
     origin = record { parent = next; last = s }
@@ -171,17 +171,15 @@ module _ (task : Task) where
     step-seen below =
         let old = kept_old keys new there place kept_key below in
         subst (λ (l : List NodeKey). Trying task kept l origins picker picked next steps is_all (i + 1)) (sym old.1)
-        (trying-seen task kept once keys origins picker picked next steps is_all i s st.t st.m st.at_m st.step_is there st.stands old.0)
+        (trying-seen task once s st.t st.at_m st.step_is st.stands old.0)
 
     pub step-earlier : (made : List Origin) → made ≡ origins ++ origin ∷ [] → AreEarlier made
-    step-earlier made is =
-        subst AreEarlier (sym is) (more_earlier task kept once keys origins picker picked next steps is_all i s st.t st.m st.at_m st.step_is
-        there st.stands)
+    step-earlier made is = subst AreEarlier (sym is) (more_earlier task once s st.t st.at_m st.step_is st.stands)
 
     pub step-trace : (made : List Origin) → made ≡ origins ++ origin ∷ [] → (found : List (List Move)) × Trace kept made found
     step-trace made is =
         subst (λ (l : List Origin). (found : List (List Move)) × Trace kept l found) (sym is)
-        (some_trace task kept once keys origins picker picked next steps is_all i s st.t st.m st.at_m st.step_is there st.stands)
+        (some_trace task once s st.t st.at_m st.step_is st.stands)
 
     abbrev pub there_stands : (node : Node) × IsKeyOf kept there node
     there_stands = (after task (node_of task st.t.list) st.m, st.stands)
@@ -191,18 +189,17 @@ module _ (task : Task) where
     step-moves = st.t.list ++ st.m ∷ []
 
     pub step-onward : IsOnward task kept st.t.going.found origin there step-moves
-    step-onward = onward task kept once keys origins picker picked next steps is_all i s st.t st.m st.at_m st.step_is there st.stands
+    step-onward = onward task once s st.t st.at_m st.step_is st.stands
 
     pub step-within : AreWithin st.t.going.found (next ∷ picked)
-    step-within =
-        picked-within task kept once keys origins picker picked next steps is_all i s st.t st.m st.at_m st.step_is there st.stands
+    step-within = picked-within task once s st.t st.at_m st.step_is st.stands
 
     module _ (above : ¬ (place < length keys)) where
       fresh : (¬ Contains keys there) × (new ≡ keys ++ there ∷ [])
       fresh = kept_new keys new there place kept_key above
 
       pub step-few : length keys ≤ task.nodes
-      step-few = going-room task kept keys origins picker picked next (take i st.t.begun.moves) st.t.going
+      step-few = going-room task st.t.going
 
       pub step-new : (made : List Origin) (tried : Tried) (later : Picker) → made ≡ origins ++ origin ∷ []
           → length keys < task.nodes → ((node : Node) → IsKeyOf kept there node → IsTriedAt task node tried) → tried ≡ Unanswered
@@ -212,8 +209,7 @@ module _ (task : Task) where
           let t = subst (IsTriedAt task there_stands.0) same (says there_stands.0 st.stands) in
           subst (λ (l : List NodeKey). Trying task kept l made later picked next steps is_all (i + 1)) (sym fresh.1)
           (subst (λ (l : List Origin). Trying task kept (keys ++ there ∷ []) l later picked next steps is_all (i + 1)) (sym is)
-          (trying-new task kept once keys origins picker picked next steps is_all i s st.t st.m st.at_m st.step_is there st.stands fresh.0
-          later room t picking))
+          (trying-new task once s st.t st.at_m st.step_is st.stands fresh.0 later room t picking))
 
       pub step-reached : (made : List Origin) (tried : Tried) → made ≡ origins ++ origin ∷ [] → length keys < task.nodes
           → ((node : Node) → IsKeyOf kept there node → IsTriedAt task node tried) → tried ≡ Answered → IsReached task kept new made
@@ -221,8 +217,7 @@ module _ (task : Task) where
           let t = subst (IsTriedAt task there_stands.0) same (says there_stands.0 st.stands) in
           subst (λ (l : List NodeKey). IsReached task kept l made) (sym fresh.1)
           (subst (λ (l : List Origin). IsReached task kept (keys ++ there ∷ []) l) (sym is)
-          (going-found task kept once keys origins picker picked next steps is_all i s st.t st.m st.at_m st.step_is there st.stands fresh.0
-          room t))
+          (going-found task once s st.t st.at_m st.step_is st.stands fresh.0 room t))
 
       -- there are fewer origins than numbers of 32 bits
       pub step-origins : (made : List Origin) → made ≡ origins ++ origin ∷ [] → length made ≤ task.nodes
@@ -236,8 +231,7 @@ module _ (task : Task) where
           let here : Limit = record { key = there; met = limit } in
           subst (λ (l : List NodeKey). IsLimitedAt task kept l made here) (sym fresh.1)
           (subst (λ (l : List Origin). IsLimitedAt task kept (keys ++ there ∷ []) l here) (sym is)
-          (going-limit task kept once keys origins picker picked next steps is_all i s st.t st.m st.at_m st.step_is there st.stands fresh.0
-          limit room t))
+          (going-limit task once s st.t st.at_m st.step_is st.stands fresh.0 limit room t))
 
       pub step-full : (made : List Origin) (count : ℕ) → made ≡ origins ++ origin ∷ [] → task.nodes ≤ length keys
           → ((moves : List Move) × (count ≡ length moves)
@@ -246,8 +240,7 @@ module _ (task : Task) where
       step-full made count is enough traced =
           subst (λ (l : List NodeKey). IsFull task kept l made count) (sym fresh.1)
           (subst (λ (l : List Origin). IsFull task kept (keys ++ there ∷ []) l count) (sym is)
-          (going-full task kept once keys origins picker picked next steps is_all i s st.t st.m st.at_m st.step_is there st.stands fresh.0
-          count enough
+          (going-full task once s st.t st.at_m st.step_is st.stands fresh.0 count enough
           (subst (λ (l : List Origin). (moves : List Move) × (count ≡ length moves)
           × ((found : List (List Move)) → Trace kept l found → slice_get found (length l) ≡ Some moves)) is traced)))
 
@@ -302,9 +295,9 @@ module _ (task : Task) where
           (sym full.end.full ∙ sym (length-map full.found (node_of task)));
     }
 
-  pub node-done : (kept : Kept) (keys : List NodeKey) (origins : List Origin) (picker : Picker) (picked : List ℕ) (next : ℕ)
-      (steps : List Step) (is_all : Bool) (i : ℕ) → Trying task kept keys origins picker picked next steps is_all i → length steps ≤ i
+  pub node-done : {kept : Kept} {keys : List NodeKey} {origins : List Origin} {picker : Picker} {picked : List ℕ} {next : ℕ}
+      {steps : List Step} {is_all : Bool} {i : ℕ} → Trying task kept keys origins picker picked next steps is_all i → length steps ≤ i
       → is_all ≡ true → Between task kept keys origins picker (next ∷ picked)
-  node-done kept keys origins picker picked next steps is_all i t all is =
-      going-next task kept keys origins picker picked next steps is_all i t
-      (take_all i t.begun.moves (omega (arith, all, steps-count kept steps t.begun.moves t.begun.steps_are))) is
+  node-done {kept} {keys} {origins} {picker} {picked} {next} {steps} {is_all} {i} t all is =
+      going-next task t
+      (take_all i t.successors.moves (omega (arith, all, steps-count kept steps t.successors.moves t.successors.steps_are))) is

@@ -20,19 +20,19 @@ use Rattle.px_entries.specs.Learned.{AreLearned}
 use Rattle.px_gaps.specs.Known.{IsOpenWith}
 use Rattle.px_diff.specs.Models.{AreComparable, RelevanceOverModels}
 use Rattle.px_entries.specs.Unlimited.{IsNeverLimited}
-use Rattle.px_diff.specs.Pushes.{IsPushable}
+use Rattle.px_diff.specs.Pushes.{IsPushable, IsRelevant}
 use Rattle.px_diff.specs.Stacks.{AreUnlimitedOver, RelevanceOverStacks}
 use Rattle.px_numbers.specs.Numbers.{Kept}
 use Rattle.px_numbers.specs.NumberLaws.{one_model}
 use Rattle.px_ends.specs.Tasks.{Task, needs_with}
-use Rattle.px_search.specs.Going.{IsBegunOn}
+use Rattle.px_search.specs.Going.{AreFirstSuccessors}
 use Rattle.px_search.specs.Offers.{AreFirstOffers, AreWhole, IsAlike, IsOffered, IsOfferedWhole, IsOfferAt, IsPartAt}
 use Rattle.px_search.specs.Steps.{AreStepsOf, DescribesMove, is_push_on, unstruck}
-use Rattle.px_search.specs.declared.notes.Offer.{Offer}
-use Rattle.px_search.specs.declared.notes.Want.{Want}
+use Rattle.px_search.specs.declared.cache.Offer.{Offer}
+use Rattle.px_search.specs.declared.cache.Want.{Want}
 use Rattle.px_search.specs.declared.step.Step.{Step}
 use Rattle.px_search.specs.declared.step.Step.TheVariants as step
-use Rattle.px_search.proofs.FromLaws.{begun-open}
+use Rattle.px_search.proofs.FromLaws.{successors-open}
 use Rattle.px_search.proofs.StruckLaws.{on_stack, not_true}
 
 -- ---- the part that decides
@@ -163,19 +163,15 @@ module _ (task : Task) (facts wanted : List Atom) where
 -- ---- several wanted atoms
 
 module _ (problem : Problem) (tables : List Table) (facts : List Atom) (entry : Entry) where
+  -- an entry that is relevant for an atom is so wherever this atom is wanted
+  pub relevant-for : {ws vs : List Atom} (r : IsRelevant problem tables ws [] entry) → Contains vs r.atom
+      → IsRelevant problem tables vs [] entry
+  relevant-for r has = record { is_entry = r.is_entry; fresh = r.fresh; atom = r.atom; is_wanted = has; added = r.added }
+
   wanted-more : (ws vs : List Atom) → ((atom : Atom) → Contains ws atom → Contains vs atom) → IsPushable problem tables ws [] facts entry
       → IsPushable problem tables vs [] facts entry
-  wanted-more ws vs more p = record {
-    relevant =
-        record {
-          is_entry = p.relevant.is_entry;
-          fresh = p.relevant.fresh;
-          atom = p.relevant.atom;
-          is_wanted = more p.relevant.atom p.relevant.is_wanted;
-          added = p.relevant.added;
-        };
-    open_entry = p.open_entry;
-  }
+  wanted-more ws vs more p =
+      record { relevant = relevant-for p.relevant (more p.relevant.atom p.relevant.is_wanted); open_entry = p.open_entry }
 
   pub pushable-none : ¬ IsPushable problem tables [] [] facts entry
   pushable-none p = Contains-none p.relevant.atom p.relevant.is_wanted
@@ -195,17 +191,7 @@ module _ (problem : Problem) (tables : List Table) (facts : List Atom) (entry : 
     where
       of : {us : List Atom} (p : IsPushable problem tables (ws ++ vs) [] facts entry) → Contains us p.relevant.atom
           → IsPushable problem tables us [] facts entry
-      of p has = record {
-        relevant =
-            record {
-              is_entry = p.relevant.is_entry;
-              fresh = p.relevant.fresh;
-              atom = p.relevant.atom;
-              is_wanted = has;
-              added = p.relevant.added;
-            };
-        open_entry = p.open_entry;
-      }
+      of p has = record { relevant = relevant-for p.relevant has; open_entry = p.open_entry }
 
 -- the entries for one more atom, after those for the atoms before it
 pub exact-more : (problem : Problem) (tables : List Table) (facts ws : List Atom) (atom : Atom) (es fs gs : List Entry)
@@ -237,20 +223,8 @@ pub whole-more : (task : Task) (facts ws : List Atom) (atom : Atom) (es fs gs : 
 whole-more task facts ws atom es fs gs before here is = record {
   exact = exact-more task.problem task.tables facts ws atom es fs gs before.exact here.exact is;
   unlimited = λ entry relevant. elim (Contains-append_cases ws (atom ∷ []) relevant.atom relevant.is_wanted) [
-    | inl left ↦ before.unlimited entry (record {
-      is_entry = relevant.is_entry;
-      fresh = relevant.fresh;
-      atom = relevant.atom;
-      is_wanted = left;
-      added = relevant.added;
-    })
-    | inr right ↦ here.unlimited entry (record {
-      is_entry = relevant.is_entry;
-      fresh = relevant.fresh;
-      atom = relevant.atom;
-      is_wanted = right;
-      added = relevant.added;
-    })
+    | inl left ↦ before.unlimited entry (relevant-for task.problem task.tables facts entry relevant left)
+    | inr right ↦ here.unlimited entry (relevant-for task.problem task.tables facts entry relevant right)
   ];
 }
 
@@ -306,13 +280,13 @@ pub off_stack-ascend : (stack entries : List Entry) → IsStrictlySortedBy order
 off_stack-ascend stack entries ascends = IsStrictlySortedBy-filter order_of_entries (λ e. not (is_push_on stack (Push e))) entries ascends
 
 -- what is offered, without what stands on the stack, is the first moves of the node
-pub begun-offered : (task : Task) (kept : Kept) (model gaps : List Atom) (stack : List Entry) (steps left : List Step) (is_all : Bool)
+pub successors-offered : (task : Task) (kept : Kept) (model gaps : List Atom) (stack : List Entry) (steps left : List Step) (is_all : Bool)
     → RelevanceOverStacks → IsOpenWith task.problem (needs_with task model stack) gaps
     → IsOffered task kept model gaps steps is_all
     → ((moves : List Move) → AreStepsOf kept steps moves → AreStepsOf kept left (unstruck stack moves))
-    → IsBegunOn task kept (record { model = model; stack = stack }) left is_all
-begun-offered task kept model gaps stack steps left is_all law opens o struck =
-    begun-open task kept (record { model = model; stack = stack }) gaps (off_stack stack o.entries) left is_all opens
+    → AreFirstSuccessors task kept (record { model = model; stack = stack }) left is_all
+successors-offered task kept model gaps stack steps left is_all law opens o struck =
+    successors-open task kept (record { model = model; stack = stack }) gaps (off_stack stack o.entries) left is_all opens
     (off_stack-ascend stack o.entries o.first.ordered)
     (λ entry has. let m = (members entry).0 has in (over entry).1 (o.first.sound entry m.0, m.1))
     (λ entry pushable.

@@ -6,7 +6,7 @@ use Rattle.std.specs.Map.{lookup}
 use Rattle.std.proofs.lemmas.Map.Views.{Contains-from_lookup}
 use Rattle.indexmap.specs.IndexMap.{insert_entry}
 use Rattle.px_base.specs.ListLaws.{Contains-none, Contains-first, Contains-later, Contains-cases}
-use Rattle.px_search.specs.Notes.{AreEach}
+use Rattle.px_search.specs.Cache.{AreEach}
 
 module _ {K V : Type 0} (same_key : K → K → Bool) (decides : (a b : K) → Decides (same_key a b) (a ≡ b)) where
   pair-inserted : (entries : List (K × V)) (key : K) (value : V) (one : K × V) → Contains (insert_entry same_key entries key value) one

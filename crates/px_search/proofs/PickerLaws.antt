@@ -28,7 +28,7 @@ use Rattle.px_search.specs.declared.step.Origin.{Origin}
 use Rattle.px_search.specs.declared.step.Step.{Step}
 use Rattle.px_search.specs.declared.step.Step.TheVariants as step
 use Rattle.px_search.specs.Estimating.{AreCounted, IsCountAt, IsGoalCountAt}
-use Rattle.px_search.specs.Notes.{IsEntryAt}
+use Rattle.px_search.specs.Cache.{IsEntryAt}
 use Rattle.px_search.specs.Picking.{AreWithin, IsOnward, IsPickerOf, IsPut, IsRanking}
 use Rattle.px_search.specs.Searching.{order_of}
 use Rattle.px_search.specs.Steps.{DescribesMove}

@@ -20,7 +20,7 @@ use Rattle.px_search.specs.declared.step.Step.{Step}
 use Rattle.px_search.specs.declared.step.Step.TheVariants as step
 use Rattle.px_search.specs.Asking.{IsTriedAt}
 use Rattle.px_search.specs.Going.{IsAskedAt}
-use Rattle.px_search.specs.Notes.{IsEntryAt, IsResultAt}
+use Rattle.px_search.specs.Cache.{IsEntryAt, IsResultAt}
 use Rattle.px_search.specs.Steps.{DescribesMove, AreStepsOf}
 use Rattle.px_ends.specs.Tasks.{Task, applied, after, goal_from}
 

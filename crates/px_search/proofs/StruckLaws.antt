@@ -21,7 +21,7 @@ use Rattle.px_ends.specs.Order.{move_cmp}
 use Rattle.px_ends.specs.Tasks.{Task, IsRelevantAt, IsAllowed, AsksAt}
 use Rattle.px_search.specs.declared.step.Step.{Step}
 use Rattle.px_search.specs.declared.step.Step.TheVariants as step
-use Rattle.px_search.specs.Going.{IsBegunOn}
+use Rattle.px_search.specs.Going.{AreFirstSuccessors}
 use Rattle.px_search.specs.Steps.{DescribesMove, AreStepsOf, is_push_on, unstruck}
 
 -- ---- which pushes are struck out
@@ -171,27 +171,30 @@ module _ (task : Task) (model : List Atom) (entry : Entry) (below : List Entry) 
     λ a. (relevant_here e (λ has. (not_true (is_push_on below (Push e))).0 a.1 ((on_stack below e).1 has)) a.0.0, a.0.1),
   )
 
-  pub begun-struck : (kept : Kept) (steps left : List Step) (is_all : Bool) → (begun : IsBegunOn task kept alone steps is_all)
-      → AreStepsOf kept left (unstruck below begun.moves) → IsBegunOn task kept here left is_all
-  begun-struck kept steps left is_all begun are = record {
-    moves = unstruck below begun.moves;
+  pub successors-struck : (kept : Kept) (steps left : List Step) (is_all : Bool) →
+      (successors : AreFirstSuccessors task kept alone steps is_all)
+      → AreStepsOf kept left (unstruck below successors.moves) → AreFirstSuccessors task kept here left is_all
+  successors-struck kept steps left is_all successors are = record {
+    moves = unstruck below successors.moves;
     are = record {
-      allowed = λ m has. let k = (kept_ones m).0 has in (allowed_here m).1 (begun.are.allowed m k.0, k.1);
-      ordered = AllPairs-filter (λ (m n : Move). move_cmp m n ≡ Less) (λ n. not (is_push_on below n)) begun.moves begun.are.ordered;
+      allowed = λ m has. let k = (kept_ones m).0 has in (allowed_here m).1 (successors.are.allowed m k.0, k.1);
+      ordered = AllPairs-filter (λ (m n : Move). move_cmp m n ≡ Less) (λ n. not (is_push_on below n)) successors.moves
+          successors.are.ordered;
       others = λ m may.
           let a = (allowed_here m).0 may in
-          elim (begun.are.others m a.0) [
+          elim (successors.are.others m a.0) [
             | inl has ↦ inl ((kept_ones m).1 (has, a.1))
             | inr after ↦ inr (λ n has. after n ((kept_ones n).0 has).0)
           ];
     };
-    every = λ all m may. let a = (allowed_here m).0 may in (kept_ones m).1 (begun.every all m a.0, a.1);
+    every = λ all m may. let a = (allowed_here m).0 may in (kept_ones m).1 (successors.every all m a.0, a.1);
     steps_are = are;
-    unlimited = λ question asks. begun.unlimited question (asks_alone question asks);
+    unlimited = λ question asks. successors.unlimited question (asks_alone question asks);
   }
     where
-      kept_ones : (m : Move) → Contains (unstruck below begun.moves) m ↔ (Contains begun.moves m × (not (is_push_on below m) ≡ true))
-      kept_ones m = Contains-filter (λ n. not (is_push_on below n)) begun.moves m
+      kept_ones : (m : Move) → Contains (unstruck below successors.moves) m ↔
+          (Contains successors.moves m × (not (is_push_on below m) ≡ true))
+      kept_ones m = Contains-filter (λ n. not (is_push_on below n)) successors.moves m
 
       asks_alone : (question : Question) → AsksAt task here question → AsksAt task alone question
       asks_alone question (inl needs) = inl needs

@@ -66,11 +66,11 @@ module _ (task : Task) (weight : ℕ) where
   total : (m n : Move) → IsLower (order_by task weight) m n ⊎ ((m ≡ n) ⊎ IsLower (order_by task weight) n m)
   total = lower-total (order_by task weight) linear
 
-  abbrev pub Begun : List (List Move) → Type 0
-  Begun found = Begins (space_of task) (order_by task weight) found
+  abbrev pub IsBeginning : List (List Move) → Type 0
+  IsBeginning found = Begins (space_of task) (order_by task weight) found
 
   -- of two lists of found lists that are as long
-  begins-same : (found lists : List (List Move)) → Begun found → Begun lists → length found ≡ length lists → found ≡ lists
+  begins-same : (found lists : List (List Move)) → IsBeginning found → IsBeginning lists → length found ≡ length lists → found ≡ lists
   begins-same found lists b c same = elim (order_of b.1.0 c.1.0) [
     | inl low ↦
         let r = prefixes (space_of task) (order_by task weight) total b.1.0 c.1.0 found lists b.0 c.0 (omega (arith, low)) b.1.1 c.1.1 in
@@ -83,25 +83,25 @@ module _ (task : Task) (weight : ℕ) where
   -- ---- the end
 
   pub asked-begins : (found : List (List Move)) (moves : List Move) (question : Question)
-      → IsAskedAmong task weight found moves question → Begun found
+      → IsAskedAmong task weight found moves question → IsBeginning found
   asked-begins found moves question (inl (gone, same, asks)) =
-      subst (λ (l : List (List Move)). Begun l) same (gone.place ∷ gone.picked, gone.comes)
-  asked-begins found moves question (inr (tested, same, empty, is)) = subst (λ (l : List (List Move)). Begun l) same tested.begins
+      subst (λ (l : List (List Move)). IsBeginning l) same (gone.place ∷ gone.picked, gone.comes)
+  asked-begins found moves question (inr (tested, same, empty, is)) = subst (λ (l : List (List Move)). IsBeginning l) same tested.begins
 
   -- the found lists are the first of some that the search comes to
   pub record Within (found : List (List Move)) : Type 0 where
     pub all : List (List Move)
-    pub begins : Begun all
+    pub begins : IsBeginning all
     pub rest : List (List Move)
     pub all_are : all ≡ found ++ rest
 
-  within-all : (found : List (List Move)) → Begun found → Within found
+  within-all : (found : List (List Move)) → IsBeginning found → Within found
   within-all found b = record { all = found; begins = b; rest = []; all_are = none-behind found }
 
   pub within : (found : List (List Move)) (end : TreeEnd) → EndsTree task weight found end → Within found
-  within found Solved (moves, end, is) = within-all found (subst (λ (l : List (List Move)). Begun l) (sym is) end.stop.begins)
+  within found Solved (moves, end, is) = within-all found (subst (λ (l : List (List Move)). IsBeginning l) (sym is) end.stop.begins)
   within found Exhausted (end, is) =
-      within-all found (subst (λ (l : List (List Move)). Begun l) (sym is) (end.picked, end.over.comes))
+      within-all found (subst (λ (l : List (List Move)). IsBeginning l) (sym is) (end.picked, end.over.comes))
   within found (More moves) end =
       record { all = found ++ end.last ∷ []; begins = end.stop.begins; rest = end.last ∷ []; all_are = refl }
   within found (ShapeLimit number) (limit, first, is) = within-all found (asked-begins found first.moves limit.question first.asked)
@@ -129,8 +129,8 @@ module _ (task : Task) (weight : ℕ) where
   one-end found lists Exhausted Solved (x, is) (ns, y, are) =
       absurd ((exhausted_in_all (space_of task) (aim_of task)).found (order_by task weight) (order_by task weight) x ns y)
   one-end found lists Exhausted Exhausted (x, is) (y, are) = (
-    begins-same found lists (subst (λ (l : List (List Move)). Begun l) (sym is) (x.picked, x.over.comes))
-        (subst (λ (l : List (List Move)). Begun l) (sym are) (y.picked, y.over.comes))
+    begins-same found lists (subst (λ (l : List (List Move)). IsBeginning l) (sym is) (x.picked, x.over.comes))
+        (subst (λ (l : List (List Move)). IsBeginning l) (sym are) (y.picked, y.over.comes))
         (omega (
           arith,
           ap length is,

@@ -211,10 +211,10 @@ module _ (task : Task) (kept : Kept) where
 -- what a search came to that ends so
 abbrev Came : Task → Explored → TreeEnd → Type 0
 Came task explored tree_end.Exhausted = IsGone task explored
-Came task explored tree_end.Solved = IsReached task explored.notes.numbers explored.nodes explored.origins.items
-Came task explored (tree_end.More moves) = IsFull task explored.notes.numbers explored.nodes explored.origins.items moves
+Came task explored tree_end.Solved = IsReached task explored.cache.numbers explored.nodes explored.origins.items
+Came task explored (tree_end.More moves) = IsFull task explored.cache.numbers explored.nodes explored.origins.items moves
 Came task explored (tree_end.ShapeLimit shapes) =
-    (limit : Limit) × IsLimitedAt task explored.notes.numbers explored.nodes explored.origins.items limit
+    (limit : Limit) × IsLimitedAt task explored.cache.numbers explored.nodes explored.origins.items limit
     × (shapes ≡ task.problem.shapes)
 
 module _ (task : Task) (explored : Explored) where
@@ -239,7 +239,7 @@ module _ (task : Task) (explored : Explored) where
       omega (arith, tested.room, ap length same, length-append tested.earlier (moves ∷ []))
 
   count_of : (found : List (List Move)) → AreFound task explored found → length found ≡ length explored.nodes
-  count_of found are = counted task explored.notes.numbers explored.nodes explored.origins.items found are.numbered
+  count_of found are = counted task explored.cache.numbers explored.nodes explored.origins.items found are.numbered
 
   -- there are as many nodes as there are found, or as there is room for
   pub came-tree : (end : TreeEnd) (nodes : List TreeNode) (count all : ℕ) → Came task explored end → all ≡ length explored.nodes
@@ -282,7 +282,7 @@ module _ (task : Task) (explored : Explored) where
           long,
         );
     nodes =
-        tells-front task explored.notes.numbers full.found full.end.last nodes (tells (full.found ++ full.end.last ∷ []) full.are);
+        tells-front task explored.cache.numbers full.found full.end.last nodes (tells (full.found ++ full.end.last ∷ []) full.are);
     end = full.end;
   }
   came-tree (tree_end.ShapeLimit shapes) nodes count all (limit, limited, is) all_is count_is long tells = record {

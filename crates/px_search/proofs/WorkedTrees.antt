@@ -19,18 +19,18 @@ use Rattle.px_ends.specs.Trees.{EndsTree, IsTree, TellsNode, TellsNodes}
 use Rattle.px_search.specs.WorkedTrees.{TreeFacts, by_maker, first_node}
 
 module _ (task : Task) (weight : ℕ) where
-  abbrev Begun : List (List Move) → Type 0
-  Begun found = Begins (space_of task) (order_by task weight) found
+  abbrev IsBeginning : List (List Move) → Type 0
+  IsBeginning found = Begins (space_of task) (order_by task weight) found
 
   abbrev At : List (List Move) → ℕ → List Move → Type 0
   At found k moves = slice_get found k ≡ Some moves
 
   -- the first list is empty
-  first-empty : (a : List Move) (rest : List (List Move)) → Begun (a ∷ rest) → a ≡ []
+  first-empty : (a : List Move) (rest : List (List Move)) → IsBeginning (a ∷ rest) → a ≡ []
   first-empty a rest b = some-one a [] (root (space_of task) (order_by task weight) b.1.0 (a ∷ rest) b.0 b.1.1)
 
   -- the second has one move
-  second-one : (a b : List Move) (rest : List (List Move)) → Begun (a ∷ b ∷ rest) → (m : Move) × (b ≡ m ∷ [])
+  second-one : (a b : List Move) (rest : List (List Move)) → IsBeginning (a ∷ b ∷ rest) → (m : Move) × (b ≡ m ∷ [])
   second-one a b rest begun =
       elim (origins (space_of task) (order_by task weight) begun.1.0 (a ∷ b ∷ rest) begun.0 begun.1.1 1 b refl) [
         | inl none ↦ absurd (omega (arith, none.0))
@@ -45,7 +45,7 @@ module _ (task : Task) (weight : ℕ) where
       parent (suc place) front below at = absurd (omega (arith, below))
 
   -- where two moves are found third, the second list has the first of them
-  third-two : (a b : List Move) (m n : Move) → Begun (a ∷ b ∷ (m ∷ n ∷ []) ∷ []) → b ≡ m ∷ []
+  third-two : (a b : List Move) (m n : Move) → IsBeginning (a ∷ b ∷ (m ∷ n ∷ []) ∷ []) → b ≡ m ∷ []
   third-two a b m n begun =
       elim (origins (space_of task) (order_by task weight) begun.1.0 (a ∷ b ∷ (m ∷ n ∷ []) ∷ []) begun.0 begun.1.1 2 (m ∷ n ∷ []) refl) [
         | inl none ↦ absurd (omega (arith, none.0))
@@ -64,13 +64,13 @@ module _ (task : Task) (weight : ℕ) where
       parent (suc (suc place)) l below at is = absurd (omega (arith, below))
 
   -- two lists, and two moves after them
-  before-two : (earlier : List (List Move)) (m n : Move) → Begun (earlier ++ (m ∷ n ∷ []) ∷ []) → length earlier ≤ 2
+  before-two : (earlier : List (List Move)) (m n : Move) → IsBeginning (earlier ++ (m ∷ n ∷ []) ∷ []) → length earlier ≤ 2
       → earlier ≡ [] ∷ (m ∷ []) ∷ []
   before-two earlier m n begun few =
       by earlier begun (few-moves (space_of task) (order_by task weight) begun.1.0 (earlier ++ (m ∷ n ∷ []) ∷ []) begun.0 begun.1.1
       (length earlier) (m ∷ n ∷ []) (at_end earlier (m ∷ n ∷ []))) few
     where
-      by : (earlier : List (List Move)) → Begun (earlier ++ (m ∷ n ∷ []) ∷ []) → 2 ≤ length earlier → length earlier ≤ 2
+      by : (earlier : List (List Move)) → IsBeginning (earlier ++ (m ∷ n ∷ []) ∷ []) → 2 ≤ length earlier → length earlier ≤ 2
           → earlier ≡ [] ∷ (m ∷ []) ∷ []
       by [] begun more few = absurd (omega (arith, more))
       by (a ∷ []) begun more few = absurd (omega (arith, more))

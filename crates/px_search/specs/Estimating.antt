@@ -5,9 +5,9 @@ use Rattle.px_table.specs.declared.entry.Entry.{Entry}
 use Rattle.px_numbers.specs.Numbers.{Kept, IsModelAt}
 use Rattle.px_ends.specs.Lacks.{lacks, lacks_of}
 use Rattle.px_ends.specs.Tasks.{Task, goal_from}
-use Rattle.px_search.specs.Notes.{AreEach}
+use Rattle.px_search.specs.Cache.{AreEach}
 use Rattle.px_search.specs.declared.estimates.Estimates.{Estimates}
-use Rattle.px_search.specs.declared.notes.EntryPlace.{EntryPlace}
+use Rattle.px_search.specs.declared.cache.EntryPlace.{EntryPlace}
 
 -- this much the entry of the place lacks in the model of the place
 abbrev pub IsCountAt : Task → Kept → EntryPlace → ℕ → Type 0

@@ -13,7 +13,7 @@ use Rattle.px_gaps.specs.declared.known.Tried.TheVariants.{Unanswered}
 use Rattle.px_numbers.specs.declared.nodes.NodeKey.{NodeKey}
 use Rattle.px_numbers.specs.Numbers.{Kept, IsKeyOf}
 use Rattle.px_search.specs.Asking.{IsTriedAt}
-use Rattle.px_search.specs.declared.begun.Begun.{Begun}
+use Rattle.px_search.specs.declared.successors.Successors.{Successors}
 use Rattle.px_search.specs.declared.step.Step.{Step}
 use Rattle.px_ends.specs.Order.{move_cmp}
 use Rattle.px_search.specs.Steps.{AreStepsOf}
@@ -48,7 +48,7 @@ pub record AreFirstOf (task : Task) (node : Node) (moves : List Move) : Type 0 w
   pub others : (m : Move) → IsAllowed task node m → Contains moves m ⊎ ((n : Move) → Contains moves n → move_cmp n m ≡ Less)
 
 -- the steps are the first moves of the node, in order, all of them where `is_all` is true, and none of its questions meets the limit
-pub record IsBegunOn (task : Task) (kept : Kept) (node : Node) (steps : List Step) (is_all : Bool) : Type 0 where
+pub record AreFirstSuccessors (task : Task) (kept : Kept) (node : Node) (steps : List Step) (is_all : Bool) : Type 0 where
   pub moves : List Move
   pub are : AreFirstOf task node moves
   pub every : is_all ≡ true → (m : Move) → IsAllowed task node m → Contains moves m
@@ -65,8 +65,9 @@ pub record IsAskedAt (task : Task) (kept : Kept) (key : NodeKey) : Type 0 where
   pub tried : IsTriedAt task node Unanswered
 
 -- these are the first moves of the node that the pair was
-abbrev pub BeginsAt : Task → Kept → Kept → NodeKey → Begun → Type 0
-BeginsAt task old new key begun = (node : Node) → IsKeyOf old key node → IsBegunOn task new node begun.steps.items begun.is_all
+abbrev pub BeginsAt : Task → Kept → Kept → NodeKey → Successors → Type 0
+BeginsAt task old new key successors =
+    (node : Node) → IsKeyOf old key node → AreFirstSuccessors task new node successors.steps.items successors.is_all
 
 -- the question is one of the node of the pair, and meets the limit
 abbrev pub LimitsAt : Task → Kept → NodeKey → MetLimit → Type 0

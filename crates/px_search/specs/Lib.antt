@@ -3,9 +3,9 @@ pub mod Asking
 pub mod Estimating
 pub mod Going
 pub mod Looping
-pub mod Notes
+pub mod Cache
 pub mod Offers
-pub mod Scenes
+pub mod CurrentModels
 pub mod Searching
 pub mod Steps
 pub mod Picking

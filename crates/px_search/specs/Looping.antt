@@ -18,10 +18,10 @@ use Rattle.px_search.specs.declared.step.Step.{Step}
 use Rattle.px_search.specs.declared.stop.Limit.{Limit}
 use Rattle.px_search.specs.declared.stop.Stop.{Stop}
 use Rattle.px_search.specs.declared.stop.Stop.TheVariants.{Solved, Full, Limited, NoMemory as OutOfMemory}
-use Rattle.px_search.specs.Going.{IsBegunOn}
-use Rattle.px_search.specs.Notes.{AreRight}
+use Rattle.px_search.specs.Going.{AreFirstSuccessors}
+use Rattle.px_search.specs.Cache.{AreRight}
 use Rattle.px_search.specs.Picking.{IsFirstPicker, IsPickerOf}
-use Rattle.px_search.specs.Scenes.{IsScene}
+use Rattle.px_search.specs.CurrentModels.{IsCurrent}
 use Rattle.px_search.specs.Searching.{IsBetween, IsMaking, order_of}
 use Rattle.px_search.specs.Steps.{AreEarlier, Trace}
 use Rattle.px_ends.specs.Trees.{EndsTree, IsFirstLimit}
@@ -62,8 +62,8 @@ pub record Going (task : Task) (kept : Kept) (keys : List NodeKey) (origins : Li
 pub record Trying (task : Task) (kept : Kept) (keys : List NodeKey) (origins : List Origin) (picker : Picker) (picked : List ℕ) (next : ℕ)
     (steps : List Step) (is_all : Bool) (i : ℕ) : Type 0 where
   pub list : List Move
-  pub begun : IsBegunOn task kept (node_of task list) steps is_all
-  pub going : Going task kept keys origins picker picked next (take i begun.moves)
+  pub successors : AreFirstSuccessors task kept (node_of task list) steps is_all
+  pub going : Going task kept keys origins picker picked next (take i successors.moves)
   pub list_at : slice_get going.found next ≡ Some list
 
 -- the error is an end of the search, or there was no memory
@@ -105,32 +105,32 @@ pub record IsLimitedAt (task : Task) (kept : Kept) (keys : List NodeKey) (origin
 
 -- what is kept is right
 pub record IsExploring (task : Task) (explored : Explored) : Type 0 where
-  pub notes : AreRight task explored.notes
-  pub scene : IsScene task explored.notes.numbers explored.scene
+  pub cache : AreRight task explored.cache
+  pub current : IsCurrent task explored.cache.numbers explored.current
 
 -- all moves from these places, which are all that were picked, were made
 abbrev pub GoesOn : Task → Explored → List ℕ → Type 0
 GoesOn task explored picked =
-    Between task explored.notes.numbers explored.nodes explored.origins.items explored.picker picked
+    Between task explored.cache.numbers explored.nodes explored.origins.items explored.picker picked
 
 -- the place `next` was picked just now, after these places
 abbrev pub Picked : Task → Explored → List ℕ → ℕ → Type 0
 Picked task explored picked next =
-    AtPick task explored.notes.numbers explored.nodes explored.origins.items explored.picker picked next
+    AtPick task explored.cache.numbers explored.nodes explored.origins.items explored.picker picked next
 
 -- the place `next` was picked after these places, and the first `i` of these steps from its node were made
 abbrev pub TriesAt : Task → Explored → List ℕ → ℕ → List Step → Bool → ℕ → Type 0
 TriesAt task explored picked next steps is_all i =
-    Trying task explored.notes.numbers explored.nodes explored.origins.items explored.picker picked next steps is_all i
+    Trying task explored.cache.numbers explored.nodes explored.origins.items explored.picker picked next steps is_all i
 
 -- what stopped the search is so, and what is kept is right, unless memory ran out
 abbrev pub StopsAt : Task → Explored → Stop → Type 0
 StopsAt task explored Solved =
-    IsExploring task explored × IsReached task explored.notes.numbers explored.nodes explored.origins.items
+    IsExploring task explored × IsReached task explored.cache.numbers explored.nodes explored.origins.items
 StopsAt task explored (Full moves) =
-    IsExploring task explored × IsFull task explored.notes.numbers explored.nodes explored.origins.items moves
+    IsExploring task explored × IsFull task explored.cache.numbers explored.nodes explored.origins.items moves
 StopsAt task explored (Limited limit) =
-    IsExploring task explored × IsLimitedAt task explored.notes.numbers explored.nodes explored.origins.items limit
+    IsExploring task explored × IsLimitedAt task explored.cache.numbers explored.nodes explored.origins.items limit
 StopsAt task explored OutOfMemory = Unit {0}
 
 -- how the tree of a search ends that came to this, where so many shapes are the limit
@@ -143,23 +143,23 @@ EndsAs shapes (Err OutOfMemory) end = ⊥
 
 -- these are the lists that the search has found
 abbrev pub AreFound : Task → Explored → List (List Move) → Type 0
-AreFound task explored found = AreFoundBy task explored.notes.numbers explored.nodes explored.origins.items found
+AreFound task explored found = AreFoundBy task explored.cache.numbers explored.nodes explored.origins.items found
 
 -- no node is left, and none is solved
 abbrev pub IsGone : Task → Explored → Type 0
-IsGone task explored = IsSpent task explored.notes.numbers explored.nodes explored.origins.items
+IsGone task explored = IsSpent task explored.cache.numbers explored.nodes explored.origins.items
 
 -- the pair is the initial node, which alone is found
 pub record IsStarted (task : Task) (explored : Explored) (key : NodeKey) : Type 0 where
-  pub stands : IsKeyOf explored.notes.numbers key (initial_node task)
+  pub stands : IsKeyOf explored.cache.numbers key (initial_node task)
   pub nodes : explored.nodes ≡ key ∷ []
   pub origins : explored.origins.items ≡ []
   pub picker : IsFirstPicker task explored.picker
 
 -- nothing is found yet, and what is kept is right
 pub record IsUnexplored (task : Task) (explored : Explored) : Type 0 where
-  pub notes : AreRight task explored.notes
-  pub scene : explored.scene.number ≡ None
+  pub cache : AreRight task explored.cache
+  pub current : explored.current.number ≡ None
   pub nodes : explored.nodes ≡ []
   pub origins : explored.origins.items ≡ []
   pub picker : IsFirstPicker task explored.picker

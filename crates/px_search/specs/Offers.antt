@@ -16,8 +16,8 @@ use Rattle.px_diff.specs.Stacks.{AreUnlimitedOver}
 use Rattle.px_numbers.specs.Numbers.{Kept, IsModelAt}
 use Rattle.px_ends.specs.Tasks.{Task}
 use Rattle.px_search.specs.Steps.{AreStepsOf}
-use Rattle.px_search.specs.declared.notes.Offer.{Offer}
-use Rattle.px_search.specs.declared.notes.Want.{Want}
+use Rattle.px_search.specs.declared.cache.Offer.{Offer}
+use Rattle.px_search.specs.declared.cache.Want.{Want}
 use Rattle.px_search.specs.declared.step.Step.{Step}
 
 -- The entries are the first, in order, of those that may be pushed for one of the wanted atoms where the stack is empty: each other one

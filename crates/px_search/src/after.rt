@@ -7,11 +7,13 @@ ghost use Rattle.px_table.specs.declared.node.Node.{Node};
 ghost use Rattle.px_entries.specs.Entries.{IsEntry};
 ghost use Rattle.px_numbers.specs.Numbers.{IsKeyOf, KeepsAll};
 ghost use Rattle.px_support.specs.Asking.{IsAskable, task_for};
-ghost use Rattle.px_search.specs.Notes.{AreRight, HaveGrown};
+ghost use Rattle.px_search.specs.Cache.{AreRight, HaveGrown};
+ghost use Rattle.px_search.specs.CurrentModels.{IsCurrent};
 ghost use Rattle.px_search.specs.Steps.{DescribesMove};
 ghost use Rattle.px_ends.specs.Tasks.{after};
 
-use crate::notes::{EntryPlace, Notes};
+use crate::cache::{Cache, EntryPlace};
+use crate::current::CurrentModel;
 use crate::step::Step;
 use px_numbers::{NodeKey, Numbers};
 use px_support::Asked;
@@ -32,14 +34,20 @@ fn pushed(numbers: &mut Numbers, key: NodeKey, entry: u32) -> Result<NodeKey, No
     })
 }
 
-impl Notes {
+impl Cache {
     /// Returns the node whose top entry is applied.
-    fn applied(&mut self, asked: &Asked, key: NodeKey) -> Result<NodeKey, NoMemory>
+    fn applied(
+        &mut self,
+        asked: &Asked,
+        current: &CurrentModel,
+        key: NodeKey,
+    ) -> Result<NodeKey, NoMemory>
         requires asked { IsAskable asked.now }
-        requires notes { AreRight (task_for asked.now) self.old }
+        requires cache { AreRight (task_for asked.now) self.old }
+        requires current { IsCurrent (task_for asked.now) self.old.numbers current.now }
         requires node { (node : Node) × IsKeyOf self.old.numbers key node
             × All (IsEntry asked.now.problem.now asked.now.tables.now) node.stack }
-        ensures notes { OnOk result (HaveGrown (task_for asked.now) self.old self.new) }
+        ensures cache { OnOk result (HaveGrown (task_for asked.now) self.old self.new) }
         ensures there { IfOk result (λ there. (node : Node) → IsKeyOf self.old.numbers key node
             → IsKeyOf self.new.numbers there (after (task_for asked.now) node Apply)) }
     {
@@ -50,7 +58,7 @@ impl Notes {
             model: key.model,
             entry: frame.entry,
         };
-        let model = self.result_at(asked, place)?;
+        let model = self.result_at(asked, current, place)?;
         Ok(NodeKey {
             model,
             stack: frame.below,
@@ -58,17 +66,24 @@ impl Notes {
     }
 
     /// Returns the node that the move leads to.
-    pub fn after(&mut self, asked: &Asked, key: NodeKey, step: Step) -> Result<NodeKey, NoMemory>
+    pub fn after(
+        &mut self,
+        asked: &Asked,
+        current: &CurrentModel,
+        key: NodeKey,
+        step: Step,
+    ) -> Result<NodeKey, NoMemory>
         requires asked { IsAskable asked.now }
-        requires notes { AreRight (task_for asked.now) self.old }
+        requires cache { AreRight (task_for asked.now) self.old }
+        requires current { IsCurrent (task_for asked.now) self.old.numbers current.now }
         requires node { (node : Node) × IsKeyOf self.old.numbers key node
             × All (IsEntry asked.now.problem.now asked.now.tables.now) node.stack }
-        ensures notes { OnOk result (HaveGrown (task_for asked.now) self.old self.new) }
+        ensures cache { OnOk result (HaveGrown (task_for asked.now) self.old self.new) }
         ensures there { IfOk result (λ there. (node : Node) (m : Move) → IsKeyOf self.old.numbers key node
             → DescribesMove self.old.numbers step m → IsKeyOf self.new.numbers there (after (task_for asked.now) node m)) }
     {
         match step {
-            Step::Apply => self.applied(asked, key),
+            Step::Apply => self.applied(asked, current, key),
             Step::Push(entry) => pushed(&mut self.numbers, key, entry),
         }
     }

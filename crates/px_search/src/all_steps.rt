@@ -7,11 +7,11 @@ ghost use Rattle.px_numbers.specs.Numbers.{IsKeyOf, IsModelAt, KeepsAll};
 ghost use Rattle.px_ends.specs.Tasks.{needs_at, needs_with};
 ghost use Rattle.px_support.specs.Asking.{IsAskable, task_for};
 ghost use Rattle.px_search.specs.Going.{IsAskedAt, IsGoneOn, LimitsAt, LimitsNode};
-ghost use Rattle.px_search.specs.Notes.{AreRight, HaveGrown, OnAnswer};
+ghost use Rattle.px_search.specs.Cache.{AreRight, HaveGrown, OnAnswer};
 ghost use Rattle.px_search.specs.declared.step.Step.{Step};
 ghost use Rattle.px_table.specs.declared.node.Node.{Node};
 
-use crate::notes::Notes;
+use crate::cache::Cache;
 use crate::picks::numbered;
 use crate::step::Step;
 use px_diff::{MoveErr, relevant};
@@ -57,11 +57,11 @@ pub fn pushes(
     }
 }
 
-impl Notes {
+impl Cache {
     /// Returns what is known of the entry in the model.
     pub fn known_top(&self, asked: &Asked, entry: &Entry, model: &Model) -> Result<Known, NoMemory>
         requires asked { IsAskable asked.now }
-        requires notes { AreRight (task_for asked.now) self.now }
+        requires cache { AreRight (task_for asked.now) self.now }
         requires entry { IsEntry asked.now.problem.now asked.now.tables.now entry.now }
         ensures { IfOk result (IsKnownOf asked.now.problem.now
             (obligations_of asked.now.problem.now asked.now.tables.now model.now.atoms entry.now)) }
@@ -75,7 +75,7 @@ impl Notes {
     /// Returns what is known of what the node needs.
     fn known_at(&self, asked: &Asked, model: &Model, key: NodeKey) -> Result<Known, NoMemory>
         requires asked { IsAskable asked.now }
-        requires notes { AreRight (task_for asked.now) self.now }
+        requires cache { AreRight (task_for asked.now) self.now }
         requires node { IsAskedAt (task_for asked.now) self.now.numbers key }
         requires model { IsModelAt self.now.numbers key.model model.now.atoms }
         ensures { IfOk result (λ known. (node : Node) → IsKeyOf self.now.numbers key node
@@ -93,9 +93,9 @@ impl Notes {
     /// `ShapeLimit` where a question of the node meets the limit. `NoMemory` where there is no memory.
     pub fn all_steps_from(&mut self, asked: &Asked, key: NodeKey) -> Result<Vec<Step>, MoveErr>
         requires asked { IsAskable asked.now }
-        requires notes { AreRight (task_for asked.now) self.old }
+        requires cache { AreRight (task_for asked.now) self.old }
         requires node { IsAskedAt (task_for asked.now) self.old.numbers key }
-        ensures notes { OnAnswer result (HaveGrown (task_for asked.now) self.old self.new) }
+        ensures cache { OnAnswer result (HaveGrown (task_for asked.now) self.old self.new) }
         ensures steps { IfOk result (λ steps. (node : Node) → IsKeyOf self.old.numbers key node
             → IsGoneOn (task_for asked.now) self.new.numbers node steps.items) }
         ensures limited { IfStopped result (LimitsAt (task_for asked.now) self.old.numbers key) }

@@ -4,9 +4,11 @@ ghost use Rattle.px_terms.specs.Language.{IsVariableBelow};
 ghost use Rattle.px_terms.specs.Operators.{atoms_of};
 ghost use Rattle.px_terms.specs.Validity.{IsGroundInstanceOf};
 ghost use Rattle.px_support.specs.Asking.{IsAskable, task_for};
-ghost use Rattle.px_search.specs.Notes.{AreRight, HaveGrown, IsAlterationAt, IsAlterationOf, IsEntryAt, IsResultAt};
+ghost use Rattle.px_search.specs.Cache.{AreRight, HaveGrown, IsAlterationAt, IsAlterationOf, IsEntryAt, IsResultAt};
+ghost use Rattle.px_search.specs.CurrentModels.{IsCurrent};
 
-use crate::notes::{Alteration, EntryPlace, Notes};
+use crate::cache::{Alteration, Cache, EntryPlace};
+use crate::current::CurrentModel;
 use crate::results::result_anew;
 use px_numbers::Numbers;
 use px_ops::schema_of;
@@ -63,55 +65,54 @@ fn alteration_at(
     }
 }
 
-impl Notes {
+impl Cache {
     /// Returns the number of the model that the entry leaves, which changes this, as it is kept, or found and then kept.
     fn result_altered(
         &mut self,
         asked: &Asked,
+        current: &CurrentModel,
         place: EntryPlace,
         alteration: Alteration,
     ) -> Result<u32, NoMemory>
         requires asked { IsAskable asked.now }
-        requires notes { AreRight (task_for asked.now) self.old }
+        requires cache { AreRight (task_for asked.now) self.old }
+        requires current { IsCurrent (task_for asked.now) self.old.numbers current.now }
         requires place { IsEntryAt (task_for asked.now) self.old.numbers place }
         requires alteration { IsAlterationAt (task_for asked.now) self.old.numbers place alteration }
-        ensures notes { OnOk result (HaveGrown (task_for asked.now) self.old self.new) }
+        ensures cache { OnOk result (HaveGrown (task_for asked.now) self.old self.new) }
         ensures number { IfOk result (IsResultAt (task_for asked.now) self.new.numbers place) }
     {
         match self.altered.get(&alteration) {
             Some(number) => Ok(*number),
             None => {
-                let number = result_anew(asked, &mut self.numbers, place)?;
+                let number = result_anew(asked, &mut self.numbers, current, place)?;
                 self.altered.insert(alteration, number)?;
                 Ok(number)
             }
         }
     }
 
-    /// Returns the number of the model that a MACROP leaves, by applying it.
-    fn result_applied(&mut self, asked: &Asked, place: EntryPlace) -> Result<u32, NoMemory>
-        requires asked { IsAskable asked.now }
-        requires notes { AreRight (task_for asked.now) self.old }
-        requires place { IsEntryAt (task_for asked.now) self.old.numbers place }
-        ensures notes { OnOk result (HaveGrown (task_for asked.now) self.old self.new) }
-        ensures number { IfOk result (IsResultAt (task_for asked.now) self.new.numbers place) }
-    {
-        let number = result_anew(asked, &mut self.numbers, place)?;
-        Ok(number)
-    }
-
     /// Returns the number of the model that applying the entry leaves. What operators change alike in a model leaves it once.
-    pub fn result_found(&mut self, asked: &Asked, place: EntryPlace) -> Result<u32, NoMemory>
+    pub fn result_found(
+        &mut self,
+        asked: &Asked,
+        current: &CurrentModel,
+        place: EntryPlace,
+    ) -> Result<u32, NoMemory>
         requires asked { IsAskable asked.now }
-        requires notes { AreRight (task_for asked.now) self.old }
+        requires cache { AreRight (task_for asked.now) self.old }
+        requires current { IsCurrent (task_for asked.now) self.old.numbers current.now }
         requires place { IsEntryAt (task_for asked.now) self.old.numbers place }
-        ensures notes { OnOk result (HaveGrown (task_for asked.now) self.old self.new) }
+        ensures cache { OnOk result (HaveGrown (task_for asked.now) self.old self.new) }
         ensures number { IfOk result (IsResultAt (task_for asked.now) self.new.numbers place) }
     {
         let found = alteration_at(asked, &self.numbers, place)?;
         match found {
-            Some(alteration) => self.result_altered(asked, place, alteration),
-            None => self.result_applied(asked, place),
+            Some(alteration) => self.result_altered(asked, current, place, alteration),
+            None => {
+                let number = result_anew(asked, &mut self.numbers, current, place)?;
+                Ok(number)
+            }
         }
     }
 }

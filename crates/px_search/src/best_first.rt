@@ -2,10 +2,9 @@
 ghost use Rattle.std.specs.Prelude.{◌≡◌, ◌+◌, ◌<◌, ◌≤◌, ◌∷◌, [], ℕ, Bool, List, length, slice_get, Some, IfOk, IfErr, IsTrue, OnOk};
 ghost use Rattle.px_base.specs.Bounds.{u32_max};
 ghost use Rattle.px_table.specs.declared.entry.Move.{Move};
-ghost use Rattle.px_table.specs.declared.node.Node.{Node};
 ghost use Rattle.px_entries.specs.Unlimited.{IsNeverLimited};
 ghost use Rattle.px_numbers.specs.Numbers.{IsKeyOf, KeepsAll};
-ghost use Rattle.px_ends.specs.ByValue.{IsFound, IsShapeLimit};
+ghost use Rattle.px_ends.specs.ByValue.{IsFound};
 ghost use Rattle.px_ends.specs.Tasks.{Task, initial_node};
 ghost use Rattle.px_support.specs.Asking.{IsAskable, task_for};
 ghost use Rattle.px_search.specs.Asking.{IsTriedAt};
@@ -13,11 +12,12 @@ ghost use Rattle.px_search.specs.Looping.{GoesOn, IsEnd, IsExploring, IsFull, Is
 ghost use Rattle.px_search.specs.Steps.{AreEarlier, Trace};
 ghost use Rattle.px_search.specs.declared.step.Step.{Step};
 
+use crate::cache::Cache;
+use crate::current::CurrentModel;
 use crate::ends::SearchErr;
-use crate::notes::Notes;
 use crate::origins::moves_to;
 use crate::picker::Picker;
-use crate::scene::Scene;
+use crate::picks::step_at;
 use crate::step::{Origin, Step};
 use crate::stop::{Limit, Stop};
 use crate::tried::try_node;
@@ -36,14 +36,6 @@ fn start_key(asked: &Asked, numbers: &mut Numbers) -> Result<NodeKey, NoMemory>
 {
     let model = numbers.model_number(asked.alloc, asked.initial)?;
     Ok(NodeKey { model, stack: 0 })
-}
-
-/// Returns the step at the place.
-fn step_at(steps: &Vec<Step>, place: usize) -> Step
-    requires { place < length steps.now.items }
-    ensures { slice_get steps.now.items place ≡ Some result }
-{
-    steps[place]
 }
 
 /// Returns the moves to the last of the nodes.
@@ -78,9 +70,9 @@ fn count_to(alloc: Global, numbers: &Numbers, origins: &Vec<Origin>) -> Result<u
 /// The nodes that a search has found, and what it keeps.
 #[derive(Drop)]
 pub struct Explored {
-    pub notes: Notes,
+    pub cache: Cache,
     /// The model that was looked at last.
-    pub scene: Scene,
+    pub current: CurrentModel,
     /// The nodes, in the order in which they were found.
     pub nodes: NodeSet,
     /// Where all nodes but the first come from, in order.
@@ -103,8 +95,8 @@ impl Explored {
         ensures stops { IfErr result (StopsAt (task_for asked.now) self.new) }
     {
         let key = self.nodes.node(next);
-        let there = self.notes.after(asked, key, step)?;
-        self.notes.numbers.sound();
+        let there = self.cache.after(asked, &self.current, key, step)?;
+        self.cache.numbers.sound();
         let count = self.nodes.count();
         let place = self.nodes.intern(there)?;
         if (place as usize) < count {
@@ -116,15 +108,15 @@ impl Explored {
         };
         self.origins.push(origin)?;
         if count >= asked.nodes as usize {
-            let moves = count_to(asked.alloc, &self.notes.numbers, &self.origins)?;
+            let moves = count_to(asked.alloc, &self.cache.numbers, &self.origins)?;
             return Err(Stop::Full { moves });
         }
-        let tried = try_node(asked, &self.notes.numbers, there)?;
+        let tried = try_node(asked, &self.cache.numbers, there)?;
         match tried {
             Tried::Answered => Err(Stop::Solved),
             Tried::Unanswered => {
                 self.picker
-                    .go_on(asked, &self.notes.numbers, origin, there)?;
+                    .go_on(asked, &self.cache.numbers, origin, there)?;
                 Ok(())
             }
             Tried::Limited(met) => Err(Stop::Limited(Limit { key: there, met })),
@@ -173,7 +165,7 @@ impl Explored {
         ensures stops { IfErr result (StopsAt (task_for asked.now) self.new) }
     {
         let key = self.nodes.node(next);
-        let steps = match self.notes.all_steps_from(asked, key) {
+        let steps = match self.cache.all_steps_from(asked, key) {
             Ok(steps) => steps,
             Err(MoveErr::ShapeLimit(_)) => unreachable!(),
             Err(MoveErr::NoMemory) => return Err(Stop::NoMemory),
@@ -195,16 +187,16 @@ impl Explored {
         ensures stops { IfErr result (StopsAt (task_for asked.now) self.new) }
     {
         let key = self.nodes.node(next);
-        let begun = match self.notes.begun_from(asked, &mut self.scene, key) {
-            Ok(begun) => begun,
+        let successors = match self.cache.successors_of(asked, &mut self.current, key) {
+            Ok(successors) => successors,
             Err(MoveErr::ShapeLimit(met)) => return Err(Stop::Limited(Limit { key, met })),
             Err(MoveErr::NoMemory) => return Err(Stop::NoMemory),
         };
-        self.make_all(asked, next, &begun.steps, 0)?;
-        if begun.is_all {
+        self.make_all(asked, next, &successors.steps, 0)?;
+        if successors.is_all {
             return Ok(());
         }
-        self.make_others(asked, next, begun.steps.len())?;
+        self.make_others(asked, next, successors.steps.len())?;
         Ok(())
     }
 
@@ -231,14 +223,14 @@ impl Explored {
         ensures { (task : Task) → task.problem.weight ≡ weight
             → (IsTrue is_never_limited → IsNeverLimited task.problem task.tables) → IsUnexplored task result }
     {
-        let notes = Notes::new(alloc, is_never_limited);
-        let scene = Scene::new(alloc);
+        let cache = Cache::new(alloc, is_never_limited);
+        let current = CurrentModel::new(alloc);
         let nodes = NodeSet::new(alloc);
         let origins = Vec::new(alloc);
         let picker = Picker::new(alloc, weight);
         Explored {
-            notes,
-            scene,
+            cache,
+            current,
             nodes,
             origins,
             picker,
@@ -254,7 +246,7 @@ impl Explored {
         ensures gone { OnOk result (IsGone (task_for asked.now) self.new) }
         ensures stops { IfErr result (StopsAt (task_for asked.now) self.new) }
     {
-        self.picker.start(asked, &self.notes.numbers, start)?;
+        self.picker.start(asked, &self.cache.numbers, start)?;
         self.walk(asked)
     }
 
@@ -265,9 +257,9 @@ impl Explored {
         ensures gone { OnOk result (IsGone (task_for asked.now) self.new) }
         ensures stops { IfErr result (StopsAt (task_for asked.now) self.new) }
     {
-        let start = start_key(asked, &mut self.notes.numbers)?;
+        let start = start_key(asked, &mut self.cache.numbers)?;
         self.nodes.intern(start)?;
-        let tried = try_node(asked, &self.notes.numbers, start)?;
+        let tried = try_node(asked, &self.cache.numbers, start)?;
         match tried {
             Tried::Answered => Err(Stop::Solved),
             Tried::Unanswered => self.walk_from(asked, start),
@@ -277,11 +269,11 @@ impl Explored {
 
     /// Returns the end where a question meets the limit.
     fn shape_limit(self, asked: &Asked, limit: Limit) -> SearchErr
-        requires limited { IsLimitedAt (task_for asked.now) self.notes.numbers self.nodes self.origins.items limit }
+        requires limited { IsLimitedAt (task_for asked.now) self.cache.numbers self.nodes self.origins.items limit }
         ensures { IsEnd (task_for asked.now) result }
     {
         let Limit { key, met } = limit;
-        match node_at(asked.alloc, &self.notes.numbers, key) {
+        match node_at(asked.alloc, &self.cache.numbers, key) {
             Ok(node) => SearchErr::ShapeLimit { node, limit: met },
             Err(_) => SearchErr::NoMemory,
         }
@@ -289,11 +281,11 @@ impl Explored {
 
     /// Returns the end where there is no room for the last node, which this number of moves reaches.
     fn node_limit(self, asked: &Asked, moves: u32) -> SearchErr
-        requires full { IsFull (task_for asked.now) self.notes.numbers self.nodes self.origins.items moves }
+        requires full { IsFull (task_for asked.now) self.cache.numbers self.nodes self.origins.items moves }
         ensures { IsEnd (task_for asked.now) result }
     {
-        let Explored { notes, nodes, .. } = self;
-        let Notes { numbers, .. } = notes;
+        let Explored { cache, nodes, .. } = self;
+        let Cache { numbers, .. } = cache;
         let firsts = FirstNodes::new(numbers, nodes, asked.nodes as usize);
         SearchErr::NodeLimit {
             nodes: firsts,
@@ -303,10 +295,10 @@ impl Explored {
 
     /// Returns the moves to the last node, which is solved.
     fn path(self, asked: &Asked) -> Result<Sequence<Move>, NoMemory>
-        requires reached { IsReached (task_for asked.now) self.notes.numbers self.nodes self.origins.items }
+        requires reached { IsReached (task_for asked.now) self.cache.numbers self.nodes self.origins.items }
         ensures { IfOk result (IsFound (task_for asked.now) asked.now.problem.now.weight) }
     {
-        path_to(asked.alloc, &self.notes.numbers, &self.origins)
+        path_to(asked.alloc, &self.cache.numbers, &self.origins)
     }
 }
 

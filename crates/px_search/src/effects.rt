@@ -1,5 +1,5 @@
 //! The steps that applying an entry takes, and what they leave.
-ghost use Rattle.std.specs.Prelude.{◌≡◌, ◌∷◌, [], length, map, All, IfOk};
+ghost use Rattle.std.specs.Prelude.{◌≡◌, ◌∷◌, [], length, map, All, IfOk, OnOk};
 ghost use Rattle.px_terms.specs.Language.{IsVariableBelow};
 ghost use Rattle.px_terms.specs.Operators.{results_of};
 ghost use Rattle.px_terms.specs.Validity.{IsGroundInstanceOf, IsValid};
@@ -7,8 +7,8 @@ ghost use Rattle.px_table.specs.Kernels.{instance_under};
 ghost use Rattle.px_entries.specs.Entries.{IsEntry, effect_of};
 ghost use Rattle.px_support.specs.Asking.{IsAskable};
 
-use px_ops::{Model, apply_op};
-use px_support::Asked;
+use px_ops::Model;
+use px_support::{Asked, apply_to};
 use px_table::{Entry, instance_with};
 use px_terms::{NoMemory, OpInst, Problem};
 use std::alloc::Global;
@@ -55,31 +55,25 @@ pub fn effect(asked: &Asked, entry: &Entry) -> Result<Vec<OpInst>, NoMemory>
     }
 }
 
-/// Returns the model that the steps leave.
-fn result_of_steps(
-    alloc: Global,
-    problem: &Problem,
-    model: &Model,
-    steps: &[OpInst],
-) -> Result<Model, NoMemory>
+/// Changes the model to the one that the steps leave.
+fn apply_steps(problem: &Problem, model: &mut Model, steps: &[OpInst]) -> Result<(), NoMemory>
     requires problem { IsValid problem.now }
     requires steps { All (IsGroundInstanceOf problem.now) steps.now }
-    ensures { IfOk result (λ after. after.atoms ≡ results_of problem.now model.now.atoms steps.now) }
+    ensures { OnOk result (model.new.atoms ≡ results_of problem.now model.old.atoms steps.now) }
 {
-    let mut next = model.try_copy()?;
     for step in steps {
-        next = apply_op(alloc, problem, &next, step)?;
+        apply_to(problem, model, step)?;
     }
-    Ok(next)
+    Ok(())
 }
 
-/// Returns the model that applying the entry leaves.
-pub fn result_of(asked: &Asked, model: &Model, entry: &Entry) -> Result<Model, NoMemory>
+/// Changes the model to the one that applying the entry leaves.
+pub fn apply_entry(asked: &Asked, model: &mut Model, entry: &Entry) -> Result<(), NoMemory>
     requires asked { IsAskable asked.now }
     requires entry { IsEntry asked.now.problem.now asked.now.tables.now entry.now }
-    ensures { IfOk result (λ after. after.atoms ≡ results_of asked.now.problem.now model.now.atoms
+    ensures { OnOk result (model.new.atoms ≡ results_of asked.now.problem.now model.old.atoms
         (effect_of asked.now.tables.now entry.now)) }
 {
     let steps = effect(asked, entry)?;
-    result_of_steps(asked.alloc, asked.problem, model, steps.as_slice())
+    apply_steps(asked.problem, model, steps.as_slice())
 }

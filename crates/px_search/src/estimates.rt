@@ -9,10 +9,10 @@ ghost use Rattle.px_ends.specs.Lacks.{needs as needs_of};
 ghost use Rattle.px_ends.specs.Tasks.{Task, after};
 ghost use Rattle.px_support.specs.Asking.{IsAskable, task_for};
 ghost use Rattle.px_search.specs.Estimating.{AreCounted, IsCountAt, IsGoalCountAt};
-ghost use Rattle.px_search.specs.Notes.{IsEntryAt};
+ghost use Rattle.px_search.specs.Cache.{IsEntryAt};
 ghost use Rattle.px_search.specs.Steps.{DescribesMove};
 
-use crate::notes::EntryPlace;
+use crate::cache::EntryPlace;
 use crate::step::Step;
 use indexmap::IndexMap;
 use px_lacks::{lacks, lacks_of};

@@ -18,22 +18,23 @@
 //! - Which questions are asked is what the definition says (`IsAsked`): those of each node that is picked up to the one from which the
 //!   stop is reached, and the goal at each node with an empty stack that is found before the stop, and at the stop itself if there is room.
 //! - [`search_tree`] goes the same way, with room for as many nodes as it is told, and answers the tree (`IsTree` of
-//!   `px_ends/specs/Trees`): for each node that was found the place of the one that it comes from, the move between them and what the node lacks, and how the search ended.
+//!   `px_ends/specs/Trees`): for each node that was found the place of the one that it comes from, the move between them and what the node
+//!   lacks, and how the search ended.
 //!   Where a question meets the limit of shapes, these are the nodes that were found before the first such question. A search has one tree
 //!   ([`trees_are_one`]).
 //!
 //! # Inside
 //!
 //! Models, entries, stacks and nodes are numbers (`px_numbers`). The model that is looked at is kept from one node to the next, with the
-//! number of the part of it that decides what may be pushed (`scene`). All else that is learned is kept in one place (`notes`). What an
+//! number of the part of it that decides what may be pushed (`current`). All else that is learned is kept in one place (`cache`). What an
 //! entry allows in a model doesn't depend on what is below it on the stack, apart from which entries are there: what is learned of a pair
 //! of entry and model is kept (`moves`), unless a question about it meets the limit of shapes. So is the model that applying the entry
-//! leaves (`results`): of an operator, for all its instances that delete and add the same (`alterations`). What may be pushed for a wanted atom is kept too (`offering`): for all models with the same deciding facts, where
-//! no question about an entry ever meets the limit, and else for that model. The lists for the wanted atoms of a node are joined by their
-//! order (`merging`).
+//! leaves (`results`): of an operator, for all its instances that delete and add the same (`alterations`). What may be pushed for a wanted
+//! atom is kept too (`offering`): for all models with the same deciding facts, where no question about an entry ever meets the limit, and
+//! else for that model. The lists for the wanted atoms of a node are joined by their order (`merging`).
 //!
 //! Where no question ever meets the limit and a node may push more entries than the node limit has room for, only the first of them are
-//! found, and kept (`begun`). All are asked for (`all_steps`) where the first were gone through and there is room left.
+//! found, and kept (`successors`). All are asked for (`all_steps`) where the first were gone through and there is room left.
 //!
 //! Which node is gone through next is what the `picker` says: without a weight a counter, and else the agenda of `px_order`, with the value
 //! of each node. What an entry lacks in a model is counted once (`estimates`, by `px_lacks`): a push adds one such number, and after an
@@ -46,24 +47,24 @@
 mod after;
 mod all_steps;
 mod alterations;
-mod begun;
 mod best_first;
+mod cache;
+mod current;
 mod effects;
 mod ends;
 mod estimates;
 mod laws;
 mod merging;
 mod moves;
-mod notes;
 mod offering;
 mod origins;
 mod picker;
 mod picks;
 mod planning;
 mod results;
-mod scene;
 mod step;
 mod stop;
+mod successors;
 mod trees;
 mod tried;
 

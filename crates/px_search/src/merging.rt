@@ -15,7 +15,7 @@ use std::alloc::Global;
 use std::cmp::Ordering;
 
 /// Returns the entry that the step pushes.
-fn pushed(numbers: &Numbers, step: Step) -> &Entry
+fn entry_of(numbers: &Numbers, step: Step) -> &Entry
     requires { (entry : Entry) × DescribesMove numbers.now step (move.Push entry) }
     ensures { (entry : Entry) → DescribesMove numbers.now step (move.Push entry) → result.now ≡ entry }
 {
@@ -32,7 +32,7 @@ fn compared(numbers: &Numbers, one: Step, other: Step) -> Ordering
     ensures { (first second : Entry) → DescribesMove numbers.now one (move.Push first) → DescribesMove numbers.now other (move.Push second)
         → result ≡ order_of_entries first second }
 {
-    pushed(numbers, one).cmp(pushed(numbers, other))
+    entry_of(numbers, one).cmp(entry_of(numbers, other))
 }
 
 /// Returns the pushes that stand in one of the lists, in order, each once.

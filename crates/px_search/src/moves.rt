@@ -9,18 +9,18 @@ ghost use Rattle.px_diff.specs.Outcomes.{IfStopped};
 ghost use Rattle.px_numbers.specs.Numbers.{IsKeyOf, IsTopOf, KeepsAll};
 ghost use Rattle.px_support.specs.Asking.{IsAskable, task_for};
 ghost use Rattle.px_search.specs.Asking.{IsTriedAt};
-ghost use Rattle.px_search.specs.Notes.{AreRight, HaveGrown, OnAnswer};
+ghost use Rattle.px_search.specs.Cache.{AreRight, HaveGrown, OnAnswer};
 ghost use Rattle.px_search.specs.Offers.{IsPartAt};
-ghost use Rattle.px_search.specs.Scenes.{IsHere, IsScene, IsSceneAt, alone_here, node_here};
-ghost use Rattle.px_search.specs.Going.{BeginsAt, IsAskedAt, IsBegunOn, LimitsAt, LimitsNode};
+ghost use Rattle.px_search.specs.CurrentModels.{IsHere, IsCurrent, IsCurrentAt, alone_here, node_here};
+ghost use Rattle.px_search.specs.Going.{BeginsAt, IsAskedAt, AreFirstSuccessors, LimitsAt, LimitsNode};
 ghost use Rattle.px_ends.specs.Tasks.{needs_at, needs_with};
 
 use crate::all_steps::{only_apply, pushes};
-use crate::begun::Begun;
-use crate::notes::{EntryPlace, Notes, Offer};
+use crate::cache::{Cache, EntryPlace, Offer};
+use crate::current::CurrentModel;
 use crate::picks::struck;
-use crate::scene::Scene;
 use crate::step::Step;
+use crate::successors::Successors;
 use px_diff::MoveErr;
 use px_gaps::{Known, known_formula};
 use px_numbers::{Frame, NodeKey, Numbers, stack_at};
@@ -29,12 +29,12 @@ use px_support::Asked;
 use px_table::Entry;
 use px_terms::{Atom, NoMemory, Sequence};
 
-/// A node with an entry on top: the entry in its model, the stack below, and the scene.
+/// A node with an entry on top: the entry in its model, the stack below, and the current model.
 #[derive(Clone, Copy)]
 pub struct Here<'a> {
     pub place: EntryPlace,
     pub below: u32,
-    pub scene: &'a Scene,
+    pub current: &'a CurrentModel,
     pub stack: &'a [Entry],
 }
 
@@ -45,16 +45,17 @@ fn all_pushes(
     model: &Model,
     stack: &[Entry],
     gaps: &[Atom],
-) -> Result<Begun, MoveErr>
+) -> Result<Successors, MoveErr>
     requires asked { IsAskable asked.now }
     requires gaps { IsOpenWith asked.now.problem.now (needs_with (task_for asked.now) model.now.atoms stack.now) gaps.now }
     ensures keeps { KeepsAll numbers.old numbers.new }
-    ensures steps { IfOk result (λ begun. IsBegunOn (task_for asked.now) numbers.new (record { model = model.now.atoms; stack = stack.now })
-        begun.steps.items begun.is_all) }
+    ensures steps { IfOk result (λ successors. AreFirstSuccessors (task_for asked.now) numbers.new
+        (record { model = model.now.atoms; stack = stack.now })
+        successors.steps.items successors.is_all) }
     ensures limited { IfStopped result (LimitsNode (task_for asked.now) (record { model = model.now.atoms; stack = stack.now })) }
 {
     match pushes(asked, numbers, model, stack, gaps) {
-        Ok(steps) => Ok(Begun {
+        Ok(steps) => Ok(Successors {
             steps,
             is_all: true,
         }),
@@ -62,37 +63,37 @@ fn all_pushes(
     }
 }
 
-impl Notes {
+impl Cache {
     /// Returns the first moves that are allowed at the node, in order.
     ///
     /// # Errors
     /// `ShapeLimit` where a question of the node meets the limit. `NoMemory` where there is no memory.
-    pub fn begun_from(
+    pub fn successors_of(
         &mut self,
         asked: &Asked,
-        scene: &mut Scene,
+        current: &mut CurrentModel,
         key: NodeKey,
-    ) -> Result<Begun, MoveErr>
+    ) -> Result<Successors, MoveErr>
         requires asked { IsAskable asked.now }
-        requires notes { AreRight (task_for asked.now) self.old }
-        requires scene { IsScene (task_for asked.now) self.old.numbers scene.old }
+        requires cache { AreRight (task_for asked.now) self.old }
+        requires current { IsCurrent (task_for asked.now) self.old.numbers current.old }
         requires node { IsAskedAt (task_for asked.now) self.old.numbers key }
-        ensures notes { OnAnswer result (HaveGrown (task_for asked.now) self.old self.new) }
-        ensures scene { OnAnswer result (IsScene (task_for asked.now) self.new.numbers scene.new) }
+        ensures cache { OnAnswer result (HaveGrown (task_for asked.now) self.old self.new) }
+        ensures current { OnAnswer result (IsCurrent (task_for asked.now) self.new.numbers current.new) }
         ensures steps { IfOk result (BeginsAt (task_for asked.now) self.old.numbers self.new.numbers key) }
         ensures limited { IfStopped result (LimitsAt (task_for asked.now) self.old.numbers key) }
     {
         let kept = self.kept_steps(asked, key)?;
-        if let Some(begun) = kept {
-            return Ok(begun);
+        if let Some(successors) = kept {
+            return Ok(successors);
         }
-        self.show(asked, scene, key.model)?;
-        self.steps_anew(asked, scene, key)
+        self.show(asked, current, key.model)?;
+        self.steps_anew(asked, current, key)
     }
 
     /// Returns the first moves of the node, if those are kept where its top entry stands on the stack alone.
-    fn kept_steps(&self, asked: &Asked, key: NodeKey) -> Result<Option<Begun>, NoMemory>
-        requires notes { AreRight (task_for asked.now) self.now }
+    fn kept_steps(&self, asked: &Asked, key: NodeKey) -> Result<Option<Successors>, NoMemory>
+        requires cache { AreRight (task_for asked.now) self.now }
         requires node { (node : Node) × IsKeyOf self.now.numbers key node }
         ensures { IfOk result (λ kept. IfSome kept (BeginsAt (task_for asked.now) self.now.numbers self.now.numbers key)) }
     {
@@ -113,33 +114,43 @@ impl Notes {
             frame.below,
             offer.steps.as_slice(),
         )?;
-        Ok(Some(Begun { steps, is_all }))
+        Ok(Some(Successors { steps, is_all }))
     }
 
-    /// Returns the first moves of a node of which nothing is kept, in the scene of its model.
-    fn steps_anew(&mut self, asked: &Asked, scene: &Scene, key: NodeKey) -> Result<Begun, MoveErr>
+    /// Returns the first moves of a node of which nothing is kept, whose model is the current one.
+    fn steps_anew(
+        &mut self,
+        asked: &Asked,
+        current: &CurrentModel,
+        key: NodeKey,
+    ) -> Result<Successors, MoveErr>
         requires asked { IsAskable asked.now }
-        requires notes { AreRight (task_for asked.now) self.old }
-        requires scene { IsSceneAt (task_for asked.now) self.old.numbers key.model scene.now }
+        requires cache { AreRight (task_for asked.now) self.old }
+        requires current { IsCurrentAt (task_for asked.now) self.old.numbers key.model current.now }
         requires node { IsAskedAt (task_for asked.now) self.old.numbers key }
-        ensures notes { OnAnswer result (HaveGrown (task_for asked.now) self.old self.new) }
+        ensures cache { OnAnswer result (HaveGrown (task_for asked.now) self.old self.new) }
         ensures steps { IfOk result (BeginsAt (task_for asked.now) self.old.numbers self.new.numbers key) }
         ensures limited { IfStopped result (LimitsAt (task_for asked.now) self.old.numbers key) }
     {
         match self.numbers.top(key.stack) {
-            None => self.goal_steps(asked, scene, key),
-            Some(frame) => self.top_steps(asked, scene, key, frame),
+            None => self.goal_steps(asked, current, key),
+            Some(frame) => self.top_steps(asked, current, key, frame),
         }
     }
 
     /// Returns the first moves of a node without a stack, whose goal has no answer.
-    fn goal_steps(&mut self, asked: &Asked, scene: &Scene, key: NodeKey) -> Result<Begun, MoveErr>
+    fn goal_steps(
+        &mut self,
+        asked: &Asked,
+        current: &CurrentModel,
+        key: NodeKey,
+    ) -> Result<Successors, MoveErr>
         requires asked { IsAskable asked.now }
-        requires notes { AreRight (task_for asked.now) self.old }
-        requires scene { IsSceneAt (task_for asked.now) self.old.numbers key.model scene.now }
+        requires cache { AreRight (task_for asked.now) self.old }
+        requires current { IsCurrentAt (task_for asked.now) self.old.numbers key.model current.now }
         requires node { (node : Node) × IsKeyOf self.old.numbers key node × (node.stack ≡ [])
             × IsTriedAt (task_for asked.now) node Unanswered }
-        ensures notes { OnAnswer result (HaveGrown (task_for asked.now) self.old self.new) }
+        ensures cache { OnAnswer result (HaveGrown (task_for asked.now) self.old self.new) }
         ensures steps { IfOk result (BeginsAt (task_for asked.now) self.old.numbers self.new.numbers key) }
         ensures limited { IfStopped result (LimitsAt (task_for asked.now) self.old.numbers key) }
     {
@@ -148,16 +159,16 @@ impl Notes {
             asked.problem,
             asked.goal,
             asked.vars,
-            &scene.model,
+            &current.model,
         )?;
         match known {
             Known::Limited(limit) => Err(MoveErr::ShapeLimit(limit)),
             Known::Applicable => unreachable!(),
-            Known::Closed => Ok(Begun {
+            Known::Closed => Ok(Successors {
                 steps: Vec::new(asked.alloc),
                 is_all: true,
             }),
-            Known::Open(gaps) => self.pushes_to_goal(asked, scene, gaps.as_slice()),
+            Known::Open(gaps) => self.pushes_to_goal(asked, current, gaps.as_slice()),
         }
     }
 
@@ -165,29 +176,29 @@ impl Notes {
     fn top_steps(
         &mut self,
         asked: &Asked,
-        scene: &Scene,
+        current: &CurrentModel,
         key: NodeKey,
         frame: Frame,
-    ) -> Result<Begun, MoveErr>
+    ) -> Result<Successors, MoveErr>
         requires asked { IsAskable asked.now }
-        requires notes { AreRight (task_for asked.now) self.old }
-        requires scene { IsSceneAt (task_for asked.now) self.old.numbers key.model scene.now }
+        requires cache { AreRight (task_for asked.now) self.old }
+        requires current { IsCurrentAt (task_for asked.now) self.old.numbers key.model current.now }
         requires node { (node : Node) × IsKeyOf self.old.numbers key node
             × All (IsEntry asked.now.problem.now asked.now.tables.now) node.stack × IsTopOf self.old.numbers node.stack (Some frame) }
-        ensures notes { OnAnswer result (HaveGrown (task_for asked.now) self.old self.new) }
+        ensures cache { OnAnswer result (HaveGrown (task_for asked.now) self.old self.new) }
         ensures steps { IfOk result (BeginsAt (task_for asked.now) self.old.numbers self.new.numbers key) }
         ensures limited { IfStopped result (LimitsAt (task_for asked.now) self.old.numbers key) }
     {
         let stack = stack_at(asked.alloc, &self.numbers, key.stack)?;
         let top = self.numbers.entry(frame.entry);
-        let known = self.known_top(asked, top, &scene.model)?;
+        let known = self.known_top(asked, top, &current.model)?;
         let here = Here {
             place: EntryPlace {
                 model: key.model,
                 entry: frame.entry,
             },
             below: frame.below,
-            scene,
+            current,
             stack: stack.as_slice(),
         };
         match known {
@@ -214,13 +225,14 @@ impl Notes {
         here: &Here,
         alone: Vec<Step>,
         is_all: bool,
-    ) -> Result<Begun, NoMemory>
-        requires notes { AreRight (task_for asked.now) self.old }
+    ) -> Result<Successors, NoMemory>
+        requires cache { AreRight (task_for asked.now) self.old }
         requires here { IsHere (task_for asked.now) self.old.numbers here.now }
-        requires alone { IsBegunOn (task_for asked.now) self.old.numbers (alone_here here.now) alone.items is_all }
-        ensures notes { OnOk result (HaveGrown (task_for asked.now) self.old self.new) }
-        ensures steps { IfOk result (λ begun. IsBegunOn (task_for asked.now) self.new.numbers (node_here here.now) begun.steps.items
-            begun.is_all) }
+        requires alone { AreFirstSuccessors (task_for asked.now) self.old.numbers (alone_here here.now) alone.items is_all }
+        ensures cache { OnOk result (HaveGrown (task_for asked.now) self.old self.new) }
+        ensures steps { IfOk result (λ successors. AreFirstSuccessors (task_for asked.now) self.new.numbers (node_here here.now)
+            successors.steps.items
+            successors.is_all) }
     {
         let kept = Sequence::from_vec(alone);
         let steps = struck(asked.alloc, &self.numbers, here.below, kept.as_slice())?;
@@ -229,29 +241,29 @@ impl Notes {
             is_all,
         };
         self.tops.insert(here.place, offer)?;
-        Ok(Begun { steps, is_all })
+        Ok(Successors { steps, is_all })
     }
 
     /// Returns the first pushes for the gaps of the goal.
     fn pushes_to_goal(
         &mut self,
         asked: &Asked,
-        scene: &Scene,
+        current: &CurrentModel,
         gaps: &[Atom],
-    ) -> Result<Begun, MoveErr>
+    ) -> Result<Successors, MoveErr>
         requires asked { IsAskable asked.now }
-        requires notes { AreRight (task_for asked.now) self.old }
-        requires part { IsPartAt (task_for asked.now) self.old.numbers scene.now.part scene.now.model.atoms }
-        requires gaps { IsOpenWith asked.now.problem.now (needs_with (task_for asked.now) scene.now.model.atoms []) gaps.now }
-        ensures notes { OnAnswer result (HaveGrown (task_for asked.now) self.old self.new) }
-        ensures steps { IfOk result (λ begun. IsBegunOn (task_for asked.now) self.new.numbers
-            (record { model = scene.now.model.atoms; stack = [] }) begun.steps.items begun.is_all) }
-        ensures limited { IfStopped result (LimitsNode (task_for asked.now) (record { model = scene.now.model.atoms; stack = [] })) }
+        requires cache { AreRight (task_for asked.now) self.old }
+        requires part { IsPartAt (task_for asked.now) self.old.numbers current.now.part current.now.model.atoms }
+        requires gaps { IsOpenWith asked.now.problem.now (needs_with (task_for asked.now) current.now.model.atoms []) gaps.now }
+        ensures cache { OnAnswer result (HaveGrown (task_for asked.now) self.old self.new) }
+        ensures steps { IfOk result (λ successors. AreFirstSuccessors (task_for asked.now) self.new.numbers
+            (record { model = current.now.model.atoms; stack = [] }) successors.steps.items successors.is_all) }
+        ensures limited { IfStopped result (LimitsNode (task_for asked.now) (record { model = current.now.model.atoms; stack = [] })) }
     {
-        match self.pushes_offered(asked, scene, 0, gaps) {
-            Ok(begun) => Ok(begun),
+        match self.pushes_offered(asked, current, 0, gaps) {
+            Ok(successors) => Ok(successors),
             Err(MoveErr::ShapeLimit(_)) => {
-                all_pushes(asked, &mut self.numbers, &scene.model, &[], gaps)
+                all_pushes(asked, &mut self.numbers, &current.model, &[], gaps)
             }
             Err(MoveErr::NoMemory) => Err(MoveErr::NoMemory),
         }
@@ -259,27 +271,33 @@ impl Notes {
 
     /// Returns the first pushes for the gaps of the top entry. Those over the entry alone are kept. Where a question about these meets the
     /// limit, one about the node's may still not: an entry on its stack isn't asked about.
-    fn pushes_over(&mut self, asked: &Asked, here: &Here, gaps: &[Atom]) -> Result<Begun, MoveErr>
+    fn pushes_over(
+        &mut self,
+        asked: &Asked,
+        here: &Here,
+        gaps: &[Atom],
+    ) -> Result<Successors, MoveErr>
         requires asked { IsAskable asked.now }
-        requires notes { AreRight (task_for asked.now) self.old }
+        requires cache { AreRight (task_for asked.now) self.old }
         requires here { IsHere (task_for asked.now) self.old.numbers here.now }
         requires gaps { IsOpenWith asked.now.problem.now (needs_at (task_for asked.now) (node_here here.now)) gaps.now }
-        ensures notes { OnAnswer result (HaveGrown (task_for asked.now) self.old self.new) }
-        ensures steps { IfOk result (λ begun. IsBegunOn (task_for asked.now) self.new.numbers (node_here here.now) begun.steps.items
-            begun.is_all) }
+        ensures cache { OnAnswer result (HaveGrown (task_for asked.now) self.old self.new) }
+        ensures steps { IfOk result (λ successors. AreFirstSuccessors (task_for asked.now) self.new.numbers (node_here here.now)
+            successors.steps.items
+            successors.is_all) }
         ensures limited { IfStopped result (LimitsNode (task_for asked.now) (node_here here.now)) }
     {
         let alone = self.numbers.pushed(here.place.entry, 0)?;
-        match self.pushes_offered(asked, here.scene, alone, gaps) {
-            Ok(begun) => {
-                let over = self.kept_over(asked, here, begun.steps, begun.is_all)?;
+        match self.pushes_offered(asked, here.current, alone, gaps) {
+            Ok(successors) => {
+                let over = self.kept_over(asked, here, successors.steps, successors.is_all)?;
                 Ok(over)
             }
             Err(MoveErr::ShapeLimit(_)) => {
                 all_pushes(
                     asked,
                     &mut self.numbers,
-                    &here.scene.model,
+                    &here.current.model,
                     here.stack,
                     gaps,
                 )

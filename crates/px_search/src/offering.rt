@@ -7,16 +7,16 @@ ghost use Rattle.px_diff.specs.Stacks.{AreUnlimitedOver};
 ghost use Rattle.px_numbers.specs.Numbers.{IsStackAt};
 ghost use Rattle.px_ends.specs.Tasks.{needs_with};
 ghost use Rattle.px_support.specs.Asking.{IsAskable, task_for};
-ghost use Rattle.px_search.specs.Going.{IsBegunOn};
-ghost use Rattle.px_search.specs.Notes.{AreRight, HaveGrown, OnAnswer};
+ghost use Rattle.px_search.specs.Going.{AreFirstSuccessors};
+ghost use Rattle.px_search.specs.Cache.{AreRight, HaveGrown, OnAnswer};
 ghost use Rattle.px_search.specs.Offers.{AreFirstOffers, IsOffered, IsOfferedWhole, IsPartAt};
 
-use crate::begun::Begun;
+use crate::cache::{Cache, Offer, Want};
+use crate::current::CurrentModel;
 use crate::merging::merged;
-use crate::notes::{Notes, Offer, Want};
 use crate::picks::{numbered, struck};
-use crate::scene::Scene;
 use crate::step::Step;
+use crate::successors::Successors;
 use px_diff::{
     First, MoveErr, relevance_over_models, relevance_over_stacks, relevant, relevant_first,
 };
@@ -26,13 +26,13 @@ use px_terms::{Atom, NoMemory, Sequence};
 use std::alloc::Global;
 
 /// Returns a copy of what is kept.
-fn copy_of(alloc: Global, offer: &Offer) -> Result<Begun, NoMemory>
+fn copy_of(alloc: Global, offer: &Offer) -> Result<Successors, NoMemory>
     ensures steps { IfOk result (λ copy. copy.steps.items ≡ offer.now.steps) }
     ensures is_all { IfOk result (λ copy. copy.is_all ≡ offer.now.is_all) }
 {
     let mut steps = Vec::new(alloc);
     steps.extend_from_slice(offer.steps.as_slice())?;
-    Ok(Begun {
+    Ok(Successors {
         steps,
         is_all: offer.is_all,
     })
@@ -66,12 +66,12 @@ fn all_entries_for(asked: &Asked, model: &Model, wanted: &[Atom]) -> Result<Firs
     }
 }
 
-impl Notes {
+impl Cache {
     /// Returns the first of the entries that may be pushed for one of the atoms over the empty stack, in order: as many as a node may have
     /// room for.
     fn entries_for(&self, asked: &Asked, model: &Model, wanted: &[Atom]) -> Result<First, MoveErr>
         requires asked { IsAskable asked.now }
-        requires notes { AreRight (task_for asked.now) self.now }
+        requires cache { AreRight (task_for asked.now) self.now }
         requires model { IsAtomSet model.now.atoms }
         ensures first { IfOk result (λ first. AreFirstOffers (task_for asked.now) model.now.atoms wanted.now first.entries.items
             first.is_all) }
@@ -99,13 +99,14 @@ impl Notes {
         asked: &Asked,
         model: &Model,
         wanted: &[Atom],
-    ) -> Result<Begun, MoveErr>
+    ) -> Result<Successors, MoveErr>
         requires asked { IsAskable asked.now }
-        requires notes { AreRight (task_for asked.now) self.old }
+        requires cache { AreRight (task_for asked.now) self.old }
         requires model { IsAtomSet model.now.atoms }
-        ensures notes { OnAnswer result (HaveGrown (task_for asked.now) self.old self.new) }
-        ensures steps { IfOk result (λ begun. IsOffered (task_for asked.now) self.new.numbers model.now.atoms wanted.now begun.steps.items
-            begun.is_all) }
+        ensures cache { OnAnswer result (HaveGrown (task_for asked.now) self.old self.new) }
+        ensures steps { IfOk result (λ successors. IsOffered (task_for asked.now) self.new.numbers model.now.atoms wanted.now
+            successors.steps.items
+            successors.is_all) }
     {
         let first = match self.entries_for(asked, model, wanted) {
             Ok(first) => first,
@@ -113,50 +114,62 @@ impl Notes {
         };
         let steps = numbered(asked.alloc, &mut self.numbers, &first.entries)?;
         let is_all = first.is_all;
-        Ok(Begun { steps, is_all })
+        Ok(Successors { steps, is_all })
     }
 
     // Alike: `offer` below, which promises the same and finds only what isn't kept.
     /// Returns the first pushes for the atom, after finding and keeping them.
-    fn offer_anew(&mut self, asked: &Asked, scene: &Scene, want: &Want) -> Result<Begun, MoveErr>
+    fn offer_anew(
+        &mut self,
+        asked: &Asked,
+        current: &CurrentModel,
+        want: &Want,
+    ) -> Result<Successors, MoveErr>
         requires asked { IsAskable asked.now }
-        requires notes { AreRight (task_for asked.now) self.old }
-        requires part { IsPartAt (task_for asked.now) self.old.numbers want.now.part scene.now.model.atoms }
-        ensures notes { OnAnswer result (HaveGrown (task_for asked.now) self.old self.new) }
-        ensures steps { IfOk result (λ begun. IsOffered (task_for asked.now) self.new.numbers scene.now.model.atoms (want.now.atom ∷ [])
-            begun.steps.items begun.is_all) }
+        requires cache { AreRight (task_for asked.now) self.old }
+        requires part { IsPartAt (task_for asked.now) self.old.numbers want.now.part current.now.model.atoms }
+        ensures cache { OnAnswer result (HaveGrown (task_for asked.now) self.old self.new) }
+        ensures steps { IfOk result (λ successors. IsOffered (task_for asked.now) self.new.numbers current.now.model.atoms
+            (want.now.atom ∷ [])
+            successors.steps.items successors.is_all) }
     {
-        let begun = match self.offered_anew(asked, &scene.model, &[want.atom]) {
-            Ok(begun) => begun,
+        let successors = match self.offered_anew(asked, &current.model, &[want.atom]) {
+            Ok(successors) => successors,
             Err(error) => return Err(error),
         };
-        let steps = Sequence::from_slice(asked.alloc, begun.steps.as_slice())?;
+        let steps = Sequence::from_slice(asked.alloc, successors.steps.as_slice())?;
         let offer = Offer {
             steps,
-            is_all: begun.is_all,
+            is_all: successors.is_all,
         };
         relevance_over_models();
         match self.wants.insert(*want, offer) {
-            Ok(_) => Ok(begun),
+            Ok(_) => Ok(successors),
             Err(_) => Err(MoveErr::NoMemory),
         }
     }
 
     /// Returns the first pushes for the atom, as they are kept, or found and then kept.
-    fn offer(&mut self, asked: &Asked, scene: &Scene, want: &Want) -> Result<Begun, MoveErr>
+    fn offer(
+        &mut self,
+        asked: &Asked,
+        current: &CurrentModel,
+        want: &Want,
+    ) -> Result<Successors, MoveErr>
         requires asked { IsAskable asked.now }
-        requires notes { AreRight (task_for asked.now) self.old }
-        requires part { IsPartAt (task_for asked.now) self.old.numbers want.now.part scene.now.model.atoms }
-        ensures notes { OnAnswer result (HaveGrown (task_for asked.now) self.old self.new) }
-        ensures steps { IfOk result (λ begun. IsOffered (task_for asked.now) self.new.numbers scene.now.model.atoms (want.now.atom ∷ [])
-            begun.steps.items begun.is_all) }
+        requires cache { AreRight (task_for asked.now) self.old }
+        requires part { IsPartAt (task_for asked.now) self.old.numbers want.now.part current.now.model.atoms }
+        ensures cache { OnAnswer result (HaveGrown (task_for asked.now) self.old self.new) }
+        ensures steps { IfOk result (λ successors. IsOffered (task_for asked.now) self.new.numbers current.now.model.atoms
+            (want.now.atom ∷ [])
+            successors.steps.items successors.is_all) }
     {
         match self.wants.get(want) {
             Some(offer) => {
                 let copy = copy_of(asked.alloc, offer)?;
                 Ok(copy)
             }
-            None => self.offer_anew(asked, scene, want),
+            None => self.offer_anew(asked, current, want),
         }
     }
 
@@ -165,63 +178,68 @@ impl Notes {
     fn offered_each(
         &mut self,
         asked: &Asked,
-        scene: &Scene,
+        current: &CurrentModel,
         gaps: &[Atom],
     ) -> Result<Option<Vec<Step>>, MoveErr>
         requires asked { IsAskable asked.now }
-        requires notes { AreRight (task_for asked.now) self.old }
-        requires part { IsPartAt (task_for asked.now) self.old.numbers scene.now.part scene.now.model.atoms }
-        ensures notes { OnAnswer result (HaveGrown (task_for asked.now) self.old self.new) }
+        requires cache { AreRight (task_for asked.now) self.old }
+        requires part { IsPartAt (task_for asked.now) self.old.numbers current.now.part current.now.model.atoms }
+        ensures cache { OnAnswer result (HaveGrown (task_for asked.now) self.old self.new) }
         ensures whole { IfOk result (λ whole. IfSome whole (λ steps. IsOfferedWhole (task_for asked.now) self.new.numbers
-            scene.now.model.atoms gaps.now steps.items)) }
+            current.now.model.atoms gaps.now steps.items)) }
     {
         let mut steps = Vec::new(asked.alloc);
         for place in 0..gaps.len() {
             let atom = gaps[place];
-            let part = scene.part;
+            let part = current.part;
             let want = Want { part, atom };
-            let begun = match self.offer(asked, scene, &want) {
-                Ok(begun) => begun,
+            let successors = match self.offer(asked, current, &want) {
+                Ok(successors) => successors,
                 Err(error) => return Err(error),
             };
-            if !begun.is_all || steps.len() >= enough_of(asked) {
+            if !successors.is_all || steps.len() >= enough_of(asked) {
                 return Ok(None);
             }
-            steps = merged(asked.alloc, &self.numbers, &steps, &begun.steps)?;
+            steps = merged(asked.alloc, &self.numbers, &steps, &successors.steps)?;
         }
         Ok(Some(steps))
     }
 
     /// Returns the first pushes for one of the atoms over the empty stack, in order.
-    fn offered(&mut self, asked: &Asked, scene: &Scene, gaps: &[Atom]) -> Result<Begun, MoveErr>
+    fn offered(
+        &mut self,
+        asked: &Asked,
+        current: &CurrentModel,
+        gaps: &[Atom],
+    ) -> Result<Successors, MoveErr>
         requires asked { IsAskable asked.now }
-        requires notes { AreRight (task_for asked.now) self.old }
-        requires part { IsPartAt (task_for asked.now) self.old.numbers scene.now.part scene.now.model.atoms }
-        ensures notes { OnAnswer result (HaveGrown (task_for asked.now) self.old self.new) }
-        ensures steps { IfOk result (λ begun. IsOffered (task_for asked.now) self.new.numbers scene.now.model.atoms gaps.now
-            begun.steps.items begun.is_all) }
+        requires cache { AreRight (task_for asked.now) self.old }
+        requires part { IsPartAt (task_for asked.now) self.old.numbers current.now.part current.now.model.atoms }
+        ensures cache { OnAnswer result (HaveGrown (task_for asked.now) self.old self.new) }
+        ensures steps { IfOk result (λ successors. IsOffered (task_for asked.now) self.new.numbers current.now.model.atoms gaps.now
+            successors.steps.items successors.is_all) }
     {
         if gaps.len() == 1 {
             let want = Want {
-                part: scene.part,
+                part: current.part,
                 atom: gaps[0],
             };
-            return self.offer(asked, scene, &want);
+            return self.offer(asked, current, &want);
         }
-        let each = match self.offered_each(asked, scene, gaps) {
+        let each = match self.offered_each(asked, current, gaps) {
             Ok(each) => each,
             Err(error) => return Err(error),
         };
         match each {
-            None => self.offered_anew(asked, &scene.model, gaps),
-            Some(steps) => Ok(Begun {
+            None => self.offered_anew(asked, &current.model, gaps),
+            Some(steps) => Ok(Successors {
                 steps,
                 is_all: true,
             }),
         }
     }
 
-    /// Returns the first pushes of the node with the scene's model and the stack of this number, and these gaps, in order.
+    /// Returns the first pushes of the node with the current model and the stack of this number, and these gaps, in order.
     ///
     /// # Errors
     /// `ShapeLimit` where a question meets the limit about an entry that may be relevant over the empty stack: this says nothing of the
@@ -229,27 +247,33 @@ impl Notes {
     pub fn pushes_offered(
         &mut self,
         asked: &Asked,
-        scene: &Scene,
+        current: &CurrentModel,
         stack: u32,
         gaps: &[Atom],
-    ) -> Result<Begun, MoveErr>
+    ) -> Result<Successors, MoveErr>
         requires asked { IsAskable asked.now }
-        requires notes { AreRight (task_for asked.now) self.old }
-        requires part { IsPartAt (task_for asked.now) self.old.numbers scene.now.part scene.now.model.atoms }
+        requires cache { AreRight (task_for asked.now) self.old }
+        requires part { IsPartAt (task_for asked.now) self.old.numbers current.now.part current.now.model.atoms }
         requires stack { (entries : List Entry) × IsStackAt self.old.numbers stack entries }
-        ensures notes { OnAnswer result (HaveGrown (task_for asked.now) self.old self.new) }
-        ensures begun { IfOk result (λ begun. (entries : List Entry) → IsStackAt self.old.numbers stack entries
-            → IsOpenWith asked.now.problem.now (needs_with (task_for asked.now) scene.now.model.atoms entries) gaps.now
-            → IsBegunOn (task_for asked.now) self.new.numbers (record { model = scene.now.model.atoms; stack = entries }) begun.steps.items
-            begun.is_all) }
+        ensures cache { OnAnswer result (HaveGrown (task_for asked.now) self.old self.new) }
+        ensures successors { IfOk result (λ successors. (entries : List Entry) → IsStackAt self.old.numbers stack entries
+            → IsOpenWith asked.now.problem.now (needs_with (task_for asked.now) current.now.model.atoms entries) gaps.now
+            → AreFirstSuccessors (task_for asked.now) self.new.numbers (record { model = current.now.model.atoms; stack = entries })
+            successors.steps.items
+            successors.is_all) }
     {
-        let begun = match self.offered(asked, scene, gaps) {
-            Ok(begun) => begun,
+        let successors = match self.offered(asked, current, gaps) {
+            Ok(successors) => successors,
             Err(error) => return Err(error),
         };
-        let steps = struck(asked.alloc, &self.numbers, stack, begun.steps.as_slice())?;
-        let is_all = begun.is_all;
+        let steps = struck(
+            asked.alloc,
+            &self.numbers,
+            stack,
+            successors.steps.as_slice(),
+        )?;
+        let is_all = successors.is_all;
         relevance_over_stacks();
-        Ok(Begun { steps, is_all })
+        Ok(Successors { steps, is_all })
     }
 }

@@ -16,7 +16,8 @@ pub struct Limit {
     pub met: MetLimit,
 }
 
-/// What stops a search before all its nodes are expanded.
+/// What stops a search before all its nodes are expanded. The functions of the search answer it as an error, the solved node that is looked
+/// for too, since `?` then ends each of them at the first stop.
 #[derive(Drop)]
 pub enum Stop {
     /// The last of the nodes is solved.

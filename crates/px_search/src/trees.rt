@@ -1,5 +1,5 @@
 //! The tree of a search.
-ghost use Rattle.std.specs.Prelude.{◌≡◌, ◌<◌, ◌≤◌, ℕ, List, length, slice_get, take, All, Some, IfOk, IsTrue, OnOk};
+ghost use Rattle.std.specs.Prelude.{◌≡◌, ◌<◌, ◌≤◌, List, length, slice_get, take, All, Some, Err, IfOk, IfErr, IsTrue, OnOk};
 ghost use Rattle.px_terms.specs.Limits.{most_formula_variables, most_nodes};
 ghost use Rattle.px_terms.specs.Validity.{IsAtomOf, IsValid};
 ghost use Rattle.px_table.specs.declared.entry.Move.{Move};
@@ -13,6 +13,7 @@ ghost use Rattle.px_support.specs.Asking.{IsAskable, task_for};
 ghost use Rattle.px_search.specs.Estimating.{AreCounted};
 ghost use Rattle.px_search.specs.Looping.{AreFound, EndsAs, IsUnexplored};
 ghost use Rattle.px_search.specs.Steps.{DescribesMove};
+ghost use Rattle.px_search.specs.declared.stop.Stop.TheVariants.{NoMemory as OutOfMemory};
 ghost use Rattle.px_ends.specs.Trees.{IsTree, TellsMove, TellsNode, TellsNodes, entry_told, table_in};
 
 use crate::best_first::Explored;
@@ -23,7 +24,7 @@ use crate::step::{Origin, Step};
 use crate::stop::Stop;
 use px_base::push;
 use px_entries::never_limited;
-use px_numbers::{NodeKey, NodeSet, Numbers};
+use px_numbers::{NodeKey, Numbers};
 use px_ops::Model;
 use px_support::Asked;
 use px_table::{Entry, Table};
@@ -31,9 +32,11 @@ use px_terms::{Atom, NoMemory, Problem, Sequence};
 use px_tree::{MoveKind, Tree, TreeEnd, TreeMove, TreeNode, TreeOrigin};
 use std::alloc::Global;
 
-/// Returns how a search ended that came to this, where this many shapes are the limit.
+/// Returns how a search ended that came to this, where this many shapes are the limit. `NoMemory` is that of the search: it does not
+/// allocate.
 fn end_of(shapes: u32, came_to: Result<(), Stop>) -> Result<TreeEnd, NoMemory>
-    ensures { IfOk result (EndsAs shapes came_to) }
+    ensures end { IfOk result (EndsAs shapes came_to) }
+    ensures no_memory { IfErr result (λ e. came_to ≡ Err OutOfMemory) }
 {
     match came_to {
         Ok(()) => Ok(TreeEnd::Exhausted),
@@ -102,13 +105,13 @@ fn tree_node(
     requires asked { IsAskable asked.now }
     requires numbered { (found : List (List Move)) × AreFound (task_for asked.now) explored.now found }
     requires place { place < length explored.now.nodes }
-    requires counted { AreCounted (task_for asked.now) explored.now.notes.numbers estimates.old }
-    ensures counted { OnOk result (AreCounted (task_for asked.now) explored.now.notes.numbers estimates.new) }
+    requires counted { AreCounted (task_for asked.now) explored.now.cache.numbers estimates.old }
+    ensures counted { OnOk result (AreCounted (task_for asked.now) explored.now.cache.numbers estimates.new) }
     ensures node { IfOk result (λ node. (found : List (List Move)) (moves : List Move) → AreFound (task_for asked.now) explored.now found
         → slice_get found place ≡ Some moves → TellsNode (task_for asked.now) (take place found) moves node) }
 {
     let key = explored.nodes.node(place);
-    let numbers = &explored.notes.numbers;
+    let numbers = &explored.cache.numbers;
     let needs = estimates.needs(asked, numbers, key)?;
     if place == 0 {
         return Ok(TreeNode {

@@ -15,9 +15,11 @@
 //!   (`MovesSupport` of `specs/MadeSupports`). The call does nothing.
 //! - [`found_with_weight`] is the law that the moves which a search found, with whatever weight (`IsFound` of `px_ends/specs/ByValue`), are
 //!   such. The call does nothing.
+//! - [`apply_to`] applies an operator's instance to a model without a copy of it.
 //! - No public clause cites `specs/Going`, `specs/Grafted`, `specs/MacroSteps` and `specs/Sources`.
 #![tactic(auto)]
 
+mod applying;
 mod asked;
 mod grafts;
 mod laws;
@@ -27,6 +29,7 @@ mod sources;
 mod support;
 mod walk;
 
+pub use applying::apply_to;
 pub use asked::Asked;
 pub use laws::{found_with_weight, moves_have_supports};
 pub use support::{Support, support_of};

@@ -8,12 +8,13 @@ ghost use Rattle.px_support.specs.Asking.{IsAskable, IsFindable};
 ghost use Rattle.px_support.specs.Going.{HasRoom, IsEntryApplied};
 ghost use Rattle.px_support.specs.MacroSteps.{IsLearnedOf, IsMacroApplied, IsStepTaken, NeedsOfMacro};
 
+use crate::applying::apply_to;
 use crate::asked::Asked;
 use crate::grafts::{Graft, learned_row, object_terms};
 use crate::walk::Walk;
 use px_base::{NoMemory, push};
 use px_entries::{initial_of, left_of, step_under};
-use px_ops::{Model, apply_op};
+use px_ops::Model;
 use px_proof::Proof;
 use px_table::Table;
 use px_terms::Term;
@@ -76,9 +77,8 @@ fn take_step(
     };
     let row = learned_row(&graft, &within.facts, proofs_at(learned.table, place))?;
     let facts = left_of(asked.alloc, asked.problem, &within.facts, &step)?;
-    let model = apply_op(asked.alloc, asked.problem, &within.walk.model, &step)?;
+    apply_to(asked.problem, &mut within.walk.model, &step)?;
     within.facts = facts;
-    within.walk.model = model;
     push(&mut within.walk.steps, step)?;
     push(&mut within.walk.rows, row)?;
     Ok(within)

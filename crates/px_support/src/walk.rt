@@ -10,11 +10,12 @@ ghost use Rattle.px_table.specs.declared.entry.Entry.{Entry};
 ghost use Rattle.px_support.specs.Asking.{AreTakeable, IsAskable, IsFindable, IsTakeable, task_for};
 ghost use Rattle.px_support.specs.Going.{AreMovesTaken, HasRoom, IsEntryApplied, IsMoveTaken, node_in};
 
+use crate::applying::apply_to;
 use crate::asked::Asked;
 use crate::macros::apply_macro;
 use crate::rows::first_row;
 use px_base::{NoMemory, push};
-use px_ops::{Model, apply_op, precondition_of};
+use px_ops::{Model, precondition_of};
 use px_table::{Entry, Move, Row};
 use px_terms::OpInst;
 use std::alloc::Global;
@@ -67,8 +68,7 @@ fn apply_instance(asked: &Asked, mut walk: Walk, inst: &OpInst) -> Result<Walk, 
         &formula,
         0,
     )?;
-    let model = apply_op(asked.alloc, asked.problem, &walk.model, inst)?;
-    walk.model = model;
+    apply_to(asked.problem, &mut walk.model, inst)?;
     push(&mut walk.steps, *inst)?;
     push(&mut walk.rows, row)?;
     Ok(walk)

@@ -14,5 +14,6 @@ loop-atom-preserved c =
     let taken : take (i + 1) atoms ≡ take i atoms ++ atom ∷ [] =
     take_more atoms i atom c.loop-atom-test.true ∙ ap (λ (x : Atom). take i atoms ++ x ∷ []) (sym c.atom-item.is) in
     c.in_ok-push.ensures.items ∙ ap (λ (l : List Atom). l ++ c.apply-here.result ∷ []) c.loop-atom.invariant
-    ∙ ap (λ (x : Atom). map under (take i atoms) ++ x ∷ []) (c.apply-here.ensures ∙ ap (λ (m : List Term). substitute_atom m atom) c.args-in-loop-atom.ensures.value)
+    ∙ ap (λ (x : Atom). map under (take i atoms) ++ x ∷ []) (c.apply-here.ensures ∙ ap (λ (m : List Term). substitute_atom m atom)
+    c.args-in-loop-atom.ensures.value)
     ∙ sym (map-append under (take i atoms) (atom ∷ [])) ∙ ap (map under) (sym taken)

@@ -6,6 +6,6 @@ use Rattle.px_search.proofs.merging.compared.Goals as goal
 
 pub returns : goal.returns
 returns c = λ first second is is'.
-    c.cmp.ensures ∙ entry_cmp-is c.pushed.result.now c.pushed-2.result.now
-    ∙ ap (λ (e : Entry). order_of_entries e c.pushed-2.result.now) (c.pushed.ensures first is)
-    ∙ ap (λ (e : Entry). order_of_entries first e) (c.pushed-2.ensures second is')
+    c.cmp.ensures ∙ entry_cmp-is c.entry_of.result.now c.entry_of-2.result.now
+    ∙ ap (λ (e : Entry). order_of_entries e c.entry_of-2.result.now) (c.entry_of.ensures first is)
+    ∙ ap (λ (e : Entry). order_of_entries first e) (c.entry_of-2.ensures second is')

@@ -7,9 +7,9 @@ use Rattle.px_search.proofs.trees.tree_nodes.Goals as goal
 pub loop-place-init : goal.loop-place-init
 loop-place-init c = record {
   within = omega arith;
-  counted = c.new-estimates.ensures (task_for c.args.asked.now) c.args.explored.now.notes.numbers;
+  counted = c.new-estimates.ensures (task_for c.args.asked.now) c.args.explored.now.cache.numbers;
   long = ap length c.new-nodes.ensures.items;
-  told = λ found are. tells-none (task_for c.args.asked.now) c.args.explored.now.notes.numbers found c.new-nodes.result.items
+  told = λ found are. tells-none (task_for c.args.asked.now) c.args.explored.now.cache.numbers found c.new-nodes.result.items
       c.new-nodes.ensures.items;
 }
 
@@ -25,7 +25,7 @@ loop-place-preserved c =
         length-append c.loop-place.nodes.items (c.in_ok-node.node ∷ []),
         c.loop-place.invariant.long,
       );
-      told = λ found are. tells-more task c.args.explored.now.notes.numbers found c.loop-place.nodes.items
+      told = λ found are. tells-more task c.args.explored.now.cache.numbers found c.loop-place.nodes.items
           c.push.new.items.items c.in_ok-node.node c.loop-place.place
           (c.loop-place.invariant.told found are) c.in_ok-push.ensures.ok c.loop-place.invariant.long
           (λ moves at. c.in_ok-node.ensures.node found moves are at);

@@ -10,7 +10,7 @@ use Rattle.px_search.proofs.trees.tree_nodes.Given as goal
 abbrev pub invariant-loop-place : goal.invariant-loop-place
 invariant-loop-place l = record {
   within : l.place ≤ l.count;
-  counted : AreCounted (task_for l.asked) l.explored.notes.numbers l.estimates;
+  counted : AreCounted (task_for l.asked) l.explored.cache.numbers l.estimates;
   long : length l.nodes.items ≡ l.place;
   told : (found : List (List Move)) → AreFound (task_for l.asked) l.explored found → TellsNodes (task_for l.asked) found l.nodes.items;
 }

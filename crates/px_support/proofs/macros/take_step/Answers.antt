@@ -54,8 +54,8 @@ left_of-requires-clause-inst c =
     c.step_under-step.result c.requires.learned.table c.requires.learned.is_macro.count
     (omega (arith, c.requires.place, c.requires.learned.is_macro.within)) c.step_under-step.ensures
 
-pub apply_op-requires-clause-inst : goal.apply_op-requires-clause-inst
-apply_op-requires-clause-inst c =
+pub apply_to-requires-clause-inst : goal.apply_to-requires-clause-inst
+apply_to-requires-clause-inst c =
     steps-ground c.args.asked.now.problem.now c.args.learned.now.table.now c.args.learned.now.sigma.now c.args.place
     c.step_under-step.result c.requires.learned.table c.requires.learned.is_macro.count
     (omega (arith, c.requires.place, c.requires.learned.is_macro.within)) c.step_under-step.ensures
@@ -64,5 +64,5 @@ pub returns : goal.returns
 returns c =
     step-taken c.args.asked.now.problem.now c.args.learned.now c.requires.learned c.args.place c.args.within _ c.step_under-step.result
     c.proofs_at.result.now c.in_ok-row.row c.deref.result.now c.step_under-step.ensures c.proofs_at.ensures
-    c.deref.ensures.value c.in_ok-row.ensures c.in_ok-push-2.ensures.ok c.in_ok-push.ensures.ok c.in_ok-model.ensures.atoms
+    c.deref.ensures.value c.in_ok-row.ensures c.in_ok-push-2.ensures.ok c.in_ok-push.ensures.ok c.in_ok-apply_to.ensures.ok
     c.in_ok-facts.ensures refl

@@ -25,13 +25,13 @@ first_row-requires-clause-findable c =
     (record { formula = formula; vars = 0; facts = c.args.walk.model.atoms }))
     (sym (c.deref-2.ensures.value ∙ c.in_ok-formula.ensures)) c.requires.findable
 
-pub apply_op-requires-clause-inst : goal.apply_op-requires-clause-inst
-apply_op-requires-clause-inst c = instance-is_ground c.args.asked.now.problem.now c.args.inst.now c.requires.inst
+pub apply_to-requires-clause-inst : goal.apply_to-requires-clause-inst
+apply_to-requires-clause-inst c = instance-is_ground c.args.asked.now.problem.now c.args.inst.now c.requires.inst
 
 pub returns : goal.returns
 returns c =
     applied-instance c.args.asked.now.problem.now c.args.asked.now.tables.now c.args.inst.now c.args.walk _
-    (map derivation_of c.in_ok-row.row) refl c.in_ok-model.ensures.atoms c.in_ok-push.ensures.ok
+    (map derivation_of c.in_ok-row.row) refl c.in_ok-apply_to.ensures.ok c.in_ok-push.ensures.ok
     (first_row-here c.args.asked.now.problem.now c.args.walk.steps.items c.deref.result.now c.args.walk.model.atoms
     (precondition c.args.asked.now.problem.now c.args.inst.now) c.deref-2.result.now 0 (map derivation_of c.in_ok-row.row)
     c.deref.ensures.value (c.deref-2.ensures.value ∙ c.in_ok-formula.ensures) c.in_ok-row.ensures)

@@ -8,19 +8,19 @@ use Rattle.px_search.proofs.best_first.Explored.node_limit.Goals as goal
 pub new-firsts-requires-clause-count : goal.new-firsts-requires-clause-count
 new-firsts-requires-clause-count c =
     let e = c.args.self in
-    full-count (task_for c.args.asked.now) e.notes.numbers e.nodes e.origins.items c.args.moves c.requires.full
+    full-count (task_for c.args.asked.now) e.cache.numbers e.nodes e.origins.items c.args.moves c.requires.full
 
 pub new-firsts-requires-clause-stand : goal.new-firsts-requires-clause-stand
 new-firsts-requires-clause-stand c =
     let e = c.args.self in
-    full-stand (task_for c.args.asked.now) e.notes.numbers e.nodes e.origins.items c.args.moves c.requires.full
+    full-stand (task_for c.args.asked.now) e.cache.numbers e.nodes e.origins.items c.args.moves c.requires.full
 
 pub returns : goal.returns
 returns c =
     let task = task_for c.args.asked.now in
     let e = c.args.self in
     let full = c.requires.full in
-    let stand = full-stand task e.notes.numbers e.nodes e.origins.items c.args.moves full in
+    let stand = full-stand task e.cache.numbers e.nodes e.origins.items c.args.moves full in
     subst (λ (nodes : List Node). IsNodeLimit task task.problem.weight nodes c.args.moves)
     (sym (c.new-firsts.ensures stand.0 stand.1))
-    (full-limit task e.notes.numbers e.nodes e.origins.items c.args.moves full stand.0 stand.1)
+    (full-limit task e.cache.numbers e.nodes e.origins.items c.args.moves full stand.0 stand.1)

@@ -17,7 +17,7 @@ pub returns : goal.returns
 returns c =
     let task = task_for c.args.asked.now in
     let e = c.args.self in
-    ok_map (λ (path : List Move). (found : List (List Move)) → Trace e.notes.numbers e.origins.items found
+    ok_map (λ (path : List Move). (found : List (List Move)) → Trace e.cache.numbers e.origins.items found
     → slice_get found (length e.origins.items) ≡ Some path) (IsFound task task.problem.weight)
-    (λ path traced. reached-moves task e.notes.numbers e.nodes e.origins.items path c.requires.reached traced) c.path_to.result
+    (λ path traced. reached-moves task e.cache.numbers e.nodes e.origins.items path c.requires.reached traced) c.path_to.result
     c.path_to.ensures.trace

@@ -11,7 +11,7 @@ tree_nodes-requires-clause-numbered c =
     let e = c.explore-came_to.new.self in
     came-found task e c.in_ok-end.end
     (came-to task e c.explore-came_to.result c.in_ok-end.end c.explore-came_to.ensures.gone c.explore-came_to.ensures.stops
-    c.in_ok-end.ensures)
+    c.in_ok-end.ensures.end)
 
 pub tree_nodes-requires-clause-count : goal.tree_nodes-requires-clause-count
 tree_nodes-requires-clause-count c = omega (arith, c.min-count.ensures, c.count.ensures)
@@ -24,4 +24,4 @@ returns c =
     (sym c.from_vec.ensures)
     (came-tree task e c.in_ok-end.end c.in_ok-nodes.nodes.items c.min-count.result c.count.result
     (came-to task e c.explore-came_to.result c.in_ok-end.end c.explore-came_to.ensures.gone c.explore-came_to.ensures.stops
-    c.in_ok-end.ensures) c.count.ensures c.min-count.ensures c.in_ok-nodes.ensures.count c.in_ok-nodes.ensures.nodes)
+    c.in_ok-end.ensures.end) c.count.ensures c.min-count.ensures c.in_ok-nodes.ensures.count c.in_ok-nodes.ensures.nodes)

@@ -13,11 +13,11 @@ expand-requires-clause-picked c =
     let e = c.loop-place.self in
     let i = c.loop-place.invariant.going in
     let b = i.2 in
-    let count = counted task e.notes.numbers e.nodes e.origins.items b.found b.numbered ∙ sym c.count.ensures in
-    let next = c.in-Some.ensures.next task e.notes.numbers b.found i.0 b.picking count b.between.searching.known in (
+    let count = counted task e.cache.numbers e.nodes e.origins.items b.found b.numbered ∙ sym c.count.ensures in
+    let next = c.in-Some.ensures.next task e.cache.numbers b.found i.0 b.picking count b.between.searching.known in (
       i.0,
-      going-start task e.notes.numbers e.nodes e.origins.items e.picker c.pick.new.self i.0 c.in-Some.place b next
-          (c.in-Some.ensures.left task e.notes.numbers b.found i.0 b.picking),
+      going-start task e.cache.numbers e.nodes e.origins.items e.picker c.pick.new.self i.0 c.in-Some.place b next
+          (c.in-Some.ensures.left task e.cache.numbers b.found i.0 b.picking),
     )
 
 pub expand-requires-clause-next : goal.expand-requires-clause-next
@@ -26,9 +26,9 @@ expand-requires-clause-next c =
     let e = c.loop-place.self in
     let i = c.loop-place.invariant.going in
     let b = i.2 in
-    let all = counted task e.notes.numbers e.nodes e.origins.items b.found b.numbered in
+    let all = counted task e.cache.numbers e.nodes e.origins.items b.found b.numbered in
     let count = all ∙ sym c.count.ensures in
-    let next = c.in-Some.ensures.next task e.notes.numbers b.found i.0 b.picking count b.between.searching.known in
+    let next = c.in-Some.ensures.next task e.cache.numbers b.found i.0 b.picking count b.between.searching.known in
     let within = place-within-list b.found c.in-Some.place next.moves next.stands in
     subst (λ (n : ℕ). c.in-Some.place < n) all within
 
@@ -38,8 +38,8 @@ overflow_add-picks c =
     let e = c.loop-place.self in
     let i = c.loop-place.invariant.going in
     let b = i.2 in
-    let count = counted task e.notes.numbers e.nodes e.origins.items b.found b.numbered ∙ sym c.count.ensures in
-    let next = c.in-Some.ensures.next task e.notes.numbers b.found i.0 b.picking count b.between.searching.known in
+    let count = counted task e.cache.numbers e.nodes e.origins.items b.found b.numbered ∙ sym c.count.ensures in
+    let next = c.in-Some.ensures.next task e.cache.numbers b.found i.0 b.picking count b.between.searching.known in
     let few = picks_left (space_of task) (order_of task) b.found i.0 c.in-Some.place b.between.searching.known next
     (place-within-list b.found c.in-Some.place next.moves next.stands) in
     omega (arith, few, i.1, b.between.searching.room, c.requires.asked.nodes.1)
@@ -50,8 +50,8 @@ loop-place-smaller c =
     let e = c.loop-place.self in
     let i = c.loop-place.invariant.going in
     let b = i.2 in
-    let count = counted task e.notes.numbers e.nodes e.origins.items b.found b.numbered ∙ sym c.count.ensures in
-    let next = c.in-Some.ensures.next task e.notes.numbers b.found i.0 b.picking count b.between.searching.known in
+    let count = counted task e.cache.numbers e.nodes e.origins.items b.found b.numbered ∙ sym c.count.ensures in
+    let next = c.in-Some.ensures.next task e.cache.numbers b.found i.0 b.picking count b.between.searching.known in
     let few = picks_left (space_of task) (order_of task) b.found i.0 c.in-Some.place b.between.searching.known next
     (place-within-list b.found c.in-Some.place next.moves next.stands) in
     omega (arith, few, i.1, b.between.searching.room)
@@ -62,10 +62,10 @@ loop-place-preserved c =
     let e = c.loop-place.self in
     let i = c.loop-place.invariant.going in
     let b = i.2 in
-    let count = counted task e.notes.numbers e.nodes e.origins.items b.found b.numbered ∙ sym c.count.ensures in
-    let next = c.in-Some.ensures.next task e.notes.numbers b.found i.0 b.picking count b.between.searching.known in
-    let going = going-start task e.notes.numbers e.nodes e.origins.items e.picker c.pick.new.self i.0 c.in-Some.place b next
-    (c.in-Some.ensures.left task e.notes.numbers b.found i.0 b.picking) in
+    let count = counted task e.cache.numbers e.nodes e.origins.items b.found b.numbered ∙ sym c.count.ensures in
+    let next = c.in-Some.ensures.next task e.cache.numbers b.found i.0 b.picking count b.between.searching.known in
+    let going = going-start task e.cache.numbers e.nodes e.origins.items e.picker c.pick.new.self i.0 c.in-Some.place b next
+    (c.in-Some.ensures.left task e.cache.numbers b.found i.0 b.picking) in
     record {
       going = (c.in-Some.place ∷ i.0, omega (arith, i.1), c.in_ok-expand.ensures.gone i.0 going);
       explored = c.in_ok-expand.ensures.explored;
@@ -77,6 +77,6 @@ returns-clause-gone c =
     let e = c.loop-place.self in
     let i = c.loop-place.invariant.going in
     let b = i.2 in
-    let count = counted task e.notes.numbers e.nodes e.origins.items b.found b.numbered ∙ sym c.count.ensures in
-    going-exhausted task e.notes.numbers e.nodes e.origins.items e.picker i.0 b
-    (c.in_default.ensures.over task e.notes.numbers b.found i.0 b.picking count)
+    let count = counted task e.cache.numbers e.nodes e.origins.items b.found b.numbered ∙ sym c.count.ensures in
+    going-exhausted task e.cache.numbers e.nodes e.origins.items e.picker i.0 b
+    (c.in_default.ensures.over task e.cache.numbers b.found i.0 b.picking count)

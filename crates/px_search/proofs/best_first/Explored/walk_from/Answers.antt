@@ -6,5 +6,5 @@ pub walk-requires-clause-going : goal.walk-requires-clause-going
 walk-requires-clause-going c =
     let e = c.args.self.now in
     let start = c.requires.start in
-    start-from (task_for c.args.asked.now) e.notes.numbers c.args.start e.nodes e.origins.items c.start.new.self start.stands
+    start-from (task_for c.args.asked.now) e.cache.numbers c.args.start e.nodes e.origins.items c.start.new.self start.stands
     c.requires.tried c.requires.asked.nodes.0 start.nodes start.origins c.in_ok-start.ensures

@@ -1,6 +1,6 @@
 use Rattle.px_support.specs.Asking.{task_for}
 use Rattle.px_search.specs.Estimating.{IsCountAt}
-use Rattle.px_search.proofs.NoteLaws.{place_eq, place_eq-decides}
+use Rattle.px_search.proofs.CacheLaws.{place_eq, place_eq-decides}
 use Rattle.px_search.proofs.Pairs.{each-found, each-more}
 use Rattle.px_search.proofs.estimates.Estimates.entry.Goals as goal
 

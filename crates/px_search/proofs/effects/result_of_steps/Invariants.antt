@@ -1,6 +1,0 @@
-use Rattle.std.proofs.Common.{◌≡◌, take}
-use Rattle.px_terms.specs.Operators.{results_of}
-use Rattle.px_search.proofs.effects.result_of_steps.Given as goal
-
-abbrev pub invariant-loop-step : goal.invariant-loop-step
-invariant-loop-step l = l.next.atoms ≡ results_of l.problem l.model.atoms (take l.step-index l.steps)
