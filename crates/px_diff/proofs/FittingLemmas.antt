@@ -1,22 +1,18 @@
 -- MACROPs whose objects fit one of the choices of each row, choice by choice of one row.
-use Rattle.std.proofs.Common.{◌≡◌, ◌⊎◌, ◌+◌, ◌<◌, ◌≤◌, ◌++◌, ℕ, Option, Some, None, List, [], length, take, drop, get_or, ap, sym, subst, inl, inr, arith, length-append, length-drop}
+use Rattle.std.proofs.Common.{◌≡◌, ◌+◌, ◌<◌, ◌++◌, ℕ, Option, Some, List, [], length, take, drop, ap, sym, subst, arith, length-append, length-drop}
 use Rattle.std.specs.Prelude.{All, Contains, IfSome, IsSomeAnd}
-use Rattle.std.proofs.lemmas.List.{length-take, take_all}
+use Rattle.std.proofs.lemmas.List.{length-take}
 use Rattle.std.proofs.lemmas.List.Elements.{All-append, All-drop, All-take}
-use Rattle.px_base.specs.ListLaws.{All-at, Contains-none}
+use Rattle.px_base.specs.ListLaws.{All-at}
 use Rattle.px_table.specs.declared.entry.Entry.{Entry}
-use Rattle.px_table.specs.declared.entry.Entry.TheVariants.{Macro}
 use Rattle.px_table.specs.declared.table.Table.{Table}
 use Rattle.px_terms.specs.declared.atom.Atom.{Atom}
 use Rattle.px_terms.specs.declared.problem.Problem.{Problem}
 use Rattle.px_terms.specs.declared.term.Term.{Term}
-use Rattle.px_gaps.specs.Bindings.{ExtendsTerms}
 use Rattle.px_gaps.specs.Closings.{OneOf}
 use Rattle.px_diff.specs.Macros.{GathersEntries, IsMacroBy, IsMacroFitting}
 use Rattle.px_entries.specs.Parameters.{FitsTerms, Matches}
-use Rattle.px_diff.specs.RowQuestions.{FitsEach}
-use Rattle.px_diff.proofs.EntryLemmas.{entries_less, entries_none, entries_part}
-use Rattle.px_gaps.proofs.Grows.{one_next}
+use Rattle.px_diff.proofs.EntryLemmas.{entries_less}
 
 -- ---- numbers but one
 

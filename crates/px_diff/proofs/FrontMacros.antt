@@ -1,14 +1,9 @@
 -- Which objects make first steps a MACROP, by the terms that their parameters have first.
-use Rattle.std.proofs.Common.{◌≡◌, ◌∙◌, ◌<◌, ℕ, List, ap, sym, inl, inr}
-use Rattle.std.specs.Prelude.{◌↔◌, Any}
+use Rattle.std.proofs.Common.{◌≡◌, ◌∙◌, ◌<◌, ℕ, sym, inl, inr}
+use Rattle.std.specs.Prelude.{◌↔◌}
 use Rattle.px_table.specs.declared.table.Table.{Table}
-use Rattle.px_table.specs.Kernels.{atom_under, instance_under}
 use Rattle.px_table.specs.Prefixes.{IsAllowedNumber}
-use Rattle.px_terms.specs.Operators.{IsDeleted, schema_of}
-use Rattle.px_terms.specs.declared.atom.Atom.{Atom}
-use Rattle.px_terms.specs.declared.instance.OpInst.{OpInst}
 use Rattle.px_terms.specs.declared.problem.Problem.{Problem}
-use Rattle.px_terms.specs.declared.term.Term.{Term}
 use Rattle.px_terms.specs.declared.term.Term.TheVariants.{Obj, Var, Any as Wild}
 use Rattle.px_entries.specs.Parameters.{IsFirstTerm}
 

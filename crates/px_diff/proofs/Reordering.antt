@@ -6,7 +6,7 @@ use Rattle.std.proofs.lemmas.List.Elements.{All-append, All-cons, All-head, All-
 use Rattle.px_base.proofs.Loops.{take_next}
 use Rattle.px_proof.specs.Derivation.{Derivation, Derivations, none, also, greatest_height, height}
 use Rattle.px_proof.specs.Proves.{ProvesEach, Rules}
-use Rattle.px_question.specs.Answers.{IsList, literals_of}
+use Rattle.px_question.specs.Answers.{literals_of}
 use Rattle.px_question.specs.Gaps.{AreGapLists, IsGapList, all_gaps_of, gaps_of}
 use Rattle.px_question.specs.Settings.{Setting, loose_gaps_in}
 use Rattle.px_question.specs.declared.gap_list.GapList.{GapList}

@@ -1,10 +1,6 @@
-use Rattle.std.proofs.Common.{◌<◌, ◌≤◌, List, length, get_or, sym, subst}
+use Rattle.std.proofs.Common.{◌<◌, length, sym, subst}
 use Rattle.std.specs.Prelude.{All}
 use Rattle.px_base.specs.ListLaws.{All-each, All-at}
-use Rattle.px_base.proofs.Loops.{all_before_next, all_whole}
-use Rattle.px_table.specs.declared.mark.Mark.{Mark}
-use Rattle.px_table.specs.Kernels.{mark_under, steps_under}
-use Rattle.px_table.specs.Marks.{IsKept}
 use Rattle.px_table.specs.Tables.{IsStepOf}
 use Rattle.px_terms.specs.declared.instance.OpInst.{OpInst}
 use Rattle.px_diff.proofs.front_macros.keep_marks.Goals as goal

@@ -1,10 +1,9 @@
-use Rattle.std.proofs.Common.{◌≡◌, ◌∙◌, ◌<◌, ◌+◌, ◌++◌, ℕ, List, [], length, take, drop, get_or, ap, sym, subst, arith}
+use Rattle.std.proofs.Common.{◌≡◌, ◌∙◌, ◌<◌, ◌+◌, ◌++◌, ℕ, List, [], length, take, drop, get_or, sym, subst, arith}
 use Rattle.std.specs.Prelude.{All, Contains}
 use Rattle.std.proofs.lemmas.List.Elements.{All-nil}
 use Rattle.px_base.specs.ListLaws.{All-at}
 use Rattle.px_table.specs.declared.entry.Entry.{Entry}
 use Rattle.px_terms.specs.declared.term.Term.{Term}
-use Rattle.px_gaps.specs.Bindings.{IsBinding}
 use Rattle.px_gaps.specs.Closings.{OneOf}
 use Rattle.px_diff.specs.Macros.{GathersEntries, IsMacroFitting}
 use Rattle.px_entries.specs.Parameters.{FitsTerms, IsParameterMatch, Matches}

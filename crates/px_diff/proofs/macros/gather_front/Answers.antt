@@ -7,7 +7,6 @@ use Rattle.px_table.specs.declared.entry.Entry.{Entry}
 use Rattle.px_table.specs.declared.entry.Entry.TheVariants.{Macro}
 use Rattle.px_terms.specs.declared.instance.OpInst.{OpInst}
 use Rattle.px_terms.specs.declared.term.Term.{Term}
-use Rattle.px_gaps.specs.Bindings.{IsBinding, first_values}
 use Rattle.px_gaps.specs.Closings.{OneOf}
 use Rattle.px_diff.specs.Macros.{GathersEntries, IsMacroBy, IsOfFront}
 use Rattle.px_entries.specs.Parameters.{IsParameterMatch}
