@@ -27,8 +27,8 @@ use crate::row_questions::choices_of_rows;
 use crate::sorted::{parameter_sort, steps_may_fit};
 use px_base::push;
 use px_entries::{
-    add_wanted, first_terms, first_unbound, known_entry, macro_matches, merged_with_each, objects_of,
-    steps_with,
+    add_wanted, first_terms, first_unbound, known_entry, macro_matches, merged_with_each,
+    objects_of, steps_with,
 };
 use px_gaps::{Asker, Known, bound, unbound};
 use px_prover::MOST_GAP_VARIABLES;
