@@ -19,22 +19,22 @@ pub early-all : (stage : Stage) (d : Declared) (s : Statement) → is_fact s ≡
 early-all stage d (fact xs) other = cc
 early-all stage d s other = refl
 
-first-front : (causes more : List (Bool × Refusal)) (fault : Refusal) → first_of causes ≡ Some fault
+first-prefix : (causes more : List (Bool × Refusal)) (fault : Refusal) → first_of causes ≡ Some fault
     → first_of (causes ++ more) ≡ Some fault
-first-front [] more fault is = cc
-first-front ((true, cause) ∷ causes) more fault is = is
-first-front ((false, cause) ∷ causes) more fault is = first-front causes more fault is
+first-prefix [] more fault is = cc
+first-prefix ((true, cause) ∷ causes) more fault is = is
+first-prefix ((false, cause) ∷ causes) more fault is = first-prefix causes more fault is
 
 -- a limit that is passed is the fault, and where none is, what is told of a bad table
 pub late-limit : (d : Declared) (s : Statement) (limit : PassedLimit) → IsFirstLimit (Some limit) (early_limits d s)
     → Some (limit_refusal limit) ≡ late_fault d s
 late-limit d s limit is =
-    sym (first-front (map passed (early_limits d s)) ((is_bad_table d s, coded 12) ∷ []) (limit_refusal limit) (sym is))
+    sym (first-prefix (map passed (early_limits d s)) ((is_bad_table d s, coded 12) ∷ []) (limit_refusal limit) (sym is))
 
 -- a fault that is there early is the line's
 pub early-some : (stage : Stage) (d : Declared) (s : Statement) (fault : Refusal) → early_fault stage d s ≡ Some fault
     → fault_at stage d s ≡ Some fault
-early-some stage d (fact xs) fault is = first-front (causes_with stage d (fact xs) (early_limits d (fact xs)))
+early-some stage d (fact xs) fault is = first-prefix (causes_with stage d (fact xs) (early_limits d (fact xs)))
     (map passed (own_limits d (fact xs)) ++ (is_bad_table d (fact xs), coded 12) ∷ []) fault
     (sym (without-last (causes_with stage d (fact xs) (early_limits d (fact xs))) (is_bad_table d (fact xs), coded 12) refl) ∙ is)
 early-some stage d s fault is = is

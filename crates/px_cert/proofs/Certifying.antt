@@ -45,7 +45,7 @@ valid_certified p few valid = record {
       };
   axioms = λ k c below.
       let axiom_is = valid.axioms k c below in
-      record { vars = axiom_is.vars; lits = λ j l inside. atom_to p (certified p) refl refl _ _ (axiom_is.lits j l inside) };
+      record { variable_count = axiom_is.variable_count; lits = λ j l inside. atom_to p (certified p) refl refl _ _ (axiom_is.lits j l inside) };
   arena = valid.arena;
   short = valid.short;
   height = (omega arith, omega arith);
@@ -75,13 +75,13 @@ module _ (p : Problem) (t : Table) (is : IsCertifiable p t) where
   count : length p.object_sorts ≡ p.objects
   count = is.valid.sorts.0
 
-  wide_term : (vars : ℕ) → vars ≤ table_variables → (u : Term) → IsTermOf p vars u → IsPatternTermOf (language d) table_variables u
-  wide_term vars few (Obj n) i = omega (arith, i, count)
-  wide_term vars few (Var v) i = omega (arith, i, few)
-  wide_term vars few Any i = absurd i
+  wide_term : (variable_count : ℕ) → variable_count ≤ table_variables → (u : Term) → IsTermOf p variable_count u → IsPatternTermOf (language d) table_variables u
+  wide_term variable_count few (Obj n) i = omega (arith, i, count)
+  wide_term variable_count few (Var v) i = omega (arith, i, few)
+  wide_term variable_count few Any i = absurd i
 
-  wide_atom : (vars : ℕ) → vars ≤ table_variables → (a : Atom) → IsAtomOf p vars a → IsTableAtom (language d) a
-  wide_atom vars few a i = (i.0, λ k u below. wide_term vars few _ (i.1 k u below))
+  wide_atom : (variable_count : ℕ) → variable_count ≤ table_variables → (a : Atom) → IsAtomOf p variable_count a → IsTableAtom (language d) a
+  wide_atom variable_count few a i = (i.0, λ k u below. wide_term variable_count few _ (i.1 k u below))
 
   -- ---- the rows
 
@@ -95,14 +95,14 @@ module _ (p : Problem) (t : Table) (is : IsCertifiable p t) where
       let few = is.params in
       (low.0, low.1, wide_atom t.params (omega (arith, few)) m.atom atom)
 
-  proved_rows : RowsProve (IsObjectOrParameter (length p.object_sorts) t.params) p t.params t.steps t.goal t.goal_vars (rows_of t.proofs)
+  proved_rows : RowsProve (IsObjectOrParameter (length p.object_sorts) t.params) p t.params t.steps t.goal t.goal_variable_count (rows_of t.proofs)
   proved_rows =
-      subst (λ (n : ℕ). RowsProve (IsObjectOrParameter n t.params) p t.params t.steps t.goal t.goal_vars (rows_of t.proofs)) (sym count)
+      subst (λ (n : ℕ). RowsProve (IsObjectOrParameter n t.params) p t.params t.steps t.goal t.goal_variable_count (rows_of t.proofs)) (sym count)
       is.table_is.prove
 
   ranged_rows : AllByRecursion (AllByRecursion (IsRanged d sound t.params is.params)) (rows_of t.proofs)
   ranged_rows =
-      rows_ranged d sound t.params is.params p refl t.steps t.goal t.goal_vars (rows_of t.proofs) proved_rows
+      rows_ranged d sound t.params is.params p refl t.steps t.goal t.goal_variable_count (rows_of t.proofs) proved_rows
       (leaves_good d sound t.params is.params 1 (rows_of t.proofs) good_mark)
       (lows greatest_written_height (rows_of t.proofs) is.low)
 
@@ -118,7 +118,7 @@ module _ (p : Problem) (t : Table) (is : IsCertifiable p t) where
   short_rows =
       short_back t.proofs
       (rows_short d sound t.params is.params p (recursion_from_All IsShortSchema p.schemas is.operators.1) t.steps is.steps t.goal
-      is.goal.1 t.goal_vars t.steps (rows_of t.proofs) proved_rows)
+      is.goal.1 t.goal_variable_count t.steps (rows_of t.proofs) proved_rows)
 
   row_back : (proofs : List Proof) → AllByRecursion (IsRanged d sound t.params is.params) (map derivation_of proofs)
       → AllByRecursion (IsRowProof (language d) d.axioms) proofs
@@ -133,15 +133,15 @@ module _ (p : Problem) (t : Table) (is : IsCertifiable p t) where
 
   -- ---- all together
 
-  own_term : (vars : ℕ) → vars ≤ table_variables → (u : Term) → IsTermOf p vars u → IsPatternTermOf (certified p) table_variables u
-  own_term vars few (Obj n) i = i
-  own_term vars few (Var v) i = omega (arith, i, few)
-  own_term vars few Any i = absurd i
+  own_term : (variable_count : ℕ) → variable_count ≤ table_variables → (u : Term) → IsTermOf p variable_count u → IsPatternTermOf (certified p) table_variables u
+  own_term variable_count few (Obj n) i = i
+  own_term variable_count few (Var v) i = omega (arith, i, few)
+  own_term variable_count few Any i = absurd i
 
   pub claim_in_range : IsClaimInRange (certified p) t
   claim_in_range =
       let few = is.params in
-      let vars = is.goal.0 in
+      let variable_count = is.goal.0 in
       record {
         of = problem_in_range;
         params = sym is.table_is.sorted.count;
@@ -149,12 +149,12 @@ module _ (p : Problem) (t : Table) (is : IsCertifiable p t) where
           omega (arith, few, is.table_is.sorted.count),
           λ k s below. let sort = is.table_is.sorted.sorts k s below in let most = is.sorts in omega (arith, sort, most),
         );
-        goal_vars = is.goal.0;
+        goal_variable_count = is.goal.0;
         goal = (
           is.goal.1,
           λ k a below.
               let atom = is.table_is.in_range.goal k a below in
-              (atom.0, λ j u inside. own_term (t.params + t.goal_vars) (omega (arith, few, vars)) _ (atom.1 j u inside)),
+              (atom.0, λ j u inside. own_term (t.params + t.goal_variable_count) (omega (arith, few, variable_count)) _ (atom.1 j u inside)),
         );
         steps = (
           is.steps,
@@ -163,7 +163,7 @@ module _ (p : Problem) (t : Table) (is : IsCertifiable p t) where
               (inst_is.op, inst_is.count, λ j u inside. own_term t.params (omega (arith, few)) _ (inst_is.terms j u inside)),
         );
         row_count =
-            let whole = rows_count (IsObjectOrParameter p.objects t.params) p t.params t.steps t.goal t.goal_vars (rows_of t.proofs)
+            let whole = rows_count (IsObjectOrParameter p.objects t.params) p t.params t.steps t.goal t.goal_variable_count (rows_of t.proofs)
             is.table_is.prove in
             omega (arith, whole, length-map {A = List Proof} {B = List Derivation});
         rows = λ k proofs below. row_to (language d) (certified p) count refl p.axioms _

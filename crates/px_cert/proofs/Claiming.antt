@@ -36,7 +36,7 @@ whole_draft p t = record {
   schemas = p.schemas;
   schema = no_schema;
   params = t.param_sorts;
-  goal_vars = t.goal_vars;
+  goal_variable_count = t.goal_variable_count;
   goal = t.goal;
   steps = t.steps;
   rows = t.proofs;
@@ -45,24 +45,24 @@ whole_draft p t = record {
 -- ---- what is of one problem is of another with as many objects and the same predicates
 
 module _ (p q : Problem) (objects : p.objects ≡ q.objects) (arities : p.arities ≡ q.arities) where
-  term_to : (vars : ℕ) (u : Term) → IsTermOf p vars u → IsTermOf q vars u
-  term_to vars (Obj n) i = omega (arith, i, objects)
-  term_to vars (Var v) i = i
-  term_to vars Any i = i
+  term_to : (variable_count : ℕ) (u : Term) → IsTermOf p variable_count u → IsTermOf q variable_count u
+  term_to variable_count (Obj n) i = omega (arith, i, objects)
+  term_to variable_count (Var v) i = i
+  term_to variable_count Any i = i
 
-  pattern_term_to : (vars : ℕ) (u : Term) → IsPatternTermOf p vars u → IsPatternTermOf q vars u
-  pattern_term_to vars (Obj n) i = omega (arith, i, objects)
-  pattern_term_to vars (Var v) i = i
-  pattern_term_to vars Any i = tt
+  pattern_term_to : (variable_count : ℕ) (u : Term) → IsPatternTermOf p variable_count u → IsPatternTermOf q variable_count u
+  pattern_term_to variable_count (Obj n) i = omega (arith, i, objects)
+  pattern_term_to variable_count (Var v) i = i
+  pattern_term_to variable_count Any i = tt
 
   arity_to : (a : Atom) → HasArity p a → HasArity q a
   arity_to a i = subst (λ (l : List ℕ). (a.pred < length l) × (length a.args ≡ slice_index l a.pred)) arities i
 
-  pub atom_to : (vars : ℕ) (a : Atom) → IsAtomOf p vars a → IsAtomOf q vars a
-  atom_to vars a i = (arity_to a i.0, λ k u below. term_to vars _ (i.1 k u below))
+  pub atom_to : (variable_count : ℕ) (a : Atom) → IsAtomOf p variable_count a → IsAtomOf q variable_count a
+  atom_to variable_count a i = (arity_to a i.0, λ k u below. term_to variable_count _ (i.1 k u below))
 
-  pub pattern_to : (vars : ℕ) (a : Atom) → IsPatternOf p vars a → IsPatternOf q vars a
-  pattern_to vars a i = (arity_to a i.0, λ k u below. pattern_term_to vars _ (i.1 k u below))
+  pub pattern_to : (variable_count : ℕ) (a : Atom) → IsPatternOf p variable_count a → IsPatternOf q variable_count a
+  pattern_to variable_count a i = (arity_to a i.0, λ k u below. pattern_term_to variable_count _ (i.1 k u below))
 
   pub step_to : (schemas : List Schema) (inst : OpInst) → IsTableStep p schemas inst → IsTableStep q schemas inst
   step_to schemas inst i = (i.0, i.1, λ k u below. pattern_term_to table_variables _ (i.2 k u below))
@@ -112,11 +112,11 @@ module _ (p : Problem) (t : Table) (is : IsCertifiedProblem p) where
   few_sorts : p.sorts ≤ greatest_sort
   few_sorts = let same = ap (λ (q : Problem). q.sorts) is.limits in omega (arith, same)
 
-  atom_here : (vars : ℕ) (a : Atom) → IsAtomOf p vars a → IsAtomOf (language d) vars a
-  atom_here vars a i = atom_to p (language d) (sym count) refl vars a i
+  atom_here : (variable_count : ℕ) (a : Atom) → IsAtomOf p variable_count a → IsAtomOf (language d) variable_count a
+  atom_here variable_count a i = atom_to p (language d) (sym count) refl variable_count a i
 
-  pattern_here : (vars : ℕ) (a : Atom) → IsPatternOf p vars a → IsPatternOf (language d) vars a
-  pattern_here vars a i = pattern_to p (language d) (sym count) refl vars a i
+  pattern_here : (variable_count : ℕ) (a : Atom) → IsPatternOf p variable_count a → IsPatternOf (language d) variable_count a
+  pattern_here variable_count a i = pattern_to p (language d) (sym count) refl variable_count a i
 
   object_for : (n : ℕ) → (p.objects ≡ 0 → n ≡ 0) → HasObjectFor d n
   object_for n unless some = let here = some_objects n p.objects unless some in omega (arith, here, count)
@@ -124,7 +124,7 @@ module _ (p : Problem) (t : Table) (is : IsCertifiedProblem p) where
   good_clauses : All (IsGoodClause d) p.axioms
   good_clauses = λ k c below.
       let axiom_is = is.valid.axioms k c below in (
-        record { vars = axiom_is.vars; lits = λ j l inside. atom_here _ _ (axiom_is.lits j l inside) },
+        record { variable_count = axiom_is.variable_count; lits = λ j l inside. atom_here _ _ (axiom_is.lits j l inside) },
         (is.valid.arena.each k c below).size,
         object_for _ (λ e. (is.valid.no_objects e).1 k c below),
       )
@@ -218,7 +218,7 @@ module _ (p : Problem) (t : Table) (is : IsClaimInRange p t) where
     due = steps_then (length t.steps) (length t.steps + 1);
     schemas = p.schemas;
     params = t.param_sorts;
-    goal_vars = t.goal_vars;
+    goal_variable_count = t.goal_variable_count;
     goal = t.goal;
   }
 
@@ -243,7 +243,7 @@ module _ (p : Problem) (t : Table) (is : IsClaimInRange p t) where
       (follow_steps steps_draft t.steps (length t.steps + 1) refl (recursion_from_All (IsTableStep (language all) p.schemas) t.steps good_steps))
       (follow_rows rows_draft t.proofs (ap rows_then (sym is.row_count))
       (recursion_from_All (AreAtMost most_atoms (IsRowProof (language all) p.axioms)) t.proofs good_rows)) in
-      ((t.param_sorts, refl, is.sorts), ((t.goal_vars, t.goal, refl, (is.goal_vars, good_goal)), ((length t.steps, refl, is.steps.0), lines)))
+      ((t.param_sorts, refl, is.sorts), ((t.goal_variable_count, t.goal, refl, (is.goal_variable_count, good_goal)), ((length t.steps, refl, is.steps.0), lines)))
 
   pub follow_claim : Follow no_lines (claim_lines p t) all
   follow_claim =

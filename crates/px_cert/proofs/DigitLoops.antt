@@ -89,13 +89,13 @@ read_is_more value (d ∷ digits) = let more = read_is_more (10 * value + (d - 4
 -- ---- a number at the front
 
 module _ (limit : ℕ) (bytes text : List ℕ) (count : ℕ) (count_is : count ≡ digit_count bytes) (text_is : text ≡ take count bytes) where
-  front_is : take (digit_count bytes) bytes ≡ text
-  front_is = sym (text_is ∙ ap (λ (k : ℕ). take k bytes) count_is)
+  prefix_is : take (digit_count bytes) bytes ≡ text
+  prefix_is = sym (text_is ∙ ap (λ (k : ℕ). take k bytes) count_is)
 
   pub digits_other : is_plain text ≡ false → digits_at limit bytes ≡ None
   unfolding digits_at
   digits_other other =
-      ap (λ (ds : List ℕ). cond (is_plain ds && nat_lt (read_on 0 ds) limit) (Some (read_on 0 ds, drop (digit_count bytes) bytes)) None) front_is
+      ap (λ (ds : List ℕ). cond (is_plain ds && nat_lt (read_on 0 ds) limit) (Some (read_on 0 ds, drop (digit_count bytes) bytes)) None) prefix_is
       ∙ ap (λ (t : Bool). cond (t && nat_lt (read_on 0 text) limit) (Some (read_on 0 text, drop (digit_count bytes) bytes)) None) other
 
   pub digits_high : limit ≤ read_on 0 text → digits_at limit bytes ≡ None
@@ -103,7 +103,7 @@ module _ (limit : ℕ) (bytes text : List ℕ) (count : ℕ) (count_is : count �
   digits_high high =
       let test : (is_plain text && nat_lt (read_on 0 text) limit) ≡ false =
       ap (λ (t : Bool). is_plain text && t) (le-ltb (read_on 0 text) limit high) ∙ and-false (is_plain text) in
-      ap (λ (ds : List ℕ). cond (is_plain ds && nat_lt (read_on 0 ds) limit) (Some (read_on 0 ds, drop (digit_count bytes) bytes)) None) front_is
+      ap (λ (ds : List ℕ). cond (is_plain ds && nat_lt (read_on 0 ds) limit) (Some (read_on 0 ds, drop (digit_count bytes) bytes)) None) prefix_is
       ∙ cond-false (is_plain text && nat_lt (read_on 0 text) limit) (Some (read_on 0 text, drop (digit_count bytes) bytes)) None test
 
   pub digits_read : (value : ℕ) (rest : List ℕ) → is_plain text ≡ true → value ≡ read_on 0 text → value < limit → rest ≡ drop count bytes
@@ -114,6 +114,6 @@ module _ (limit : ℕ) (bytes text : List ℕ) (count : ℕ) (count_is : count �
       let test : (is_plain text && nat_lt (read_on 0 text) limit) ≡ true =
       ap (λ (t : Bool). t && nat_lt (read_on 0 text) limit) plain ∙ low in
       let left : drop (digit_count bytes) bytes ≡ rest = sym (rest_is ∙ ap (λ (k : ℕ). drop k bytes) count_is) in
-      ap (λ (ds : List ℕ). cond (is_plain ds && nat_lt (read_on 0 ds) limit) (Some (read_on 0 ds, drop (digit_count bytes) bytes)) None) front_is
+      ap (λ (ds : List ℕ). cond (is_plain ds && nat_lt (read_on 0 ds) limit) (Some (read_on 0 ds, drop (digit_count bytes) bytes)) None) prefix_is
       ∙ cond-true (is_plain text && nat_lt (read_on 0 text) limit) (Some (read_on 0 text, drop (digit_count bytes) bytes)) None test
       ∙ (λ i. Some (sym value_is i, left i))

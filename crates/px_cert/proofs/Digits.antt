@@ -17,11 +17,11 @@ own : IsNumeralModel (λ ds. all_ascii_digits ds ≡ true) (read_on 0)
 own = numerals_by_fold _ (search rules) read_on (search rules)
 
 -- the first digits are digits
-pub digit_front : (bytes : List ℕ) → all_ascii_digits (take (digit_count bytes) bytes) ≡ true
-digit_front [] = refl
-digit_front (b ∷ bytes) =
+pub digit_prefix : (bytes : List ℕ) → all_ascii_digits (take (digit_count bytes) bytes) ≡ true
+digit_prefix [] = refl
+digit_prefix (b ∷ bytes) =
     elim (is_ascii_digit b) as (λ t. is_ascii_digit b ≡ t → all_ascii_digits (take (cond t (suc (digit_count bytes)) 0) (b ∷ bytes)) ≡ true) [
-      | true ↦ λ is. ap (λ t. t && all_ascii_digits (take (digit_count bytes) bytes)) is ∙ digit_front bytes
+      | true ↦ λ is. ap (λ t. t && all_ascii_digits (take (digit_count bytes) bytes)) is ∙ digit_prefix bytes
       | false ↦ λ is. refl
     ] refl
 
@@ -59,7 +59,7 @@ digits_exact limit small = record {
       let plain = and_parts (nat_le 1 (length ds)) (not (eqb (get_or ds 0 0) 48) || eqb (length ds) 1) both.0 in
       let some : 1 ≤ length ds = leb-true 1 (length ds) plain.0 in
       let written : decimal (read_on 0 ds) ≡ ds =
-      decimal-digits_value own ds (digit_front bytes) (omega (arith, some)) (plain_first (get_or ds 0 0) (length ds) plain.1)
+      decimal-digits_value own ds (digit_prefix bytes) (omega (arith, some)) (plain_first (get_or ds 0 0) (length ds) plain.1)
       (omega (arith, below, small)) in
       subst (λ (q : ℕ × List ℕ). (bytes ≡ decimal q.0 ++ q.1) × (q.0 < limit)) g.1 (
         sym (take-append-drop (digit_count bytes) bytes) ∙ ap (λ (t : List ℕ). t ++ drop (digit_count bytes) bytes) (sym written),
@@ -69,14 +69,14 @@ digits_exact limit small = record {
       let low : n < 2 ^ 64 = omega (arith, is, small) in
       let ds = decimal n in
       let count = count_again ds rest (digits_decimal own n low) stop in
-      let front : take (digit_count (ds ++ rest)) (ds ++ rest) ≡ ds =
+      let prefix : take (digit_count (ds ++ rest)) (ds ++ rest) ≡ ds =
       ap (λ k. take k (ds ++ rest)) count ∙ take_at ds rest (length ds) refl in
       let left : drop (digit_count (ds ++ rest)) (ds ++ rest) ≡ rest =
       ap (λ k. drop k (ds ++ rest)) count ∙ drop_at ds rest (length ds) refl in
       let value = digits_value-decimal own n low in
       let below : ltb (read_on 0 ds) limit ≡ true = lt-ltb _ _ (omega (arith, is, value)) in
       let test : (is_plain ds && ltb (read_on 0 ds) limit) ≡ true = ap (λ t. t && ltb (read_on 0 ds) limit) (decimal_plain n low) ∙ below in
-      ap (λ (q : List ℕ × List ℕ). cond (is_plain q.0 && ltb (read_on 0 q.0) limit) (Some (read_on 0 q.0, q.1)) None) (λ i. (front i, left i))
+      ap (λ (q : List ℕ × List ℕ). cond (is_plain q.0 && ltb (read_on 0 q.0) limit) (Some (read_on 0 q.0, q.1)) None) (λ i. (prefix i, left i))
       ∙ cond-true (is_plain ds && ltb (read_on 0 ds) limit) (Some (read_on 0 ds, rest)) None test ∙ ap (λ (v : ℕ). Some (v, rest)) value;
 }
 

@@ -37,7 +37,7 @@ small_draft d sound =
       arities = omega arith;
       axioms = omega arith;
       schemas = omega arith;
-      literals = λ number below. (sound.clauses number (record { vars = 0; lits = [] }) below).1.0;
+      literals = λ number below. (sound.clauses number (record { variable_count = 0; lits = [] }) below).1.0;
     }
 
 -- ---- ranges
@@ -70,60 +70,60 @@ object_back d (suc count) is =
     ap (λ t. t || nat_le 1 (length d.objects)) other ∙ le-leb 1 (length d.objects) low
 
 module _ (d : Draft) (sound : IsSound d) where
-  pub plain_atoms : (vars : ℕ) → vars ≤ 2 ^ 64
-      → IsExact (atoms_at d vars false) (list_item atom_item) (AreAtMost most_atoms (IsAtomOf (language d) vars))
-  plain_atoms vars few =
+  pub plain_atoms : (variable_count : ℕ) → variable_count ≤ 2 ^ 64
+      → IsExact (atoms_at d variable_count false) (list_item atom_item) (AreAtMost most_atoms (IsAtomOf (language d) variable_count))
+  plain_atoms variable_count few =
       exact_as _ (list_item atom_item) _
-      (list_exact (atom_at d vars false) atom_item (IsAtomFor d vars false) (atom_exact d (small_draft d sound) vars few false) atom_starts
-      most_atoms (omega arith)) (AreAtMost most_atoms (IsAtomOf (language d) vars))
-      (each_at (IsAtomFor d vars false) (IsAtomOf (language d) vars) (atom_there d vars) most_atoms)
-      (each_at (IsAtomOf (language d) vars) (IsAtomFor d vars false) (atom_back d vars) most_atoms)
+      (list_exact (atom_at d variable_count false) atom_item (IsAtomFor d variable_count false) (atom_exact d (small_draft d sound) variable_count few false) atom_starts
+      most_atoms (omega arith)) (AreAtMost most_atoms (IsAtomOf (language d) variable_count))
+      (each_at (IsAtomFor d variable_count false) (IsAtomOf (language d) variable_count) (atom_there d variable_count) most_atoms)
+      (each_at (IsAtomOf (language d) variable_count) (IsAtomFor d variable_count false) (atom_back d variable_count) most_atoms)
 
-  pub pattern_atoms : (vars : ℕ) → vars ≤ 2 ^ 64
-      → IsExact (atoms_at d vars true) (list_item atom_item) (AreAtMost most_atoms (IsPatternOf (language d) vars))
-  pattern_atoms vars few =
+  pub pattern_atoms : (variable_count : ℕ) → variable_count ≤ 2 ^ 64
+      → IsExact (atoms_at d variable_count true) (list_item atom_item) (AreAtMost most_atoms (IsPatternOf (language d) variable_count))
+  pattern_atoms variable_count few =
       exact_as _ (list_item atom_item) _
-      (list_exact (atom_at d vars true) atom_item (IsAtomFor d vars true) (atom_exact d (small_draft d sound) vars few true) atom_starts
-      most_atoms (omega arith)) (AreAtMost most_atoms (IsPatternOf (language d) vars))
-      (each_at (IsAtomFor d vars true) (IsPatternOf (language d) vars) (pattern_atom_there d vars) most_atoms)
-      (each_at (IsPatternOf (language d) vars) (IsAtomFor d vars true) (pattern_atom_back d vars) most_atoms)
+      (list_exact (atom_at d variable_count true) atom_item (IsAtomFor d variable_count true) (atom_exact d (small_draft d sound) variable_count few true) atom_starts
+      most_atoms (omega arith)) (AreAtMost most_atoms (IsPatternOf (language d) variable_count))
+      (each_at (IsAtomFor d variable_count true) (IsPatternOf (language d) variable_count) (pattern_atom_there d variable_count) most_atoms)
+      (each_at (IsPatternOf (language d) variable_count) (IsAtomFor d variable_count true) (pattern_atom_back d variable_count) most_atoms)
 
   -- ---- the items of lines
 
   abbrev pub IsClauseLine : Clause → Type 0
-  IsClauseLine c = IsAxiomOf (language d) c × HasClauseLength c.lits × HasObjectFor d c.vars
+  IsClauseLine c = IsAxiomOf (language d) c × HasClauseLength c.lits × HasObjectFor d c.variable_count
 
   abbrev IsClauseRead : Clause → Type 0
   IsClauseRead c =
-      ((c.vars ≤ most_formula_variables) × AreAtMost most_literals (λ (lit : Lit). IsAtomFor d c.vars false lit.atom) c.lits)
-      × ((nat_le 1 (length c.lits) && has_object d c.vars) ≡ true)
+      ((c.variable_count ≤ most_formula_variables) × AreAtMost most_literals (λ (lit : Lit). IsAtomFor d c.variable_count false lit.atom) c.lits)
+      × ((nat_le 1 (length c.lits) && has_object d c.variable_count) ≡ true)
 
   clause_there : (c : Clause) → IsClauseRead c → IsClauseLine c
   clause_there c is =
-      let both = and_parts (nat_le 1 (length c.lits)) (has_object d c.vars) is.1 in (
-        record { vars = is.0.0; lits = λ k e below. atom_there d c.vars _ (is.0.1.1 k e below) },
+      let both = and_parts (nat_le 1 (length c.lits)) (has_object d c.variable_count) is.1 in (
+        record { variable_count = is.0.0; lits = λ k e below. atom_there d c.variable_count _ (is.0.1.1 k e below) },
         (leb-true 1 (length c.lits) both.0, is.0.1.0),
-        object_there d c.vars both.1,
+        object_there d c.variable_count both.1,
       )
 
   clause_back : (c : Clause) → IsClauseLine c → IsClauseRead c
   clause_back c is = (
-    (is.0.vars, (is.1.1, λ k e below. atom_back d c.vars _ (is.0.lits k e below))),
-    ap (λ t. t && has_object d c.vars) (le-leb 1 (length c.lits) is.1.0) ∙ object_back d c.vars is.2,
+    (is.0.variable_count, (is.1.1, λ k e below. atom_back d c.variable_count _ (is.0.lits k e below))),
+    ap (λ t. t && has_object d c.variable_count) (le-leb 1 (length c.lits) is.1.0) ∙ object_back d c.variable_count is.2,
   )
 
-  pub clause_exact : IsExact (clause_items d) (λ c. number_item c.vars ++ list_item literal_item c.lits) IsClauseLine
+  pub clause_exact : IsExact (clause_items d) (λ c. number_item c.variable_count ++ list_item literal_item c.lits) IsClauseLine
   unfolding clause_items
   clause_exact =
-      exact_as _ (λ c. number_item c.vars ++ list_item literal_item c.lits) _
-      (passing_exact _ (λ c. number_item c.vars ++ list_item literal_item c.lits) _
+      exact_as _ (λ c. number_item c.variable_count ++ list_item literal_item c.lits) _
+      (passing_exact _ (λ c. number_item c.variable_count ++ list_item literal_item c.lits) _
       (as_exact _ _ _
       (pair_exact (number_at (most_formula_variables + 1)) number_item (λ n. n ≤ most_formula_variables)
-      (count_exact most_formula_variables (omega arith)) (λ vars. list_at (literal_at d vars) most_literals)
-      (λ vars. list_item literal_item) (λ vars. AreAtMost most_literals (λ (lit : Lit). IsAtomFor d vars false lit.atom))
-      (λ vars below. list_exact (literal_at d vars) literal_item _ (literal_exact d (small_draft d sound) vars (omega (arith, below)))
-      literal_starts most_literals (omega arith)) (λ vars. record { starts = λ xs rest stop. refl })) clause_of_parts
-      (λ c. (c.vars, c.lits)) (λ parts is. refl) (λ c. refl)) (λ c. nat_le 1 (length c.lits) && has_object d c.vars)) IsClauseLine
+      (count_exact most_formula_variables (omega arith)) (λ variable_count. list_at (literal_at d variable_count) most_literals)
+      (λ variable_count. list_item literal_item) (λ variable_count. AreAtMost most_literals (λ (lit : Lit). IsAtomFor d variable_count false lit.atom))
+      (λ variable_count below. list_exact (literal_at d variable_count) literal_item _ (literal_exact d (small_draft d sound) variable_count (omega (arith, below)))
+      literal_starts most_literals (omega arith)) (λ variable_count. record { starts = λ xs rest stop. refl })) clause_of_parts
+      (λ c. (c.variable_count, c.lits)) (λ parts is. refl) (λ c. refl)) (λ c. nat_le 1 (length c.lits) && has_object d c.variable_count)) IsClauseLine
       clause_there clause_back
 
   pub operator_exact : IsExact (operator_items d) (list_item number_item)
@@ -140,9 +140,9 @@ module _ (d : Draft) (sound : IsSound d) where
   unfolding goal_items
   goal_exact =
       pair_exact (number_at (most_formula_variables + 1)) number_item (λ n. n ≤ most_formula_variables)
-      (count_exact most_formula_variables (omega arith)) (λ vars. atoms_at d table_variables true) (λ vars. list_item atom_item)
-      (λ vars. AreAtMost most_atoms (IsTableAtom (language d))) (λ vars below. pattern_atoms table_variables (omega arith))
-      (λ vars. record { starts = λ xs rest stop. refl })
+      (count_exact most_formula_variables (omega arith)) (λ variable_count. atoms_at d table_variables true) (λ variable_count. list_item atom_item)
+      (λ variable_count. AreAtMost most_atoms (IsTableAtom (language d))) (λ variable_count below. pattern_atoms table_variables (omega arith))
+      (λ variable_count. record { starts = λ xs rest stop. refl })
 
   pub step_exact : IsExact (step_items d) (λ inst. number_item inst.op ++ flat_map term_item inst.args) (IsTableStep (language d) d.schemas)
   unfolding step_items
@@ -219,7 +219,7 @@ module _ (d : Draft) (sound : IsSound d) where
       due_read (number_at (most_clauses + 1)) number_item (λ n. n ≤ most_clauses) (count_exact most_clauses (omega arith)) (codes "axioms")
       axioms (λ x. refl) d due.Axioms (λ bytes. refl) (λ line is. is) (λ line is. is)
   due_reads (due.Axiom more) so_far =
-      due_read (clause_items d) (λ c. number_item c.vars ++ list_item literal_item c.lits) (IsClauseLine d sound) (clause_exact d sound)
+      due_read (clause_items d) (λ c. number_item c.variable_count ++ list_item literal_item c.lits) (IsClauseLine d sound) (clause_exact d sound)
       (codes "axiom") clause (λ x. refl) d (due.Axiom more) (λ bytes. refl) (λ line is. is) (λ line is. is)
   due_reads due.Operators so_far =
       due_read (number_at (most_operators + 1)) number_item (λ n. n ≤ most_operators) (count_exact most_operators (omega arith))

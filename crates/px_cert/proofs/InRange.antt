@@ -29,7 +29,7 @@ abbrev IsEmpty : Draft → Type 0
 IsEmpty d = (d.steps ≡ []) × (d.rows ≡ [])
 
 abbrev IsHeadIn : Draft → Type 0
-IsHeadIn d = AreSorts most_table_parameters d.params × (d.goal_vars ≤ most_formula_variables)
+IsHeadIn d = AreSorts most_table_parameters d.params × (d.goal_variable_count ≤ most_formula_variables)
     × AreAtMost most_atoms (IsTableAtom (language d)) d.goal
 
 abbrev AreStepsIn : Draft → Type 0
@@ -160,7 +160,7 @@ draft_in_range d told sound =
       };
       params = refl;
       sorts = told.by.0.0;
-      goal_vars = told.by.0.1;
+      goal_variable_count = told.by.0.1;
       goal = (told.by.0.2.0, λ k a below. pattern_to (language d) (problem_of d) refl refl table_variables _ (told.by.0.2.1 k a below));
       steps = (told.by.2, λ k inst below. step_to (language d) (problem_of d) refl refl d.schemas _ (told.by.1 k inst below));
       row_count = told.by.4;

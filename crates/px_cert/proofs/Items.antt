@@ -16,7 +16,7 @@ use Rattle.px_table.specs.Deciding.{clause_at}
 use Rattle.px_cert.specs.ClaimRanges.{AreAtMost}
 use Rattle.px_cert.specs.Drafts.{language}
 use Rattle.px_cert.specs.Lines.{atom_item, list_item, literal_item, number_item, sign_item, term_item}
-use Rattle.px_cert.specs.Reading.{◌>>=◌, Front, Reader, after_text, atom_at, atom_of_parts, chosen, list_at, literal_at, literal_of_parts, many_at, number_at, object_at, sign_at, term_at, variable_at, wild_card_at}
+use Rattle.px_cert.specs.Reading.{◌>>=◌, Prefix, Reader, after_text, atom_at, atom_of_parts, chosen, list_at, literal_at, literal_of_parts, many_at, number_at, object_at, sign_at, term_at, variable_at, wild_card_at}
 use Rattle.px_cert.specs.Reading.{digits_at}
 use Rattle.px_cert.proofs.Digits.{digits_exact, number_exact}
 use Rattle.px_cert.proofs.Exact.{IsExact, StartsWell, after_takes, as_exact, bind_some, exact_as, exact_text, many_exact, many_start, pair_exact, stops}
@@ -31,9 +31,9 @@ chosen_is None f other y e = inr (refl, e)
 
 -- an object below the first number, a variable below the second, or the wild card where it may stand
 abbrev pub IsTermFor : ℕ → ℕ → Bool → Term → Type 0
-IsTermFor limit vars wild (Obj n) = n < limit
-IsTermFor limit vars wild (Var v) = v < vars
-IsTermFor limit vars wild Any = wild ≡ true
+IsTermFor limit variable_count wild (Obj n) = n < limit
+IsTermFor limit variable_count wild (Var v) = v < variable_count
+IsTermFor limit variable_count wild Any = wild ≡ true
 
 pub term_starts : StartsWell term_item
 term_starts = record { starts = each }
@@ -43,9 +43,9 @@ term_starts = record { starts = each }
     each (Var v) rest stop = refl
     each Any rest stop = refl
 
-module _ (limit vars : ℕ) (wild : Bool) (low : limit ≤ 2 ^ 64) (few : vars ≤ 2 ^ 64) where
+module _ (limit variable_count : ℕ) (wild : Bool) (low : limit ≤ 2 ^ 64) (few : variable_count ≤ 2 ^ 64) where
   abbrev IsRead : List ℕ → Term × List ℕ → Type 0
-  IsRead bytes q = (bytes ≡ term_item q.0 ++ q.1) × IsTermFor limit vars wild q.0
+  IsRead bytes q = (bytes ≡ term_item q.0 ++ q.1) × IsTermFor limit variable_count wild q.0
 
   object_taken : (bytes left : List ℕ) (t : Term) (rest : List ℕ) → after_text (codes " o") bytes ≡ Some left
       → object_at limit left ≡ Some (t, rest) → IsRead bytes (t, rest)
@@ -56,10 +56,10 @@ module _ (limit vars : ℕ) (wild : Bool) (low : limit ≤ 2 ^ 64) (few : vars �
       (after_takes (codes " o") bytes left at ∙ ap (λ (r : List ℕ). codes " o" ++ r) d.0, d.1)
 
   variable_taken : (bytes left : List ℕ) (t : Term) (rest : List ℕ) → after_text (codes " v") bytes ≡ Some left
-      → variable_at vars left ≡ Some (t, rest) → IsRead bytes (t, rest)
+      → variable_at variable_count left ≡ Some (t, rest) → IsRead bytes (t, rest)
   variable_taken bytes left t rest at e =
-      let n = bind_some (digits_at vars left) (λ x. Some (Var x.0, x.1)) (t, rest) e in
-      let d = (digits_exact vars few).takes left n.0.0 n.0.1 n.1 in
+      let n = bind_some (digits_at variable_count left) (λ x. Some (Var x.0, x.1)) (t, rest) e in
+      let d = (digits_exact variable_count few).takes left n.0.0 n.0.1 n.1 in
       subst (IsRead bytes) (same_Some (Var n.0.0, n.0.1) (t, rest) n.2)
       (after_takes (codes " v") bytes left at ∙ ap (λ (r : List ℕ). codes " v" ++ r) d.0, d.1)
 
@@ -69,23 +69,23 @@ module _ (limit vars : ℕ) (wild : Bool) (low : limit ≤ 2 ^ 64) (few : vars �
       let g = cond_some wild (Any, a.0) (t, rest) a.2 in
       subst (IsRead bytes) g.1 (after_takes (codes " $") bytes a.0 a.1, g.0)
 
-  pub term_exact : IsExact (term_at limit vars wild) term_item (IsTermFor limit vars wild)
+  pub term_exact : IsExact (term_at limit variable_count wild) term_item (IsTermFor limit variable_count wild)
   unfolding term_at
   term_exact = record { takes = taken; again = read_again }
     where
-      taken : (bytes : List ℕ) (t : Term) (rest : List ℕ) → term_at limit vars wild bytes ≡ Some (t, rest) → IsRead bytes (t, rest)
+      taken : (bytes : List ℕ) (t : Term) (rest : List ℕ) → term_at limit variable_count wild bytes ≡ Some (t, rest) → IsRead bytes (t, rest)
       taken bytes t rest e = elim (chosen_is (after_text (codes " o") bytes) (object_at limit) _ (t, rest) e) [
         | inl o ↦ object_taken bytes o.0 t rest o.1 o.2
-        | inr others ↦ elim (chosen_is (after_text (codes " v") bytes) (variable_at vars) _ (t, rest) others.1) [
+        | inr others ↦ elim (chosen_is (after_text (codes " v") bytes) (variable_at variable_count) _ (t, rest) others.1) [
           | inl v ↦ variable_taken bytes v.0 t rest v.1 v.2
           | inr last ↦ wild_card_taken bytes t rest last.1
         ]
       ]
 
-      read_again : (t : Term) (rest : List ℕ) → IsTermFor limit vars wild t → stops rest ≡ true
-          → term_at limit vars wild (term_item t ++ rest) ≡ Some (t, rest)
-      read_again (Obj n) rest is stop = ap (λ (o : Front ℕ). o >>= λ x. Some (Obj x.0, x.1)) ((digits_exact limit low).again n rest is stop)
-      read_again (Var v) rest is stop = ap (λ (o : Front ℕ). o >>= λ x. Some (Var x.0, x.1)) ((digits_exact vars few).again v rest is stop)
+      read_again : (t : Term) (rest : List ℕ) → IsTermFor limit variable_count wild t → stops rest ≡ true
+          → term_at limit variable_count wild (term_item t ++ rest) ≡ Some (t, rest)
+      read_again (Obj n) rest is stop = ap (λ (o : Prefix ℕ). o >>= λ x. Some (Obj x.0, x.1)) ((digits_exact limit low).again n rest is stop)
+      read_again (Var v) rest is stop = ap (λ (o : Prefix ℕ). o >>= λ x. Some (Var x.0, x.1)) ((digits_exact variable_count few).again v rest is stop)
       read_again Any rest is stop = cond-true wild (Some (Any, rest)) None is
 
 -- ---- lists
@@ -142,10 +142,10 @@ sign_exact =
 -- ---- atoms
 
 -- an atom over the draft's predicates and such terms
-pub record IsAtomFor (d : Draft) (vars : ℕ) (wild : Bool) (atom : Atom) : Type 0 where
+pub record IsAtomFor (d : Draft) (variable_count : ℕ) (wild : Bool) (atom : Atom) : Type 0 where
   pub pred : atom.pred < length d.arities
   pub count : length atom.args ≡ slice_index d.arities atom.pred
-  pub terms : AllByRecursion (IsTermFor (length d.objects) vars wild) atom.args
+  pub terms : AllByRecursion (IsTermFor (length d.objects) variable_count wild) atom.args
 
 pub atom_starts : StartsWell atom_item
 atom_starts = record { starts = λ atom rest stop. refl }
@@ -158,31 +158,31 @@ pub record IsSmall (d : Draft) : Type 0 where
   pub schemas : length d.schemas ≤ 2 ^ 64
   pub literals : (number : ℕ) → number < length d.axioms → 1 ≤ length (clause_at d.axioms number).lits
 
-module _ (d : Draft) (small : IsSmall d) (vars : ℕ) (few : vars ≤ 2 ^ 64) where
+module _ (d : Draft) (small : IsSmall d) (variable_count : ℕ) (few : variable_count ≤ 2 ^ 64) where
   module _ (wild : Bool) where
-    pub atom_exact : IsExact (atom_at d vars wild) atom_item (IsAtomFor d vars wild)
+    pub atom_exact : IsExact (atom_at d variable_count wild) atom_item (IsAtomFor d variable_count wild)
     unfolding atom_at
     atom_exact =
-        let term = term_exact (length d.objects) vars wild small.objects few in
+        let term = term_exact (length d.objects) variable_count wild small.objects few in
         exact_as _ atom_item _
         (as_exact _ _ _
         (pair_exact (number_at (length d.arities)) number_item (λ n. n < length d.arities) (number_exact (length d.arities) small.arities)
-        (λ pred. many_at (term_at (length d.objects) vars wild) (slice_index d.arities pred)) (λ pred. flat_map term_item)
-        (λ pred args. (length args ≡ slice_index d.arities pred) × AllByRecursion (IsTermFor (length d.objects) vars wild) args)
+        (λ pred. many_at (term_at (length d.objects) variable_count wild) (slice_index d.arities pred)) (λ pred. flat_map term_item)
+        (λ pred args. (length args ≡ slice_index d.arities pred) × AllByRecursion (IsTermFor (length d.objects) variable_count wild) args)
         (λ pred below. many_exact _ term_item _ term term_starts (slice_index d.arities pred))
         (λ pred. many_start _ term_item _ term term_starts)) atom_of_parts (λ atom. (atom.pred, atom.args)) (λ parts is. refl) (λ atom. refl))
-        (IsAtomFor d vars wild) (λ atom is. record { pred = is.0; count = is.1.0; terms = is.1.1 }) (λ atom is. (is.pred, (is.count, is.terms)))
+        (IsAtomFor d variable_count wild) (λ atom is. record { pred = is.0; count = is.1.0; terms = is.1.1 }) (λ atom is. (is.pred, (is.count, is.terms)))
 
   -- ---- literals
 
-  pub literal_exact : IsExact (literal_at d vars) literal_item (λ lit. IsAtomFor d vars false lit.atom)
+  pub literal_exact : IsExact (literal_at d variable_count) literal_item (λ lit. IsAtomFor d variable_count false lit.atom)
   unfolding literal_at
   literal_exact =
       exact_as _ literal_item _
       (as_exact _ _ _
-      (pair_exact sign_at sign_item (λ sign. Unit {0}) sign_exact (λ sign. atom_at d vars false) (λ sign. atom_item)
-      (λ sign. IsAtomFor d vars false) (λ sign is. atom_exact false) (λ sign. atom_starts)) literal_of_parts (λ lit. (lit.positive, lit.atom))
-      (λ parts is. refl) (λ lit. refl)) (λ lit. IsAtomFor d vars false lit.atom) (λ lit is. is.1) (λ lit is. (tt, is))
+      (pair_exact sign_at sign_item (λ sign. Unit {0}) sign_exact (λ sign. atom_at d variable_count false) (λ sign. atom_item)
+      (λ sign. IsAtomFor d variable_count false) (λ sign is. atom_exact false) (λ sign. atom_starts)) literal_of_parts (λ lit. (lit.positive, lit.atom))
+      (λ parts is. refl) (λ lit. refl)) (λ lit. IsAtomFor d variable_count false lit.atom) (λ lit is. is.1) (λ lit is. (tt, is))
 
 pub literal_starts : StartsWell literal_item
 literal_starts = record { starts = each }
@@ -196,23 +196,23 @@ literal_starts = record { starts = each }
 
 -- ---- atoms of the language
 
-module _ (d : Draft) (vars : ℕ) where
-  pub term_there : (t : Term) → IsTermFor (length d.objects) vars false t → IsTermOf (language d) vars t
+module _ (d : Draft) (variable_count : ℕ) where
+  pub term_there : (t : Term) → IsTermFor (length d.objects) variable_count false t → IsTermOf (language d) variable_count t
   term_there (Obj n) is = is
   term_there (Var v) is = is
   term_there Any is = absurd (cc)
 
-  pub term_back : (t : Term) → IsTermOf (language d) vars t → IsTermFor (length d.objects) vars false t
+  pub term_back : (t : Term) → IsTermOf (language d) variable_count t → IsTermFor (length d.objects) variable_count false t
   term_back (Obj n) is = is
   term_back (Var v) is = is
   term_back Any is = absurd is
 
-  pub pattern_there : (t : Term) → IsTermFor (length d.objects) vars true t → IsPatternTermOf (language d) vars t
+  pub pattern_there : (t : Term) → IsTermFor (length d.objects) variable_count true t → IsPatternTermOf (language d) variable_count t
   pattern_there (Obj n) is = is
   pattern_there (Var v) is = is
   pattern_there Any is = tt
 
-  pub pattern_back : (t : Term) → IsPatternTermOf (language d) vars t → IsTermFor (length d.objects) vars true t
+  pub pattern_back : (t : Term) → IsPatternTermOf (language d) variable_count t → IsTermFor (length d.objects) variable_count true t
   pattern_back (Obj n) is = is
   pattern_back (Var v) is = is
   pattern_back Any is = refl
@@ -221,25 +221,25 @@ module _ (d : Draft) (vars : ℕ) where
   each_there P Q f [] all = tt
   each_there P Q f (t ∷ ts) all = (f t all.0, each_there P Q f ts all.1)
 
-  pub atom_there : (atom : Atom) → IsAtomFor d vars false atom → IsAtomOf (language d) vars atom
-  atom_there atom is = ((is.pred, is.count), All-from_recursion _ atom.args (each_there _ (IsTermOf (language d) vars) term_there atom.args is.terms))
+  pub atom_there : (atom : Atom) → IsAtomFor d variable_count false atom → IsAtomOf (language d) variable_count atom
+  atom_there atom is = ((is.pred, is.count), All-from_recursion _ atom.args (each_there _ (IsTermOf (language d) variable_count) term_there atom.args is.terms))
 
-  pub atom_back : (atom : Atom) → IsAtomOf (language d) vars atom → IsAtomFor d vars false atom
+  pub atom_back : (atom : Atom) → IsAtomOf (language d) variable_count atom → IsAtomFor d variable_count false atom
   atom_back atom is = record {
     pred = is.0.0;
     count = is.0.1;
-    terms = each_there (IsTermOf (language d) vars) _ term_back atom.args (recursion_from_All _ atom.args is.1);
+    terms = each_there (IsTermOf (language d) variable_count) _ term_back atom.args (recursion_from_All _ atom.args is.1);
   }
 
-  pub pattern_atom_there : (atom : Atom) → IsAtomFor d vars true atom → IsPatternOf (language d) vars atom
+  pub pattern_atom_there : (atom : Atom) → IsAtomFor d variable_count true atom → IsPatternOf (language d) variable_count atom
   pattern_atom_there atom is = (
     (is.pred, is.count),
-    All-from_recursion _ atom.args (each_there _ (IsPatternTermOf (language d) vars) pattern_there atom.args is.terms),
+    All-from_recursion _ atom.args (each_there _ (IsPatternTermOf (language d) variable_count) pattern_there atom.args is.terms),
   )
 
-  pub pattern_atom_back : (atom : Atom) → IsPatternOf (language d) vars atom → IsAtomFor d vars true atom
+  pub pattern_atom_back : (atom : Atom) → IsPatternOf (language d) variable_count atom → IsAtomFor d variable_count true atom
   pattern_atom_back atom is = record {
     pred = is.0.0;
     count = is.0.1;
-    terms = each_there (IsPatternTermOf (language d) vars) _ pattern_back atom.args (recursion_from_All _ atom.args is.1);
+    terms = each_there (IsPatternTermOf (language d) variable_count) _ pattern_back atom.args (recursion_from_All _ atom.args is.1);
   }

@@ -30,29 +30,29 @@ module _ (p : Problem) (h n s o w h2 n2 s2 o2 w2 : ℕ) where
   abbrev other : Problem
   other = limited p h2 n2 s2 o2 w2
 
-  term_there : (vars : ℕ) (t : Term) → IsTermOf one vars t → IsTermOf other vars t
-  term_there vars (Obj k) is = is
-  term_there vars (Var v) is = is
-  term_there vars Any is = is
+  term_there : (variable_count : ℕ) (t : Term) → IsTermOf one variable_count t → IsTermOf other variable_count t
+  term_there variable_count (Obj k) is = is
+  term_there variable_count (Var v) is = is
+  term_there variable_count Any is = is
 
-  term_back : (vars : ℕ) (t : Term) → IsTermOf other vars t → IsTermOf one vars t
-  term_back vars (Obj k) is = is
-  term_back vars (Var v) is = is
-  term_back vars Any is = is
+  term_back : (variable_count : ℕ) (t : Term) → IsTermOf other variable_count t → IsTermOf one variable_count t
+  term_back variable_count (Obj k) is = is
+  term_back variable_count (Var v) is = is
+  term_back variable_count Any is = is
 
-  atom_there : (vars : ℕ) (a : Atom) → IsAtomOf one vars a → IsAtomOf other vars a
-  atom_there vars a is = (is.0, λ k t below. term_there vars _ (is.1 k t below))
+  atom_there : (variable_count : ℕ) (a : Atom) → IsAtomOf one variable_count a → IsAtomOf other variable_count a
+  atom_there variable_count a is = (is.0, λ k t below. term_there variable_count _ (is.1 k t below))
 
   -- ---- tables
 
-  rows_there : (params : ℕ) (steps : List OpInst) (goal : List Atom) (goal_vars : ℕ) (rows : List (List Derivation))
-      → RowsProve (IsObjectOrParameter p.objects params) one params steps goal goal_vars rows
-      → RowsProve (IsObjectOrParameter p.objects params) other params steps goal goal_vars rows
-  rows_there params [] goal goal_vars [] is = is
-  rows_there params [] goal goal_vars (row ∷ []) is = is
-  rows_there params [] goal goal_vars (row ∷ second ∷ rows) is = is
-  rows_there params (inst ∷ steps) goal goal_vars [] is = is
-  rows_there params (inst ∷ steps) goal goal_vars (row ∷ rows) is = (is.0, rows_there params steps goal goal_vars rows is.1)
+  rows_there : (params : ℕ) (steps : List OpInst) (goal : List Atom) (goal_variable_count : ℕ) (rows : List (List Derivation))
+      → RowsProve (IsObjectOrParameter p.objects params) one params steps goal goal_variable_count rows
+      → RowsProve (IsObjectOrParameter p.objects params) other params steps goal goal_variable_count rows
+  rows_there params [] goal goal_variable_count [] is = is
+  rows_there params [] goal goal_variable_count (row ∷ []) is = is
+  rows_there params [] goal goal_variable_count (row ∷ second ∷ rows) is = is
+  rows_there params (inst ∷ steps) goal goal_variable_count [] is = is
+  rows_there params (inst ∷ steps) goal goal_variable_count (row ∷ rows) is = (is.0, rows_there params steps goal goal_variable_count rows is.1)
 
   table_there : (t : Table) → AreSortsOf other t.param_sorts → IsTable one t → IsTable other t
   table_there t sorts is = record {
@@ -63,7 +63,7 @@ module _ (p : Problem) (h n s o w h2 n2 s2 o2 w2 : ℕ) where
           record { op = inst_is.op; count = inst_is.count; terms = λ j u inside. term_there t.params _ (inst_is.terms j u inside) };
       goal = λ k d below. atom_there _ _ (is.in_range.goal k d below);
     };
-    prove = rows_there t.params t.steps t.goal t.goal_vars _ is.prove;
+    prove = rows_there t.params t.steps t.goal t.goal_variable_count _ is.prove;
     marks = is.marks;
     atoms = λ k d below. atom_there t.params _ (is.atoms k d below);
     named = λ k d below.

@@ -19,7 +19,7 @@ use Rattle.px_cert.specs.ClaimRanges.{AreAtMost, AreProofsInRange, AreTableTerms
 use Rattle.px_cert.specs.Drafts.{language}
 use Rattle.px_cert.specs.Limits.{greatest_written_height, most_atoms, most_places, table_variables}
 use Rattle.px_cert.specs.Lines.{atom_item, derivation_item, derivation_items, list_item, number_item, proof_item, term_item}
-use Rattle.px_cert.specs.Reading.{◌>>=◌, Front, Reader, after_text, ancestor_at, atom_at, fact_at, leaf_of_parts, many_at, number_at, pair_at, place_at, proof_at, row_items, step_at, step_of_parts, term_at, terms_at}
+use Rattle.px_cert.specs.Reading.{◌>>=◌, Prefix, Reader, after_text, ancestor_at, atom_at, fact_at, leaf_of_parts, many_at, number_at, pair_at, place_at, proof_at, row_items, step_at, step_of_parts, term_at, terms_at}
 use Rattle.px_cert.proofs.Digits.{count_exact, number_exact}
 use Rattle.px_cert.proofs.Exact.{IsExact, StartsWell, after_takes, bind_some, many_exact, many_start, pair_exact, stops}
 use Rattle.px_cert.proofs.Items.{IsAtomFor, IsSmall, IsTermFor, atom_exact, atom_starts, chosen_is, each_there, list_exact, pattern_atom_back, pattern_atom_there, pattern_back, pattern_there, term_exact, term_starts}
@@ -136,25 +136,25 @@ module _ (d : Draft) (small : IsSmall d) where
     abbrev parts_count : ℕ → ℕ
     parts_count number = length (clause_at d.axioms number).lits - 1
 
-    abbrev vars_count : ℕ → ℕ
-    vars_count number = (clause_at d.axioms number).vars
+    abbrev variable_count_is : ℕ → ℕ
+    variable_count_is number = (clause_at d.axioms number).variable_count
 
     parts_start : StartsWell (flat_map proof_item)
     parts_start = many_start _ proof_item _ part proof_starts
 
     -- the terms and the parts
     abbrev choices_reader : ℕ → Reader (List Term × List Proof)
-    choices_reader number = pair_at (terms_at d (vars_count number)) (λ theta. many_at (proof_at d levels) (parts_count number))
+    choices_reader number = pair_at (terms_at d (variable_count_is number)) (λ theta. many_at (proof_at d levels) (parts_count number))
 
     abbrev choices_item : List Term × List Proof → List ℕ
     choices_item q = flat_map term_item q.0 ++ flat_map proof_item q.1
 
     abbrev AreChoices : ℕ → List Term × List Proof → Type 0
-    AreChoices number q = AreTermsRead (vars_count number) q.0 × ArePartsRead (parts_count number) q.1
+    AreChoices number q = AreTermsRead (variable_count_is number) q.0 × ArePartsRead (parts_count number) q.1
 
     choices_exact : (number : ℕ) → IsExact (choices_reader number) choices_item (AreChoices number)
     choices_exact number =
-        pair_exact (terms_at d (vars_count number)) (flat_map term_item) (AreTermsRead (vars_count number)) (terms_exact (vars_count number))
+        pair_exact (terms_at d (variable_count_is number)) (flat_map term_item) (AreTermsRead (variable_count_is number)) (terms_exact (variable_count_is number))
         (λ theta. many_at (proof_at d levels) (parts_count number)) (λ theta. flat_map proof_item)
         (λ theta. ArePartsRead (parts_count number)) (λ theta is. many_exact _ proof_item _ part proof_starts (parts_count number))
         (λ theta. parts_start)
@@ -276,11 +276,11 @@ module _ (d : Draft) (small : IsSmall d) where
         → proof_at d (suc levels) (derivation_item f ++ rest) ≡ Some (proof_of f, rest)
     unfolding proof_at fact_at ancestor_at step_at
     form_again (fact leaf) rest low is stop =
-        ap (λ (o : Front (ℕ × (ℕ × Atom))). o >>= λ x. Some (leaf_of_parts x.0, x.1))
+        ap (λ (o : Prefix (ℕ × (ℕ × Atom))). o >>= λ x. Some (leaf_of_parts x.0, x.1))
         (fact_parts.again (leaf.column, (leaf.index, leaf.atom)) rest
         (is.0, (is.1, pattern_atom_back d table_variables leaf.atom is.2)) stop)
     form_again (ancestor i) rest low is stop =
-        ap (λ (o : Front ℕ). o >>= λ x. Some (Anc x.0, x.1)) ((count_exact most_places (omega arith)).again i rest is stop)
+        ap (λ (o : Prefix ℕ). o >>= λ x. Some (Anc x.0, x.1)) ((count_exact most_places (omega arith)).again i rest is stop)
     form_again (step number theta place parts) rest low is stop =
         let same = derivations-proofs_of parts (parts_whole d parts is.5) in
         let text : derivation_items parts ≡ flat_map proof_item (proofs_of parts) =
@@ -292,7 +292,7 @@ module _ (d : Draft) (small : IsSmall d) where
         let count : length (proofs_of parts) ≡ parts_count number = omega (arith, counted, whole) in
         ap (λ (r : List ℕ). step_at d (proof_at d levels)
         ((number_item number ++ (number_item place ++ (flat_map term_item theta ++ r))) ++ rest)) text
-        ∙ ap (λ (o : Front (ℕ × (ℕ × (List Term × List Proof)))). o >>= λ x. Some (step_of_parts x.0, x.1))
+        ∙ ap (λ (o : Prefix (ℕ × (ℕ × (List Term × List Proof)))). o >>= λ x. Some (step_of_parts x.0, x.1))
         (step_parts.again (number, (place, (theta, proofs_of parts))) rest
         (is.0, (is.1, ((is.2, terms_back theta is.3), (count, parts_split (proofs_of parts) ranged.0 ranged.1)))) stop)
     form_again (gap atom) rest low is stop = absurd is

@@ -65,14 +65,14 @@ mapped f (y ∷ xs) x (zero, below, is) = (0, omega arith, ap f is)
 mapped f (y ∷ xs) x (suc k, below, is) = Contains-later (f y) (map f xs) (f x) (mapped f xs x (k, omega (arith, below), is))
 
 -- there is a row more than there are steps
-pub rows_count : (IsTerm : Term → Type 0) (p : Problem) (params : ℕ) (steps : List OpInst) (goal : List Atom) (goal_vars : ℕ)
-    (rows : List (List Derivation)) → RowsProve IsTerm p params steps goal goal_vars rows → length rows ≡ suc (length steps)
-rows_count IsTerm p params [] goal goal_vars [] is = absurd is
-rows_count IsTerm p params [] goal goal_vars (row ∷ []) is = refl
-rows_count IsTerm p params [] goal goal_vars (row ∷ second ∷ rows) is = absurd is
-rows_count IsTerm p params (inst ∷ steps) goal goal_vars [] is = absurd is
-rows_count IsTerm p params (inst ∷ steps) goal goal_vars (row ∷ rows) is =
-    ap suc (rows_count IsTerm p params steps goal goal_vars rows is.1)
+pub rows_count : (IsTerm : Term → Type 0) (p : Problem) (params : ℕ) (steps : List OpInst) (goal : List Atom) (goal_variable_count : ℕ)
+    (rows : List (List Derivation)) → RowsProve IsTerm p params steps goal goal_variable_count rows → length rows ≡ suc (length steps)
+rows_count IsTerm p params [] goal goal_variable_count [] is = absurd is
+rows_count IsTerm p params [] goal goal_variable_count (row ∷ []) is = refl
+rows_count IsTerm p params [] goal goal_variable_count (row ∷ second ∷ rows) is = absurd is
+rows_count IsTerm p params (inst ∷ steps) goal goal_variable_count [] is = absurd is
+rows_count IsTerm p params (inst ∷ steps) goal goal_variable_count (row ∷ rows) is =
+    ap suc (rows_count IsTerm p params steps goal goal_variable_count rows is.1)
 
 -- proofs that are low, list by list
 pub lows : (most : ℕ) (rows : List (List Derivation)) → All (All (λ (e : Derivation). height e ≤ most)) rows
@@ -126,14 +126,14 @@ module _ (d : Draft) (sound : IsSound d) (params : ℕ) (few : params ≤ most_p
       ranged path lit (fact leaf) is good short = good.0
       ranged path lit (ancestor i) is good short = let below = got_below path i (complement_of lit) is in omega (arith, below, short)
       ranged path lit (step number theta place parts) is good short =
-          let empty : Clause = record { vars = 0; lits = [] } in
+          let empty : Clause = record { variable_count = 0; lits = [] } in
           let below = got_below d.axioms number is.0 is.1.axiom_at in
           let there : clause_at d.axioms number ≡ is.0 = got_is d.axioms number is.0 empty is.1.axiom_at in
           let size = (sound.clauses number empty below).1.1 in
           let at = got_below (instance_of is.0.lits theta) place lit is.1.literal_at in (
             below,
             place_is number place theta is.0 size there at,
-            is.1.terms ∙ sym (ap (λ (c : Clause). c.vars) there),
+            is.1.terms ∙ sym (ap (λ (c : Clause). c.variable_count) there),
             λ k t inside. table_term _ (is.1.choices k t inside),
             count_is path lit number place theta parts is.0 there at is.2,
             parts_ranged (lit ∷ path) (parts_of is.0.lits theta place) parts is.2 good (omega (arith, short)),
@@ -183,18 +183,18 @@ module _ (d : Draft) (sound : IsSound d) (params : ℕ) (few : params ≤ most_p
   row_here p same atoms row is good low =
       row_ranged atoms row (subst (λ (cs : List Clause). ProvesEachOf IsTerm cs atoms row) same is) good low
 
-  pub rows_ranged : (p : Problem) → p.axioms ≡ d.axioms → (steps : List OpInst) (goal : List Atom) (goal_vars : ℕ)
-      (rows : List (List Derivation)) → RowsProve IsTerm p params steps goal goal_vars rows
+  pub rows_ranged : (p : Problem) → p.axioms ≡ d.axioms → (steps : List OpInst) (goal : List Atom) (goal_variable_count : ℕ)
+      (rows : List (List Derivation)) → RowsProve IsTerm p params steps goal goal_variable_count rows
       → AllByRecursion (λ row. AllByRecursion IsGoodLeaf (row_leaves row)) rows → AllByRecursion (AllByRecursion IsLowHere) rows
       → AllByRecursion (AllByRecursion IsRanged) rows
-  rows_ranged p same [] goal goal_vars [] is good low = absurd is
-  rows_ranged p same [] goal goal_vars (row ∷ []) is good low =
+  rows_ranged p same [] goal goal_variable_count [] is good low = absurd is
+  rows_ranged p same [] goal goal_variable_count (row ∷ []) is good low =
       (row_here p same (map (substitute_atom (variables params ++ is.0)) goal) row is.2 good.0 low.0, tt)
-  rows_ranged p same [] goal goal_vars (row ∷ second ∷ rows) is good low = absurd is
-  rows_ranged p same (inst ∷ steps) goal goal_vars [] is good low = absurd is
-  rows_ranged p same (inst ∷ steps) goal goal_vars (row ∷ rows) is good low = (
+  rows_ranged p same [] goal goal_variable_count (row ∷ second ∷ rows) is good low = absurd is
+  rows_ranged p same (inst ∷ steps) goal goal_variable_count [] is good low = absurd is
+  rows_ranged p same (inst ∷ steps) goal goal_variable_count (row ∷ rows) is good low = (
     row_here p same (precondition p inst) row is.0 good.0 low.0,
-    rows_ranged p same steps goal goal_vars rows is.1 good.1 low.1,
+    rows_ranged p same steps goal goal_variable_count rows is.1 good.1 low.1,
   )
 
   -- ---- marks
@@ -227,18 +227,18 @@ module _ (d : Draft) (sound : IsSound d) (params : ℕ) (few : params ≤ most_p
         (record { pre = omega arith; del = omega arith; add = omega arith })).pre in
         omega (arith, short, length-map {A = Atom} {B = Atom})
 
-    pub rows_short : (goal : List Atom) → length goal ≤ 16 → (goal_vars : ℕ) (left : List OpInst) (rows : List (List Derivation))
-        → RowsProve IsTerm p params left goal goal_vars rows → AllByRecursion (λ (row : List Derivation). length row ≤ 16) rows
-    rows_short goal few_atoms goal_vars [] [] is = absurd is
-    rows_short goal few_atoms goal_vars [] (row ∷ []) is =
+    pub rows_short : (goal : List Atom) → length goal ≤ 16 → (goal_variable_count : ℕ) (left : List OpInst) (rows : List (List Derivation))
+        → RowsProve IsTerm p params left goal goal_variable_count rows → AllByRecursion (λ (row : List Derivation). length row ≤ 16) rows
+    rows_short goal few_atoms goal_variable_count [] [] is = absurd is
+    rows_short goal few_atoms goal_variable_count [] (row ∷ []) is =
         let same = each_count p.axioms (map (substitute_atom (variables params ++ is.0)) goal) row is.2 in
         (omega (arith, same, few_atoms, length-map {A = Atom} {B = Atom}), tt)
-    rows_short goal few_atoms goal_vars [] (row ∷ second ∷ rows) is = absurd is
-    rows_short goal few_atoms goal_vars (inst ∷ left) [] is = absurd is
-    rows_short goal few_atoms goal_vars (inst ∷ left) (row ∷ rows) is =
+    rows_short goal few_atoms goal_variable_count [] (row ∷ second ∷ rows) is = absurd is
+    rows_short goal few_atoms goal_variable_count (inst ∷ left) [] is = absurd is
+    rows_short goal few_atoms goal_variable_count (inst ∷ left) (row ∷ rows) is =
         let same = each_count p.axioms (precondition p inst) row is.0 in
         let few_atoms_here = precondition_few inst in
-        (omega (arith, same, few_atoms_here), rows_short goal few_atoms goal_vars left rows is.1)
+        (omega (arith, same, few_atoms_here), rows_short goal few_atoms goal_variable_count left rows is.1)
 
     at_step : (column : ℕ) (inst : OpInst) → step_at steps column ≡ Some inst → column ≤ length steps
     at_step zero inst e = absurd (cc)

@@ -35,7 +35,7 @@ rule_lines d = operator_lines d (length d.schemas)
 
 -- those up to the steps, where so many come
 abbrev step_lines : Draft → ℕ → List Line
-step_lines d count = rule_lines d ++ (table d.params ∷ goal d.goal_vars d.goal ∷ steps count ∷ map action d.steps)
+step_lines d count = rule_lines d ++ (table d.params ∷ goal d.goal_variable_count d.goal ∷ steps count ∷ map action d.steps)
 
 abbrev all_lines : Draft → List Line
 all_lines d = step_lines d (length d.steps) ++ map row d.rows
@@ -55,7 +55,7 @@ lines_before d (due.Add more) =
     operator_lines d (length d.schemas + (more + 1)) ++ (operator d.schema.param_sorts ∷ pre d.schema.pre ∷ delete d.schema.del ∷ [])
 lines_before d due.Table = rule_lines d
 lines_before d due.Goal = rule_lines d ++ (table d.params ∷ [])
-lines_before d due.Steps = rule_lines d ++ (table d.params ∷ goal d.goal_vars d.goal ∷ [])
+lines_before d due.Steps = rule_lines d ++ (table d.params ∷ goal d.goal_variable_count d.goal ∷ [])
 lines_before d (due.Step more rows) = step_lines d (length d.steps + (more + 1))
 lines_before d (due.Row more) = all_lines d
 lines_before d due.Nothing = all_lines d
@@ -113,10 +113,10 @@ empty_is : {A : Type 0} (xs : List A) → length xs ≡ 0 → xs ≡ []
 empty_is [] nothing = refl
 empty_is (x ∷ xs) nothing = absurd (omega (arith, nothing))
 
-put_four : (front behind : List Line) (o w x y z : Line)
-    → front ++ (o ∷ (behind ++ (w ∷ x ∷ y ∷ z ∷ []))) ≡ ((front ++ (o ∷ behind)) ++ (w ∷ x ∷ y ∷ [])) ++ (z ∷ [])
-put_four front behind o w x y z =
-    sym (append_assoc (front ++ (o ∷ behind)) (w ∷ x ∷ y ∷ []) (z ∷ []) ∙ append_assoc front (o ∷ behind) (w ∷ x ∷ y ∷ z ∷ []))
+put_four : (prefix behind : List Line) (o w x y z : Line)
+    → prefix ++ (o ∷ (behind ++ (w ∷ x ∷ y ∷ z ∷ []))) ≡ ((prefix ++ (o ∷ behind)) ++ (w ∷ x ∷ y ∷ [])) ++ (z ∷ [])
+put_four prefix behind o w x y z =
+    sym (append_assoc (prefix ++ (o ∷ behind)) (w ∷ x ∷ y ∷ []) (z ∷ []) ∙ append_assoc prefix (o ∷ behind) (w ∷ x ∷ y ∷ z ∷ []))
 
 -- the lines before what is due after this line
 abbrev Adds : Draft → Due → Line → Type 0
@@ -182,8 +182,8 @@ adds_after d due.Steps line e sound nothing is =
     let count : length d.steps + is.0 ≡ is.0 = omega (arith, no_step) in
     becomes (Adds d due.Steps) line _ is.1
     (steps_then-before (record d { due = steps_then is.0 (is.0 + 1) }) is.0 (is.0 + 1) nothing.1
-    ∙ (λ i. rule_lines d ++ (table d.params ∷ goal d.goal_vars d.goal ∷ steps (count i) ∷ map action (nothing.0 i)))
-    ∙ sym (append_assoc (rule_lines d) (table d.params ∷ goal d.goal_vars d.goal ∷ []) (steps is.0 ∷ [])))
+    ∙ (λ i. rule_lines d ++ (table d.params ∷ goal d.goal_variable_count d.goal ∷ steps (count i) ∷ map action (nothing.0 i)))
+    ∙ sym (append_assoc (rule_lines d) (table d.params ∷ goal d.goal_variable_count d.goal ∷ []) (steps is.0 ∷ [])))
 adds_after d (due.Step more rows) line e sound nothing is =
     let more_is = ap more_of e in
     let count : length (d.steps ++ is.0 ∷ []) + more_of d.due ≡ length d.steps + (more + 1) = omega (arith, length_push d.steps is.0, more_is) in
@@ -191,9 +191,9 @@ adds_after d (due.Step more rows) line e sound nothing is =
     becomes (Adds d (due.Step more rows)) line _ is.1
     (steps_then-before (record d { due = steps_then (more_of d.due) (rows_of_due d.due); steps = d.steps ++ is.0 ∷ [] }) (more_of d.due)
     (rows_of_due d.due) nothing
-    ∙ (λ i. rule_lines d ++ (table d.params ∷ goal d.goal_vars d.goal ∷ steps (count i) ∷ lines i))
+    ∙ (λ i. rule_lines d ++ (table d.params ∷ goal d.goal_variable_count d.goal ∷ steps (count i) ∷ lines i))
     ∙ sym (append_assoc (rule_lines d)
-    (table d.params ∷ goal d.goal_vars d.goal ∷ steps (length d.steps + (more + 1)) ∷ map action d.steps) (action is.0 ∷ [])))
+    (table d.params ∷ goal d.goal_variable_count d.goal ∷ steps (length d.steps + (more + 1)) ∷ map action d.steps) (action is.0 ∷ [])))
 adds_after d (due.Row more) line e sound nothing is =
     let lines = map-append row d.rows (is.0 ∷ []) in
     becomes (Adds d (due.Row more)) line _ is.1

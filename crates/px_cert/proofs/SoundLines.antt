@@ -70,7 +70,7 @@ module _ (d : Draft) (sound : IsSound d) where
 
   -- a draft with these axioms and operators, of which so much is still due
   abbrev with_parts : Due → Schema → List ℕ → ℕ → List Atom → List OpInst → List (List Proof) → Draft
-  with_parts what schema params goal_vars goal steps rows = record {
+  with_parts what schema params goal_variable_count goal steps rows = record {
     due = what;
     objects = d.objects;
     arities = d.arities;
@@ -78,15 +78,15 @@ module _ (d : Draft) (sound : IsSound d) where
     schemas = d.schemas;
     schema = schema;
     params = params;
-    goal_vars = goal_vars;
+    goal_variable_count = goal_variable_count;
     goal = goal;
     steps = steps;
     rows = rows;
   }
 
-  module _ (what : Due) (schema : Schema) (params : List ℕ) (goal_vars : ℕ) (goal : List Atom) (steps : List OpInst) (rows : List (List Proof)) where
+  module _ (what : Due) (schema : Schema) (params : List ℕ) (goal_variable_count : ℕ) (goal : List Atom) (steps : List OpInst) (rows : List (List Proof)) where
     abbrev new : Draft
-    new = with_parts what schema params goal_vars goal steps rows
+    new = with_parts what schema params goal_variable_count goal steps rows
 
     same_rules : axioms_left what ≤ axioms_left d.due → operators_left what ≤ operators_left d.due → IsOpenSchema new what → IsSound new
     same_rules fewer_clauses fewer_operators so_far =
@@ -251,7 +251,7 @@ sound_after d due.Heading line e sound is =
     let axioms = ap axioms_left e in
     let operators = ap operators_left e in
     becomes (λ l. IsSound (after_line d l)) line _ is
-    (same_rules d sound due.Objects d.schema d.params d.goal_vars d.goal d.steps d.rows (omega arith) (omega arith) tt)
+    (same_rules d sound due.Objects d.schema d.params d.goal_variable_count d.goal d.steps d.rows (omega arith) (omega arith) tt)
 sound_after d due.Objects line e sound is =
     becomes (λ l. IsSound (after_line d l)) line _ is.1 (objects_sound d sound (ap axioms_left e) (ap operators_left e) is.0 is.2)
 sound_after d due.Predicates line e sound is =
@@ -264,7 +264,7 @@ sound_after d due.Axioms line e sound is =
     let left = axioms_then-left count in
     let others = axioms_no_operator count in
     becomes (λ l. IsSound (after_line d l)) line _ is.1
-    (same_rules d sound (axioms_then count) d.schema d.params d.goal_vars d.goal d.steps d.rows (omega arith) (omega arith)
+    (same_rules d sound (axioms_then count) d.schema d.params d.goal_variable_count d.goal d.steps d.rows (omega arith) (omega arith)
     (axioms_open count (record d { due = axioms_then count })))
 sound_after d (due.Axiom more) line e sound is =
     let axioms : axioms_left d.due ≡ more_of d.due + 1 = ap axioms_left e ∙ ap (λ k. k + 1) (sym (ap more_of e)) in
@@ -277,28 +277,28 @@ sound_after d due.Operators line e sound is =
     let left = operators_then-left count in
     let others = operators_no_axiom count in
     becomes (λ l. IsSound (after_line d l)) line _ is.1
-    (same_rules d sound (operators_then count) d.schema d.params d.goal_vars d.goal d.steps d.rows (omega arith) (omega arith)
+    (same_rules d sound (operators_then count) d.schema d.params d.goal_variable_count d.goal d.steps d.rows (omega arith) (omega arith)
     (operators_open count (record d { due = operators_then count })))
 sound_after d (due.Operator more) line e sound is =
     let axioms = ap axioms_left e in
     let operators : operators_left d.due ≡ more_of d.due + 1 = ap operators_left e ∙ ap (λ k. k + 1) (sym (ap more_of e)) in
     becomes (λ l. IsSound (after_line d l)) line _ is.1
     (same_rules d sound (due.Pre (more_of d.due))
-    (record { op = length d.schemas; params = length is.0; pre = []; del = []; add = []; param_sorts = is.0 }) d.params d.goal_vars d.goal
+    (record { op = length d.schemas; params = length is.0; pre = []; del = []; add = []; param_sorts = is.0 }) d.params d.goal_variable_count d.goal
     d.steps d.rows (omega arith) (omega arith) (begun_schema d sound is.0 is.2.0 is.2.1))
 sound_after d (due.Pre more) line e sound is =
     let so_far = subst (IsOpenSchema d) e sound.unfinished in
     let axioms = ap axioms_left e in
     let operators : operators_left d.due ≡ more_of d.due + 1 = ap operators_left e ∙ ap (λ k. k + 1) (sym (ap more_of e)) in
     becomes (λ l. IsSound (after_line d l)) line _ is.1
-    (same_rules d sound (due.Delete (more_of d.due)) (record d.schema { pre = is.0 }) d.params d.goal_vars d.goal d.steps d.rows (omega arith)
+    (same_rules d sound (due.Delete (more_of d.due)) (record d.schema { pre = is.0 }) d.params d.goal_variable_count d.goal d.steps d.rows (omega arith)
     (omega arith) (with_pre d sound d.schema so_far is.0 is.2))
 sound_after d (due.Delete more) line e sound is =
     let so_far = subst (IsOpenSchema d) e sound.unfinished in
     let axioms = ap axioms_left e in
     let operators : operators_left d.due ≡ more_of d.due + 1 = ap operators_left e ∙ ap (λ k. k + 1) (sym (ap more_of e)) in
     becomes (λ l. IsSound (after_line d l)) line _ is.1
-    (same_rules d sound (due.Add (more_of d.due)) (record d.schema { del = is.0 }) d.params d.goal_vars d.goal d.steps d.rows (omega arith)
+    (same_rules d sound (due.Add (more_of d.due)) (record d.schema { del = is.0 }) d.params d.goal_variable_count d.goal d.steps d.rows (omega arith)
     (omega arith) (with_del d sound d.schema so_far is.0 is.2))
 sound_after d (due.Add more) line e sound is =
     let so_far = subst (IsOpenSchema d) e sound.unfinished in
@@ -308,20 +308,20 @@ sound_after d (due.Add more) line e sound is =
     (with_add d sound d.schema so_far is.0 is.2))
 sound_after d due.Table line e sound is =
     becomes (λ l. IsSound (after_line d l)) line _ is.1
-    (late_line d sound due.Goal d.schema is.0 d.goal_vars d.goal d.steps d.rows (record { axioms = refl; operators = refl; unfinished = λ _. tt }))
+    (late_line d sound due.Goal d.schema is.0 d.goal_variable_count d.goal d.steps d.rows (record { axioms = refl; operators = refl; unfinished = λ _. tt }))
 sound_after d due.Goal line e sound is =
     becomes (λ l. IsSound (after_line d l)) line _ is.2
     (late_line d sound due.Steps d.schema d.params is.0 is.1 d.steps d.rows (record { axioms = refl; operators = refl; unfinished = λ _. tt }))
 sound_after d due.Steps line e sound is =
     becomes (λ l. IsSound (after_line d l)) line _ is.1
-    (late_line d sound (steps_then is.0 (is.0 + 1)) d.schema d.params d.goal_vars d.goal d.steps d.rows (steps_late is.0 (is.0 + 1)))
+    (late_line d sound (steps_then is.0 (is.0 + 1)) d.schema d.params d.goal_variable_count d.goal d.steps d.rows (steps_late is.0 (is.0 + 1)))
 sound_after d (due.Step more rows) line e sound is =
     becomes (λ l. IsSound (after_line d l)) line _ is.1
-    (late_line d sound (steps_then (more_of d.due) (rows_of_due d.due)) d.schema d.params d.goal_vars d.goal (d.steps ++ is.0 ∷ []) d.rows
+    (late_line d sound (steps_then (more_of d.due) (rows_of_due d.due)) d.schema d.params d.goal_variable_count d.goal (d.steps ++ is.0 ∷ []) d.rows
     (steps_late (more_of d.due) (rows_of_due d.due)))
 sound_after d (due.Row more) line e sound is =
     becomes (λ l. IsSound (after_line d l)) line _ is.1
-    (late_line d sound (rows_then (more_of d.due)) d.schema d.params d.goal_vars d.goal d.steps (d.rows ++ is.0 ∷ [])
+    (late_line d sound (rows_then (more_of d.due)) d.schema d.params d.goal_variable_count d.goal d.steps (d.rows ++ is.0 ∷ [])
     (rows_late (more_of d.due)))
 sound_after d due.Nothing line e sound is = absurd is
 

@@ -10,7 +10,7 @@ use Rattle.px_cert.specs.declared.refused.Refused.TheVariants as refused
 use Rattle.px_table.specs.Deciding.{clause_at}
 use Rattle.px_cert.specs.Limits.{table_variables}
 use Rattle.px_cert.specs.Sound.{IsSound}
-use Rattle.px_cert.specs.Reading.{◌>>=◌, Front, IsRefusal, Reader, many_at, number_at, place_at, proof_at, step_at, step_of_parts, term_at, terms_at}
+use Rattle.px_cert.specs.Reading.{◌>>=◌, Prefix, IsRefusal, Reader, many_at, number_at, place_at, proof_at, step_at, step_of_parts, term_at, terms_at}
 
 -- a refusal of the first is one of the whole
 pub refused_first : {A B : Type 0} (e : Refused) (o : Option A) (f : A → Option B) → IsRefusal e o → IsRefusal e (o >>= f)
@@ -27,14 +27,14 @@ module _ (d : Draft) (levels : ℕ) (bytes : List ℕ) where
   abbrev parts_at : ℕ → List Term → Reader (List Proof)
   parts_at number theta = many_at (proof_at d levels) (length (clause_at d.axioms number).lits - 1)
 
-  abbrev choices_after : ℕ → List Term × List ℕ → Front (List Term × List Proof)
+  abbrev choices_after : ℕ → List Term × List ℕ → Prefix (List Term × List Proof)
   choices_after number x = parts_at number x.0 x.1 >>= λ y. Some ((x.0, y.0), y.1)
 
-  abbrev placed_after : ℕ → ℕ × List ℕ → Front (ℕ × (List Term × List Proof))
+  abbrev placed_after : ℕ → ℕ × List ℕ → Prefix (ℕ × (List Term × List Proof))
   placed_after number x =
-      (terms_at d (clause_at d.axioms number).vars x.1 >>= choices_after number) >>= λ y. Some ((x.0, y.0), y.1)
+      (terms_at d (clause_at d.axioms number).variable_count x.1 >>= choices_after number) >>= λ y. Some ((x.0, y.0), y.1)
 
-  abbrev numbered_after : ℕ × List ℕ → Front (ℕ × (ℕ × (List Term × List Proof)))
+  abbrev numbered_after : ℕ × List ℕ → Prefix (ℕ × (ℕ × (List Term × List Proof)))
   numbered_after x = (place_at x.1 >>= placed_after x.0) >>= λ y. Some ((x.0, y.0), y.1)
 
   step_is : step_at d (proof_at d levels) bytes
@@ -45,7 +45,7 @@ module _ (d : Draft) (levels : ℕ) (bytes : List ℕ) where
   module _ (e : Refused) where
     whole_fails : IsRefusal e (number_at (length d.axioms) bytes >>= numbered_after) → IsRefusal e (step_at d (proof_at d levels) bytes)
     whole_fails fails =
-        subst (λ (r : Front Proof). IsRefusal e r) (sym step_is) (refused_first e (number_at (length d.axioms) bytes >>= numbered_after) _ fails)
+        subst (λ (r : Prefix Proof). IsRefusal e r) (sym step_is) (refused_first e (number_at (length d.axioms) bytes >>= numbered_after) _ fails)
 
     pub number_fails : (count : ℕ) → count ≡ length d.axioms → IsRefusal e (number_at count bytes)
         → IsRefusal e (step_at d (proof_at d levels) bytes)
@@ -66,68 +66,68 @@ module _ (d : Draft) (levels : ℕ) (bytes : List ℕ) where
       place_fails fails = after_number (refused_first e (place_at left) (placed_after number) fails)
 
       module _ (place : ℕ) (later : List ℕ) (placed : place_at left ≡ Some (place, later)) where
-        after_place : IsRefusal e (terms_at d (clause_at d.axioms number).vars later >>= choices_after number)
+        after_place : IsRefusal e (terms_at d (clause_at d.axioms number).variable_count later >>= choices_after number)
             → IsRefusal e (step_at d (proof_at d levels) bytes)
         after_place fails =
             after_number (refused_later e (place_at left) (placed_after number) (place, later) placed
-            (refused_first e (terms_at d (clause_at d.axioms number).vars later >>= choices_after number) _ fails))
+            (refused_first e (terms_at d (clause_at d.axioms number).variable_count later >>= choices_after number) _ fails))
 
-        pub terms_fail : IsRefusal e (terms_at d (clause_at d.axioms number).vars later) → IsRefusal e (step_at d (proof_at d levels) bytes)
-        terms_fail fails = after_place (refused_first e (terms_at d (clause_at d.axioms number).vars later) (choices_after number) fails)
+        pub terms_fail : IsRefusal e (terms_at d (clause_at d.axioms number).variable_count later) → IsRefusal e (step_at d (proof_at d levels) bytes)
+        terms_fail fails = after_place (refused_first e (terms_at d (clause_at d.axioms number).variable_count later) (choices_after number) fails)
 
-        pub parts_fail : (theta : List Term) (last : List ℕ) → terms_at d (clause_at d.axioms number).vars later ≡ Some (theta, last)
+        pub parts_fail : (theta : List Term) (last : List ℕ) → terms_at d (clause_at d.axioms number).variable_count later ≡ Some (theta, last)
             → IsRefusal e (many_at (proof_at d levels) (length (clause_at d.axioms number).lits - 1) last)
             → IsRefusal e (step_at d (proof_at d levels) bytes)
         parts_fail theta last terms fails =
-            after_place (refused_later e (terms_at d (clause_at d.axioms number).vars later) (choices_after number) (theta, last) terms
+            after_place (refused_later e (terms_at d (clause_at d.axioms number).variable_count later) (choices_after number) (theta, last) terms
             (refused_first e (many_at (proof_at d levels) (length (clause_at d.axioms number).lits - 1) last) _ fails))
 
   -- what is made of the parts
-  abbrev then_terms : List Term → Front (List Proof) → Front (List Term × List Proof)
+  abbrev then_terms : List Term → Prefix (List Proof) → Prefix (List Term × List Proof)
   then_terms theta r = r >>= λ y. Some ((theta, y.0), y.1)
 
-  abbrev then_place : ℕ → Front (List Term × List Proof) → Front (ℕ × (List Term × List Proof))
+  abbrev then_place : ℕ → Prefix (List Term × List Proof) → Prefix (ℕ × (List Term × List Proof))
   then_place place r = r >>= λ y. Some ((place, y.0), y.1)
 
-  abbrev then_number : ℕ → Front (ℕ × (List Term × List Proof)) → Front (ℕ × (ℕ × (List Term × List Proof)))
+  abbrev then_number : ℕ → Prefix (ℕ × (List Term × List Proof)) → Prefix (ℕ × (ℕ × (List Term × List Proof)))
   then_number number r = r >>= λ y. Some ((number, y.0), y.1)
 
-  abbrev then_step : Front (ℕ × (ℕ × (List Term × List Proof))) → Front Proof
+  abbrev then_step : Prefix (ℕ × (ℕ × (List Term × List Proof))) → Prefix Proof
   then_step r = r >>= λ x. Some (step_of_parts x.0, x.1)
 
   pub step_read : (count number place : ℕ) (left later last rest : List ℕ) (theta : List Term) (parts : List Proof) → count ≡ length d.axioms
       → number_at count bytes ≡ Some (number, left) → place_at left ≡ Some (place, later)
-      → terms_at d (clause_at d.axioms number).vars later ≡ Some (theta, last)
+      → terms_at d (clause_at d.axioms number).variable_count later ≡ Some (theta, last)
       → many_at (proof_at d levels) (length (clause_at d.axioms number).lits - 1) last ≡ Some (parts, rest)
       → step_at d (proof_at d levels) bytes ≡ Some (Step number theta place parts, rest)
   step_read count number place left later last rest theta parts count_is read placed terms whole =
       let first = subst (λ (k : ℕ). number_at k bytes ≡ Some (number, left)) count_is read in
       step_is
-      ∙ ap (λ (r : Front ℕ). then_step (r >>= numbered_after)) first
-      ∙ ap (λ (r : Front ℕ). then_step (then_number number (r >>= placed_after number))) placed
-      ∙ ap (λ (r : Front (List Term)). then_step (then_number number (then_place place (r >>= choices_after number)))) terms
-      ∙ ap (λ (r : Front (List Proof)). then_step (then_number number (then_place place (then_terms theta r)))) whole
+      ∙ ap (λ (r : Prefix ℕ). then_step (r >>= numbered_after)) first
+      ∙ ap (λ (r : Prefix ℕ). then_step (then_number number (r >>= placed_after number))) placed
+      ∙ ap (λ (r : Prefix (List Term)). then_step (then_number number (then_place place (r >>= choices_after number)))) terms
+      ∙ ap (λ (r : Prefix (List Proof)). then_step (then_number number (then_place place (then_terms theta r)))) whole
 
 -- ---- what the code has of the axiom
 
 -- so many terms, whatever the code calls the numbers
-pub terms_are : (d : Draft) (number objects count : ℕ) → objects ≡ length d.objects → count ≡ (clause_at d.axioms number).vars
-    → many_at (term_at objects table_variables true) count ≡ terms_at d (clause_at d.axioms number).vars
+pub terms_are : (d : Draft) (number objects count : ℕ) → objects ≡ length d.objects → count ≡ (clause_at d.axioms number).variable_count
+    → many_at (term_at objects table_variables true) count ≡ terms_at d (clause_at d.axioms number).variable_count
 terms_are d number objects count objects_are count_is = λ i. many_at (term_at (objects_are i) table_variables true) (count_is i)
 
 pub terms_read : (d : Draft) (number objects count : ℕ) (bytes : List ℕ) (theta : List Term) (rest : List ℕ) → objects ≡ length d.objects
-    → count ≡ (clause_at d.axioms number).vars → many_at (term_at objects table_variables true) count bytes ≡ Some (theta, rest)
-    → terms_at d (clause_at d.axioms number).vars bytes ≡ Some (theta, rest)
+    → count ≡ (clause_at d.axioms number).variable_count → many_at (term_at objects table_variables true) count bytes ≡ Some (theta, rest)
+    → terms_at d (clause_at d.axioms number).variable_count bytes ≡ Some (theta, rest)
 terms_read d number objects count bytes theta rest objects_are count_is read =
     subst (λ (r : Reader (List Term)). r bytes ≡ Some (theta, rest)) (terms_are d number objects count objects_are count_is) read
 
 pub terms_refused : (e : Refused) (d : Draft) (number objects count : ℕ) (bytes : List ℕ) → objects ≡ length d.objects
-    → count ≡ (clause_at d.axioms number).vars → IsRefusal e (many_at (term_at objects table_variables true) count bytes)
-    → IsRefusal e (terms_at d (clause_at d.axioms number).vars bytes)
+    → count ≡ (clause_at d.axioms number).variable_count → IsRefusal e (many_at (term_at objects table_variables true) count bytes)
+    → IsRefusal e (terms_at d (clause_at d.axioms number).variable_count bytes)
 terms_refused e d number objects count bytes objects_are count_is fails =
     subst (λ (r : Reader (List Term)). IsRefusal e (r bytes)) (terms_are d number objects count objects_are count_is) fails
 
 pub lits_are : (d : Draft) (number : ℕ) (lits : List Lit) → IsSound d → number < length d.axioms → lits ≡ (clause_at d.axioms number).lits
     → (1 ≤ length lits) × (length lits ≤ 6)
 lits_are d number lits sound below same =
-    subst (λ (ls : List Lit). (1 ≤ length ls) × (length ls ≤ 6)) (sym same) (sound.clauses number (record { vars = 0; lits = [] }) below).1
+    subst (λ (ls : List Lit). (1 ≤ length ls) × (length ls ≤ 6)) (sym same) (sound.clauses number (record { variable_count = 0; lits = [] }) below).1

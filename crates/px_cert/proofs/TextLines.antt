@@ -45,10 +45,10 @@ five_joined old a b c d e = simp append_assoc
 -- ---- axioms
 
 pub axiom_written : (f : Clause → List ℕ) (arena : List Clause) (number : ℕ) (x : Clause) (old mid new : List ℕ) → number < length arena
-    → ((d : Clause) → x.vars ≡ (get_or arena number d).vars) → ((d : Clause) → x.lits ≡ (get_or arena number d).lits)
+    → ((d : Clause) → x.variable_count ≡ (get_or arena number d).variable_count) → ((d : Clause) → x.lits ≡ (get_or arena number d).lits)
     → mid ≡ old ++ flat_map f (take number arena) → new ≡ mid ++ f x → new ≡ old ++ flat_map f (take (number + 1) arena)
-axiom_written f arena number x old mid new below vars lits before here =
-    let same : x ≡ get_or arena number x = λ i. record { vars = vars x i; lits = lits x i } in
+axiom_written f arena number x old mid new below variable_count lits before here =
+    let same : x ≡ get_or arena number x = λ i. record { variable_count = variable_count x i; lits = lits x i } in
     here ∙ ap (λ (r : List ℕ). r ++ f x) before ∙ append_assoc old (flat_map f (take number arena)) (f x)
     ∙ ap (λ (r : List ℕ). old ++ r)
     (ap (λ (r : List ℕ). flat_map f (take number arena) ++ r) (sym (append-nil (f x)))
@@ -117,16 +117,16 @@ module _ (t : Table) where
 
   pub table_written : (ps : List ℕ) (atoms : List Atom) (ts : List OpInst) (rs : List (List Proof)) (old a b c new : List ℕ)
       → ps ≡ t.param_sorts → atoms ≡ t.goal → ts ≡ t.steps → rs ≡ t.proofs → a ≡ old ++ line_bytes (table ps)
-      → b ≡ a ++ line_bytes (goal t.goal_vars atoms) → c ≡ b ++ (line_bytes (steps (length ts)) ++ step_bytes ts)
+      → b ≡ a ++ line_bytes (goal t.goal_variable_count atoms) → c ≡ b ++ (line_bytes (steps (length ts)) ++ step_bytes ts)
       → new ≡ c ++ row_bytes rs → new ≡ old ++ flat_map line_bytes (table_lines t)
   table_written ps atoms ts rs old a b c new ps_is atoms_are ts_are rs_are first second third last =
       let x = line_bytes (steps (length t.steps)) in
       let a_is = first ∙ (λ i. old ++ line_bytes (table (ps_is i))) in
-      let b_is = second ∙ (λ i. a_is i ++ line_bytes (goal t.goal_vars (atoms_are i))) in
+      let b_is = second ∙ (λ i. a_is i ++ line_bytes (goal t.goal_variable_count (atoms_are i))) in
       let c_is = third ∙ (λ i. b_is i ++ (line_bytes (steps (length (ts_are i))) ++ step_bytes (ts_are i))) in
       last ∙ (λ i. c_is i ++ row_bytes (rs_are i))
-      ∙ four_joined old (line_bytes (table t.param_sorts)) (line_bytes (goal t.goal_vars t.goal)) (x ++ step_bytes t.steps) (row_bytes t.proofs)
-      ∙ ap (λ (r : List ℕ). old ++ (line_bytes (table t.param_sorts) ++ (line_bytes (goal t.goal_vars t.goal) ++ r)))
+      ∙ four_joined old (line_bytes (table t.param_sorts)) (line_bytes (goal t.goal_variable_count t.goal)) (x ++ step_bytes t.steps) (row_bytes t.proofs)
+      ∙ ap (λ (r : List ℕ). old ++ (line_bytes (table t.param_sorts) ++ (line_bytes (goal t.goal_variable_count t.goal) ++ r)))
       (append_assoc x (step_bytes t.steps) (row_bytes t.proofs) ∙ ap (λ (r : List ℕ). x ++ r) body_bytes)
 
 -- ---- the whole

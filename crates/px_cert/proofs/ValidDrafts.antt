@@ -15,31 +15,31 @@ use Rattle.px_cert.specs.declared.draft.Draft.{Draft}
 use Rattle.px_cert.specs.Drafts.{HasObjectFor, language, problem_of}
 use Rattle.px_cert.specs.Sound.{IsGoodClause, IsSound}
 
-plain_term : (p : Problem) (vars : ℕ) (t : Term) → IsTermOf p vars t → IsPlainBelow vars t
-plain_term p vars (Obj n) is = tt
-plain_term p vars (Var v) is = is
-plain_term p vars Any is = is
+plain_term : (p : Problem) (variable_count : ℕ) (t : Term) → IsTermOf p variable_count t → IsPlainBelow variable_count t
+plain_term p variable_count (Obj n) is = tt
+plain_term p variable_count (Var v) is = is
+plain_term p variable_count Any is = is
 
 no_object_for : (d : Draft) (count : ℕ) → length d.objects ≡ 0 → HasObjectFor d count → count ≡ 0
 no_object_for d zero nothing has = refl
 no_object_for d (suc count) nothing has = let some = has (omega arith) in absurd (omega (arith, nothing, some))
 
 -- the axioms and operators are no part of what a term is of
-module _ (d : Draft) (vars : ℕ) where
-  term_of_problem : (t : Term) → IsTermOf (language d) vars t → IsTermOf (problem_of d) vars t
+module _ (d : Draft) (variable_count : ℕ) where
+  term_of_problem : (t : Term) → IsTermOf (language d) variable_count t → IsTermOf (problem_of d) variable_count t
   term_of_problem (Obj n) is = is
   term_of_problem (Var v) is = is
   term_of_problem Any is = is
 
-  pattern_of_problem : (t : Term) → IsPatternTermOf (language d) vars t → IsPatternTermOf (problem_of d) vars t
+  pattern_of_problem : (t : Term) → IsPatternTermOf (language d) variable_count t → IsPatternTermOf (problem_of d) variable_count t
   pattern_of_problem (Obj n) is = is
   pattern_of_problem (Var v) is = is
   pattern_of_problem Any is = is
 
-  atom_of_problem : (a : Atom) → IsAtomOf (language d) vars a → IsAtomOf (problem_of d) vars a
+  atom_of_problem : (a : Atom) → IsAtomOf (language d) variable_count a → IsAtomOf (problem_of d) variable_count a
   atom_of_problem a is = (is.0, λ k t below. term_of_problem _ (is.1 k t below))
 
-  atom_pattern_of_problem : (a : Atom) → IsPatternOf (language d) vars a → IsPatternOf (problem_of d) vars a
+  atom_pattern_of_problem : (a : Atom) → IsPatternOf (language d) variable_count a → IsPatternOf (problem_of d) variable_count a
   atom_pattern_of_problem a is = (is.0, λ k t below. pattern_of_problem _ (is.1 k t below))
 
 schema_of_problem : (d : Draft) (place : ℕ) (s : Schema) → IsSchemaOf (language d) place s → IsSchemaOf (problem_of d) place s
@@ -54,12 +54,12 @@ schema_of_problem d place s is = record {
 }
 
 axiom_of_problem : (d : Draft) (c : Clause) → IsAxiomOf (language d) c → IsAxiomOf (problem_of d) c
-axiom_of_problem d c is = record { vars = is.vars; lits = λ k l below. atom_of_problem d c.vars _ (is.lits k l below) }
+axiom_of_problem d c is = record { variable_count = is.variable_count; lits = λ k l below. atom_of_problem d c.variable_count _ (is.lits k l below) }
 
 pub clause_of_axiom : (d : Draft) (c : Clause) → IsGoodClause d c → IsClause c
 clause_of_axiom d c is = record {
   size = is.1;
-  plain = λ k l below j t inside. plain_term (language d) c.vars _ ((is.0.lits k l below).1 j t inside);
+  plain = λ k l below j t inside. plain_term (language d) c.variable_count _ ((is.0.lits k l below).1 j t inside);
 }
 
 pub sound_valid : (d : Draft) → IsSound d → IsValid (problem_of d)

@@ -24,7 +24,7 @@ use Rattle.px_cert.specs.ClaimRanges.{AreAtMost, IsCertifiedProblem, IsClaimInRa
 use Rattle.px_cert.specs.Drafts.{Follow, IsNext, after_line, no_lines}
 use Rattle.px_cert.specs.Limits.{greatest_written_height, most_atoms, most_places}
 use Rattle.px_cert.specs.Lines.{Line, heading, objects, predicates, axioms, operators, operator, pre, delete, add, table, goal, steps, action, row, line_bytes}
-use Rattle.px_cert.specs.Worked.{WorkedCertificates, front_text, goal_atom, making_problem, making_rows, making_table}
+use Rattle.px_cert.specs.Worked.{WorkedCertificates, prefix_text, goal_atom, making_problem, making_rows, making_table}
 use Rattle.px_cert.proofs.Claiming.{claimed, follow_claim, whole_draft}
 
 -- ---- the claims are in range
@@ -92,7 +92,7 @@ making-in_range column low = record {
   of = making_problem-in_range;
   params = refl;
   sorts = (omega arith, λ k s below. absurd (omega (arith, below)));
-  goal_vars = omega arith;
+  goal_variable_count = omega arith;
   goal = (omega arith, All-from_recursion (IsTableAtom (certified making_problem)) (goal_atom ∷ []) (goal-in_range, tt));
   steps = (
     omega arith,
@@ -116,11 +116,11 @@ making-in_range column low = record {
 
 -- ---- the texts
 
-right_text : certificate_text making_problem (making_table 1) ≡ front_text ++ codes "row 1 f 1 0 0\n"
+right_text : certificate_text making_problem (making_table 1) ≡ prefix_text ++ codes "row 1 f 1 0 0\n"
 unfolding digits
 right_text = rw derivation_of-fact refl
 
-other_text : certificate_text making_problem (making_table 2) ≡ front_text ++ codes "row 1 f 2 0 0\n"
+other_text : certificate_text making_problem (making_table 2) ≡ prefix_text ++ codes "row 1 f 2 0 0\n"
 unfolding digits
 other_text = rw derivation_of-fact refl
 
@@ -160,28 +160,28 @@ abbrev leave : Draft → List Line → Draft
 leave d [] = d
 leave d (line ∷ lines) = leave (after_line d line) lines
 
-follow_front : (d : Draft) (front rest : List Line) (last : Draft) → Follow d (front ++ rest) last → Follow d front (leave d front)
-follow_front d [] rest last follow = refl
-follow_front d (line ∷ front) rest last follow = (follow.0, follow_front (after_line d line) front rest last follow.1)
+follow_prefix : (d : Draft) (prefix rest : List Line) (last : Draft) → Follow d (prefix ++ rest) last → Follow d prefix (leave d prefix)
+follow_prefix d [] rest last follow = refl
+follow_prefix d (line ∷ prefix) rest last follow = (follow.0, follow_prefix (after_line d line) prefix rest last follow.1)
 
-abbrev front_lines : List Line
-front_lines = heading ∷ objects [] ∷ predicates (0 ∷ []) ∷ axioms 0 ∷ operators 1 ∷ operator [] ∷ pre [] ∷ delete [] ∷ add (goal_atom ∷ [])
+abbrev prefix_lines : List Line
+prefix_lines = heading ∷ objects [] ∷ predicates (0 ∷ []) ∷ axioms 0 ∷ operators 1 ∷ operator [] ∷ pre [] ∷ delete [] ∷ add (goal_atom ∷ [])
     ∷ table [] ∷ goal 0 (goal_atom ∷ []) ∷ steps 1 ∷ action (record { op = 0; args = [] }) ∷ row [] ∷ []
 
-front_bytes : front_text ≡ flat_map line_bytes front_lines ++ []
+prefix_bytes : prefix_text ≡ flat_map line_bytes prefix_lines ++ []
 unfolding digits
-front_bytes = refl
+prefix_bytes = refl
 
-making-cut : IsFirstBadLine front_text 15
+making-cut : IsFirstBadLine prefix_text 15
 making-cut =
     let follow = follow_claim (certified making_problem) (making_table 1) (making-in_range 1 (omega arith)) in
     record {
-      before = front_lines;
-      draft = leave no_lines front_lines;
+      before = prefix_lines;
+      draft = leave no_lines prefix_lines;
       rest = [];
-      follow = follow_front no_lines front_lines (row (Fact (record { column = 1; index = 0; atom = goal_atom }) ∷ []) ∷ [])
+      follow = follow_prefix no_lines prefix_lines (row (Fact (record { column = 1; index = 0; atom = goal_atom }) ∷ []) ∷ [])
           (whole_draft (certified making_problem) (making_table 1)) follow;
-      bytes_are = front_bytes;
+      bytes_are = prefix_bytes;
       number_is = refl;
       none_next = λ line more next same. nothing_there line more next.0 next.1 same;
       not_whole = λ e. absurd (cc);

@@ -27,7 +27,7 @@ pub record Claim : Type 0 where
 abbrev pub claim_of : Draft → Claim
 claim_of d = record {
   problem = problem_of d;
-  table = table_of_rows (length d.params) d.params d.steps d.goal d.goal_vars d.rows;
+  table = table_of_rows (length d.params) d.params d.steps d.goal d.goal_variable_count d.rows;
 }
 
 -- the bytes are the lines of a certificate, each as it is written
@@ -64,7 +64,7 @@ problem_lines p =
 
 abbrev pub table_lines : Table → List Line
 table_lines t =
-    table t.param_sorts ∷ goal t.goal_vars t.goal
+    table t.param_sorts ∷ goal t.goal_variable_count t.goal
     ∷ steps (length t.steps) ∷ (map action t.steps
     ++ map row t.proofs)
 
@@ -89,5 +89,5 @@ pub record IsCertifiable (problem : Problem) (table : Table) : Type 0 where
   pub operators : AreAtMost most_operators IsShortSchema problem.schemas
   pub params : table.params ≤ most_table_parameters
   pub steps : length table.steps ≤ most_steps
-  pub goal : (table.goal_vars ≤ most_formula_variables) × (length table.goal ≤ most_atoms)
+  pub goal : (table.goal_variable_count ≤ most_formula_variables) × (length table.goal ≤ most_atoms)
   pub low : All (All (λ d. height d ≤ greatest_written_height)) (rows_of table.proofs)

@@ -51,7 +51,7 @@ abbrev mutual
   IsProofInRange problem axioms (fact leaf) = (leaf.column ≤ most_places) × (leaf.index ≤ most_places) × IsTableAtom problem leaf.atom
   IsProofInRange problem axioms (ancestor i) = i ≤ most_places
   IsProofInRange problem axioms (step number theta place parts) =
-      (number < length axioms) × (place ≤ most_places) × (length theta ≡ (clause_at axioms number).vars) × AreTableTerms problem theta
+      (number < length axioms) × (place ≤ most_places) × (length theta ≡ (clause_at axioms number).variable_count) × AreTableTerms problem theta
       × (part_count parts + 1 ≡ length (clause_at axioms number).lits) × AreProofsInRange problem axioms parts
   IsProofInRange problem axioms (gap atom) = ⊥
   IsProofInRange problem axioms open_place = ⊥
@@ -96,7 +96,7 @@ pub record IsClaimInRange (problem : Problem) (table : Table) : Type 0 where
   pub of : IsCertifiedProblem problem
   pub params : table.params ≡ length table.param_sorts
   pub sorts : AreSorts most_table_parameters table.param_sorts
-  pub goal_vars : table.goal_vars ≤ most_formula_variables
+  pub goal_variable_count : table.goal_variable_count ≤ most_formula_variables
   pub goal : AreAtMost most_atoms (IsTableAtom problem) table.goal
   pub steps : AreAtMost most_steps (IsTableStep problem problem.schemas) table.steps
   pub row_count : length table.proofs ≡ length table.steps + 1

@@ -27,7 +27,7 @@ no_lines = record {
   schemas = [];
   schema = no_schema;
   params = [];
-  goal_vars = 0;
+  goal_variable_count = 0;
   goal = [];
   steps = [];
   rows = [];
@@ -69,7 +69,7 @@ IsDue d due.Predicates line =
     (arities : List ℕ) × (line ≡ predicates arities) × AreAtMost most_predicates (λ arity. arity ≤ most_arguments) arities
 IsDue d due.Axioms line = (count : ℕ) × (line ≡ axioms count) × (count ≤ most_clauses)
 IsDue d (due.Axiom more) line =
-    (c : Clause) × (line ≡ clause c) × (IsAxiomOf (language d) c × HasClauseLength c.lits × HasObjectFor d c.vars)
+    (c : Clause) × (line ≡ clause c) × (IsAxiomOf (language d) c × HasClauseLength c.lits × HasObjectFor d c.variable_count)
 IsDue d due.Operators line = (count : ℕ) × (line ≡ operators count) × (count ≤ most_operators)
 IsDue d (due.Operator more) line =
     (sorts : List ℕ) × (line ≡ operator sorts) × (AreSorts most_parameters sorts × HasObjectFor d (length sorts))
@@ -80,8 +80,8 @@ IsDue d (due.Delete more) line =
 IsDue d (due.Add more) line =
     (atoms : List Atom) × (line ≡ add atoms) × AreAtMost most_atoms (IsAtomOf (language d) d.schema.params) atoms
 IsDue d due.Table line = (sorts : List ℕ) × (line ≡ table sorts) × AreSorts most_table_parameters sorts
-IsDue d due.Goal line = (vars : ℕ) × (atoms : List Atom) × (line ≡ goal vars atoms)
-    × ((vars ≤ most_formula_variables) × AreAtMost most_atoms (IsTableAtom (language d)) atoms)
+IsDue d due.Goal line = (variable_count : ℕ) × (atoms : List Atom) × (line ≡ goal variable_count atoms)
+    × ((variable_count ≤ most_formula_variables) × AreAtMost most_atoms (IsTableAtom (language d)) atoms)
 IsDue d due.Steps line = (count : ℕ) × (line ≡ steps count) × (count ≤ most_steps)
 IsDue d (due.Step more rows) line = (inst : OpInst) × (line ≡ action inst) × IsTableStep (language d) d.schemas inst
 IsDue d (due.Row more) line = (proofs : List Proof) × (line ≡ row proofs) × AreAtMost most_atoms (IsRowProof (language d) d.axioms) proofs
@@ -145,7 +145,7 @@ after_line d (add atoms) = record d {
   schema = no_schema;
 }
 after_line d (table sorts) = record d { due = due.Goal; params = sorts }
-after_line d (goal vars atoms) = record d { due = due.Steps; goal_vars = vars; goal = atoms }
+after_line d (goal variable_count atoms) = record d { due = due.Steps; goal_variable_count = variable_count; goal = atoms }
 after_line d (steps count) = record d { due = steps_then count (count + 1) }
 after_line d (action inst) = record d { due = steps_then (more_of d.due) (rows_of_due d.due); steps = d.steps ++ inst ∷ [] }
 after_line d (row proofs) = record d { due = rows_then (more_of d.due); rows = d.rows ++ proofs ∷ [] }

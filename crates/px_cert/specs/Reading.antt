@@ -46,11 +46,11 @@ ReadsWhole made (Ok rest) read = read ≡ Some (made, rest.now)
 ReadsWhole made (Err e) read = IsRefusal e read
 
 -- a reader finds what was read, and what is left
-abbrev pub Front : Type 0 → Type 0
-Front A = Option (A × List ℕ)
+abbrev pub Prefix : Type 0 → Type 0
+Prefix A = Option (A × List ℕ)
 
 abbrev pub Reader : Type 0 → Type 0
-Reader A = List ℕ → Front A
+Reader A = List ℕ → Prefix A
 
 -- ---- readers of readers
 
@@ -118,16 +118,16 @@ abbrev pub object_at : ℕ → Reader Term
 object_at limit = as_at Obj (digits_at limit)
 
 abbrev pub variable_at : ℕ → Reader Term
-variable_at vars = as_at Var (digits_at vars)
+variable_at variable_count = as_at Var (digits_at variable_count)
 
 abbrev pub wild_card_at : Bool → Reader Term
 wild_card_at wild bytes = after_text (codes " $") bytes >>= λ rest. if wild then Some (Any, rest) else None
 
 -- an object below the first number, a variable below the second, or the wild card where it may stand
 unfoldable pub term_at : ℕ → ℕ → Bool → Reader Term
-term_at limit vars wild bytes =
+term_at limit variable_count wild bytes =
     chosen (after_text (codes " o") bytes) (object_at limit)
-    (chosen (after_text (codes " v") bytes) (variable_at vars) (wild_card_at wild bytes))
+    (chosen (after_text (codes " v") bytes) (variable_at variable_count) (wild_card_at wild bytes))
 
 -- a length, at most so great, and so many items
 unfoldable pub list_at : {A : Type 0} → Reader A → ℕ → Reader (List A)
@@ -137,8 +137,8 @@ abbrev pub atom_of_parts : ℕ × List Term → Atom
 atom_of_parts parts = record { pred = parts.0; args = parts.1 }
 
 unfoldable pub atom_at : Draft → ℕ → Bool → Reader Atom
-atom_at d vars wild = as_at atom_of_parts
-    (pair_at (number_at (length d.arities)) (λ pred. many_at (term_at (length d.objects) vars wild) (slice_index d.arities pred)))
+atom_at d variable_count wild = as_at atom_of_parts
+    (pair_at (number_at (length d.arities)) (λ pred. many_at (term_at (length d.objects) variable_count wild) (slice_index d.arities pred)))
 
 -- ---- literals and proofs
 
@@ -149,7 +149,7 @@ abbrev pub literal_of_parts : Bool × Atom → Lit
 literal_of_parts parts = record { positive = parts.0; atom = parts.1 }
 
 unfoldable pub literal_at : Draft → ℕ → Reader Lit
-literal_at d vars = as_at literal_of_parts (pair_at sign_at (λ sign. atom_at d vars false))
+literal_at d variable_count = as_at literal_of_parts (pair_at sign_at (λ sign. atom_at d variable_count false))
 
 abbrev pub leaf_of_parts : ℕ × (ℕ × Atom) → Proof
 leaf_of_parts parts = Fact (record { column = parts.0; index = parts.1.0; atom = parts.1.1 })
@@ -172,7 +172,7 @@ step_of_parts parts = Step parts.0 parts.1.1.0 parts.1.0 parts.1.1.1
 -- a step whose parts are read so
 unfoldable pub step_at : Draft → Reader Proof → Reader Proof
 step_at d part = as_at step_of_parts
-    (pair_at (number_at (length d.axioms)) (λ number. pair_at place_at (λ place. pair_at (terms_at d (clause_at d.axioms number).vars)
+    (pair_at (number_at (length d.axioms)) (λ number. pair_at place_at (λ place. pair_at (terms_at d (clause_at d.axioms number).variable_count)
     (λ theta. many_at part (length (clause_at d.axioms number).lits - 1)))))
 
 -- a proof of at most so many levels
@@ -186,7 +186,7 @@ proof_at d (suc levels) bytes =
 -- ---- lines
 
 -- the end of a line, after what was read
-abbrev pub ended : {A : Type 0} → A × List ℕ → Front A
+abbrev pub ended : {A : Type 0} → A × List ℕ → Prefix A
 ended read = after_text (codes "\n") read.1 >>= λ rest. Some (read.0, rest)
 
 -- a line of this first word and these items
@@ -200,24 +200,24 @@ abbrev pub sorts_at : ℕ → Reader (List ℕ)
 sorts_at most = list_at (number_at (greatest_sort + 1)) most
 
 abbrev pub atoms_at : Draft → ℕ → Bool → Reader (List Atom)
-atoms_at d vars wild = list_at (atom_at d vars wild) most_atoms
+atoms_at d variable_count wild = list_at (atom_at d variable_count wild) most_atoms
 
 -- there is an object for the variables or parameters, if there are any
 abbrev pub has_object : Draft → ℕ → Bool
 has_object d count = (count == 0) || nat_le 1 (length d.objects)
 
 abbrev pub clause_of_parts : ℕ × List Lit → Clause
-clause_of_parts parts = record { vars = parts.0; lits = parts.1 }
+clause_of_parts parts = record { variable_count = parts.0; lits = parts.1 }
 
 unfoldable pub clause_items : Draft → Reader Clause
-clause_items d = passing_at (λ c. nat_le 1 (length c.lits) && has_object d c.vars)
-    (as_at clause_of_parts (pair_at (number_at (most_formula_variables + 1)) (λ vars. list_at (literal_at d vars) most_literals)))
+clause_items d = passing_at (λ c. nat_le 1 (length c.lits) && has_object d c.variable_count)
+    (as_at clause_of_parts (pair_at (number_at (most_formula_variables + 1)) (λ variable_count. list_at (literal_at d variable_count) most_literals)))
 
 unfoldable pub operator_items : Draft → Reader (List ℕ)
 operator_items d = passing_at (λ sorts. has_object d (length sorts)) (sorts_at most_parameters)
 
 unfoldable pub goal_items : Draft → Reader (ℕ × List Atom)
-goal_items d = pair_at (number_at (most_formula_variables + 1)) (λ vars. atoms_at d table_variables true)
+goal_items d = pair_at (number_at (most_formula_variables + 1)) (λ variable_count. atoms_at d table_variables true)
 
 abbrev pub inst_of_parts : ℕ × List Term → OpInst
 inst_of_parts parts = record { op = parts.0; args = parts.1 }
@@ -230,12 +230,12 @@ abbrev pub row_items : Draft → Reader (List Proof)
 row_items d = list_at (proof_at d greatest_written_height) most_atoms
 
 -- what was read, as a line
-abbrev pub as_line : {A : Type 0} → (A → Line) → Front A → Front Line
+abbrev pub as_line : {A : Type 0} → (A → Line) → Prefix A → Prefix Line
 as_line form (Some read) = Some (form read.0, read.1)
 as_line form None = None
 
 -- the line that is due
-unfoldable pub due_line_at : Draft → Due → List ℕ → Front Line
+unfoldable pub due_line_at : Draft → Due → List ℕ → Prefix Line
 due_line_at d due.Heading bytes = as_line (λ read. heading) (line_of (codes "planex") heading_items bytes)
 due_line_at d due.Objects bytes = as_line objects (line_of (codes "objects") (sorts_at most_objects) bytes)
 due_line_at d due.Predicates bytes =
@@ -254,19 +254,19 @@ due_line_at d (due.Step more rows) bytes = as_line action (line_of (codes "step"
 due_line_at d (due.Row more) bytes = as_line row (line_of (codes "row") (row_items d) bytes)
 due_line_at d due.Nothing bytes = None
 
-abbrev pub line_at : Draft → List ℕ → Front Line
+abbrev pub line_at : Draft → List ℕ → Prefix Line
 line_at d bytes = due_line_at d d.due bytes
 
 -- what is left by the one that was read
-abbrev pub then_at : {A : Type 0} → Front A → (A → Draft) → Front Draft
+abbrev pub then_at : {A : Type 0} → Prefix A → (A → Draft) → Prefix Draft
 then_at (Some read) f = Some (f read.0, read.1)
 then_at None f = None
 
 -- what the lines say with the one at the front
-abbrev pub next_at : Draft → List ℕ → Front Draft
+abbrev pub next_at : Draft → List ℕ → Prefix Draft
 next_at d bytes = then_at (line_at d bytes) (after_line d)
 
 -- What a function left and returned is what reading gives, unless memory ran out.
-abbrev pub Leaves : Draft → Result (Bor (List ℕ)) Refused → Front Draft → Type 0
+abbrev pub Leaves : Draft → Result (Bor (List ℕ)) Refused → Prefix Draft → Type 0
 Leaves new (Ok rest) read = read ≡ Some (new, rest.now)
 Leaves new (Err e) read = IsRefusal e read

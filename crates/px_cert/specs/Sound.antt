@@ -15,7 +15,7 @@ use Rattle.px_cert.specs.Drafts.{HasObjectFor, language}
 use Rattle.px_cert.specs.Limits.{most_objects, most_operators, most_predicates}
 
 abbrev pub IsGoodClause : Draft → Clause → Type 0
-IsGoodClause d c = IsAxiomOf (language d) c × HasClauseLength c.lits × HasObjectFor d c.vars
+IsGoodClause d c = IsAxiomOf (language d) c × HasClauseLength c.lits × HasObjectFor d c.variable_count
 
 abbrev pub IsGoodSchema : Draft → ℕ → Schema → Type 0
 IsGoodSchema d place schema = IsSchemaOf (language d) place schema × HasObjectFor d schema.params

@@ -36,16 +36,16 @@ abbrev pub making_table : ℕ → Table
 making_table column = table_of_rows 0 [] (record { op = 0; args = [] } ∷ []) (goal_atom ∷ []) 0 (making_rows column)
 
 -- all lines but the last
-abbrev pub front_text : List ℕ
-front_text =
+abbrev pub prefix_text : List ℕ
+prefix_text =
     codes "planex certificate 1\nobjects 0\npredicates 1 0\naxioms 0\noperators 1\noperator 0\npre 0\ndelete 0\nadd 1 0\ntable 0\ngoal 0 1 0\nsteps 1\nstep 0\nrow 0\n"
 
 -- The text of the plan's table, which is one for its problem. Where the last line names a second step, the text is a certificate, too, and
 -- its table is none. Where that line is missing, it is the first bad one.
 pub record WorkedCertificates : Type 0 where
-  pub text : certificate_text making_problem (making_table 1) ≡ front_text ++ codes "row 1 f 1 0 0\n"
-  pub is_certificate : IsCertificate (front_text ++ codes "row 1 f 1 0 0\n") (certified_claim making_problem (making_table 1))
+  pub text : certificate_text making_problem (making_table 1) ≡ prefix_text ++ codes "row 1 f 1 0 0\n"
+  pub is_certificate : IsCertificate (prefix_text ++ codes "row 1 f 1 0 0\n") (certified_claim making_problem (making_table 1))
   pub right : IsTable (certified making_problem) (making_table 1)
-  pub is_other : IsCertificate (front_text ++ codes "row 1 f 2 0 0\n") (certified_claim making_problem (making_table 2))
+  pub is_other : IsCertificate (prefix_text ++ codes "row 1 f 2 0 0\n") (certified_claim making_problem (making_table 2))
   pub wrong : ¬ IsTable (certified making_problem) (making_table 2)
-  pub cut : IsFirstBadLine front_text 15
+  pub cut : IsFirstBadLine prefix_text 15

@@ -21,7 +21,7 @@ pub struct Cert {
     param_sorts: Sequence<u32>,
     steps: Sequence<OpInst>,
     goal: Sequence<Atom>,
-    goal_vars: u32,
+    goal_variable_count: u32,
     rows: Sequence<Row>,
 }
 
@@ -39,7 +39,7 @@ impl Model for Cert {
 
     ghost view = { λ c. record {
       problem = c.problem;
-      table = table_of_rows (length c.param_sorts) c.param_sorts c.steps c.goal c.goal_vars c.rows;
+      table = table_of_rows (length c.param_sorts) c.param_sorts c.steps c.goal c.goal_variable_count c.rows;
     } };
 
     ghost invariant = { λ c. length c.param_sorts ≤ u32_max };
@@ -108,7 +108,7 @@ pub(crate) fn cert_of(draft: Draft) -> Cert
         param_sorts: draft.params,
         steps: draft.steps,
         goal: draft.goal,
-        goal_vars: draft.goal_vars,
+        goal_variable_count: draft.goal_variable_count,
         rows: draft.rows,
     }
 }
@@ -126,7 +126,7 @@ pub fn verify(cert: &Cert) -> bool
         cert.param_sorts.as_slice(),
         cert.steps.as_slice(),
         cert.goal.as_slice(),
-        cert.goal_vars,
+        cert.goal_variable_count,
         cert.rows.as_slice(),
     )
 }

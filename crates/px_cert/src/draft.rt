@@ -63,7 +63,7 @@ pub struct Draft {
     /// The sort of each parameter of the table.
     pub params: Sequence<u32>,
     /// How many variables the goal has.
-    pub goal_vars: u32,
+    pub goal_variable_count: u32,
     /// The goal.
     pub goal: Sequence<Atom>,
     /// The steps.
@@ -98,7 +98,7 @@ pub(crate) fn no_lines(alloc: Global) -> Draft
         schemas: Sequence::from_vec(Vec::new(alloc)),
         schema: empty_schema(alloc),
         params: Sequence::from_vec(Vec::new(alloc)),
-        goal_vars: 0,
+        goal_variable_count: 0,
         goal: Sequence::from_vec(Vec::new(alloc)),
         steps: Sequence::from_vec(Vec::new(alloc)),
         rows: Sequence::from_vec(Vec::new(alloc)),

@@ -154,13 +154,13 @@ fn clause_items<'a>(
     requires { IsSound draft.now }
     ensures { Reads (λ x. (x.0, x.1.now)) result (clause_items draft.now bytes.now) }
 {
-    let (vars, rest) = number(bytes, MOST_FORMULA_VARIABLES as u32 + 1)?;
-    let (lits, rest) = literals(alloc, draft, rest, vars)?;
-    if lits.is_empty() || !has_object_for(draft, vars as usize) {
+    let (variable_count, rest) = number(bytes, MOST_FORMULA_VARIABLES as u32 + 1)?;
+    let (lits, rest) = literals(alloc, draft, rest, variable_count)?;
+    if lits.is_empty() || !has_object_for(draft, variable_count as usize) {
         return Err(Refused::Bad);
     }
     let made = Clause {
-        vars,
+        variable_count,
         lits: Sequence::from_vec(lits),
     };
     Ok((made, rest))
@@ -173,7 +173,7 @@ fn add_axiom(draft: &mut Draft, made: &Clause) -> Result<(), Refused>
     ensures ok { OnOk result (draft.new ≡ record draft.old { axioms = draft.old.axioms ++ made.now ∷ [] }) }
     ensures err { IfErr result (λ e. e ≡ refused.NoMemory) }
 {
-    match draft.axioms.push(made.vars, made.lits.as_slice()) {
+    match draft.axioms.push(made.variable_count, made.lits.as_slice()) {
         Ok(_) => Ok(()),
         Err(_) => Err(Refused::NoMemory),
     }

@@ -83,7 +83,7 @@ fn step<'a>(
     let axioms = &draft.axioms;
     let (clause, rest) = number(bytes, axioms.count())?;
     let (place, rest) = number(rest, MOST_PLACES + 1)?;
-    let mut theta = vec![in alloc; Term::Any; axioms.vars(clause) as usize]?;
+    let mut theta = vec![in alloc; Term::Any; axioms.variable_count(clause) as usize]?;
     let objects = draft.objects.len() as u32;
     let rest = fill(&mut theta, rest, objects, TABLE_VARIABLES, true)?;
     let count = axioms.lits(clause).len() as u32 - 1;

@@ -72,13 +72,13 @@ pub(crate) fn goal_line<'a>(
         (then_at (line_of (codes "goal") (goal_items draft.old) bytes.now) (λ read. after_line draft.old (goal read.0 read.1))) }
 {
     let rest = expect(bytes, b"goal")?;
-    let (vars, rest) = number(rest, MOST_FORMULA_VARIABLES as u32 + 1)?;
+    let (variable_count, rest) = number(rest, MOST_FORMULA_VARIABLES as u32 + 1)?;
     let (read, rest) = match atoms(alloc, draft, rest, TABLE_VARIABLES, true) {
         Ok(read) => read,
         Err(refused) => return Err(refused),
     };
     let rest = expect(rest, b"\n")?;
-    draft.goal_vars = vars;
+    draft.goal_variable_count = variable_count;
     draft.goal = Sequence::from_vec(read);
     draft.due = Due::Steps;
     Ok(rest)

@@ -21,10 +21,10 @@ fn object(bytes: &[u8], objects: u32) -> Result<(Term, &[u8]), Refused>
 }
 
 /// Reads the digits of a variable below the limit.
-fn variable(bytes: &[u8], vars: u32) -> Result<(Term, &[u8]), Refused>
-    ensures { Reads (λ x. (x.0, x.1.now)) result (variable_at vars bytes.now) }
+fn variable(bytes: &[u8], variable_count: u32) -> Result<(Term, &[u8]), Refused>
+    ensures { Reads (λ x. (x.0, x.1.now)) result (variable_at variable_count bytes.now) }
 {
-    let (number, rest) = digits(bytes, vars)?;
+    let (number, rest) = digits(bytes, variable_count)?;
     Ok((Term::Var(number), rest))
 }
 
@@ -42,13 +42,18 @@ fn wild_card(bytes: &[u8], wild: bool) -> Result<(Term, &[u8]), Refused>
 
 /// Reads a term: an object or a variable below its limit, or the wild card where it may stand.
 #[tactic(auto, unfolding(crate::specs::Reading::term_at))]
-fn term(bytes: &[u8], objects: u32, vars: u32, wild: bool) -> Result<(Term, &[u8]), Refused>
-    ensures { Reads (λ x. (x.0, x.1.now)) result (term_at objects vars wild bytes.now) }
+fn term(
+    bytes: &[u8],
+    objects: u32,
+    variable_count: u32,
+    wild: bool,
+) -> Result<(Term, &[u8]), Refused>
+    ensures { Reads (λ x. (x.0, x.1.now)) result (term_at objects variable_count wild bytes.now) }
 {
     match after(bytes, b" o") {
         Some(rest) => object(rest, objects),
         None => match after(bytes, b" v") {
-            Some(rest) => variable(rest, vars),
+            Some(rest) => variable(rest, variable_count),
             None => wild_card(bytes, wild),
         },
     }
@@ -59,15 +64,15 @@ pub(crate) fn fill<'a>(
     terms: &mut [Term],
     bytes: &'a [u8],
     objects: u32,
-    vars: u32,
+    variable_count: u32,
     wild: bool,
 ) -> Result<&'a [u8], Refused>
-    ensures read { ReadsWhole terms.new result (many_at (term_at objects vars wild) (length terms.old) bytes.now) }
+    ensures read { ReadsWhole terms.new result (many_at (term_at objects variable_count wild) (length terms.old) bytes.now) }
     ensures count { length terms.new ≡ length terms.old }
 {
     let mut rest = bytes;
     for place in 0..terms.len() {
-        let (value, more) = term(rest, objects, vars, wild)?;
+        let (value, more) = term(rest, objects, variable_count, wild)?;
         terms[place] = value;
         rest = more;
     }
@@ -79,11 +84,11 @@ pub(crate) fn fill<'a>(
 pub(crate) fn atom<'a>(
     draft: &Draft,
     bytes: &'a [u8],
-    vars: u32,
+    variable_count: u32,
     wild: bool,
 ) -> Result<(Atom, &'a [u8]), Refused>
     requires { IsSound draft.now }
-    ensures { Reads (λ x. (x.0, x.1.now)) result (atom_at draft.now vars wild bytes.now) }
+    ensures { Reads (λ x. (x.0, x.1.now)) result (atom_at draft.now variable_count wild bytes.now) }
 {
     let (pred, rest) = number(bytes, draft.arities.len() as u32)?;
     let arity = usize::from(draft.arities.as_slice()[pred as usize]);
@@ -92,7 +97,7 @@ pub(crate) fn atom<'a>(
         &mut terms[..arity],
         rest,
         draft.objects.len() as u32,
-        vars,
+        variable_count,
         wild,
     )?;
     Ok((Atom::of(pred, &terms[..arity]), rest))
@@ -104,16 +109,16 @@ fn many_atoms<'a>(
     draft: &Draft,
     bytes: &'a [u8],
     count: u32,
-    vars: u32,
+    variable_count: u32,
     wild: bool,
 ) -> Result<(Vec<Atom>, &'a [u8]), Refused>
     requires { IsSound draft.now }
-    ensures { Reads (λ x. (x.0.items, x.1.now)) result (many_at (atom_at draft.now vars wild) count bytes.now) }
+    ensures { Reads (λ x. (x.0.items, x.1.now)) result (many_at (atom_at draft.now variable_count wild) count bytes.now) }
 {
     let mut atoms = Vec::new(alloc);
     let mut rest = bytes;
     for _ in 0..count {
-        let (next, more) = match atom(draft, rest, vars, wild) {
+        let (next, more) = match atom(draft, rest, variable_count, wild) {
             Ok(read) => read,
             Err(refused) => return Err(refused),
         };
@@ -129,14 +134,14 @@ pub(crate) fn atoms<'a>(
     alloc: Global,
     draft: &Draft,
     bytes: &'a [u8],
-    vars: u32,
+    variable_count: u32,
     wild: bool,
 ) -> Result<(Vec<Atom>, &'a [u8]), Refused>
     requires { IsSound draft.now }
-    ensures { Reads (λ x. (x.0.items, x.1.now)) result (atoms_at draft.now vars wild bytes.now) }
+    ensures { Reads (λ x. (x.0.items, x.1.now)) result (atoms_at draft.now variable_count wild bytes.now) }
 {
     let (count, rest) = number(bytes, MOST_ATOMS + 1)?;
-    many_atoms(alloc, draft, rest, count, vars, wild)
+    many_atoms(alloc, draft, rest, count, variable_count, wild)
 }
 
 /// Reads the sign of a literal: whether its atom is asserted.
@@ -150,12 +155,16 @@ fn sign(bytes: &[u8]) -> Result<(bool, &[u8]), Refused>
 
 /// Reads a literal over the draft's objects and some variables.
 #[tactic(auto, unfolding(crate::specs::Reading::literal_at))]
-fn literal<'a>(draft: &Draft, bytes: &'a [u8], vars: u32) -> Result<(Lit, &'a [u8]), Refused>
+fn literal<'a>(
+    draft: &Draft,
+    bytes: &'a [u8],
+    variable_count: u32,
+) -> Result<(Lit, &'a [u8]), Refused>
     requires { IsSound draft.now }
-    ensures { Reads (λ x. (x.0, x.1.now)) result (literal_at draft.now vars bytes.now) }
+    ensures { Reads (λ x. (x.0, x.1.now)) result (literal_at draft.now variable_count bytes.now) }
 {
     let (positive, rest) = sign(bytes)?;
-    match atom(draft, rest, vars, false) {
+    match atom(draft, rest, variable_count, false) {
         Ok((atom, rest)) => Ok((Lit { positive, atom }, rest)),
         Err(refused) => Err(refused),
     }
@@ -167,15 +176,15 @@ fn many_literals<'a>(
     draft: &Draft,
     bytes: &'a [u8],
     count: u32,
-    vars: u32,
+    variable_count: u32,
 ) -> Result<(Vec<Lit>, &'a [u8]), Refused>
     requires { IsSound draft.now }
-    ensures { Reads (λ x. (x.0.items, x.1.now)) result (many_at (literal_at draft.now vars) count bytes.now) }
+    ensures { Reads (λ x. (x.0.items, x.1.now)) result (many_at (literal_at draft.now variable_count) count bytes.now) }
 {
     let mut lits = Vec::new(alloc);
     let mut rest = bytes;
     for _ in 0..count {
-        let (next, more) = match literal(draft, rest, vars) {
+        let (next, more) = match literal(draft, rest, variable_count) {
             Ok(read) => read,
             Err(refused) => return Err(refused),
         };
@@ -191,11 +200,11 @@ pub(crate) fn literals<'a>(
     alloc: Global,
     draft: &Draft,
     bytes: &'a [u8],
-    vars: u32,
+    variable_count: u32,
 ) -> Result<(Vec<Lit>, &'a [u8]), Refused>
     requires { IsSound draft.now }
-    ensures { Reads (λ x. (x.0.items, x.1.now)) result (list_at (literal_at draft.now vars) most_literals bytes.now) }
+    ensures { Reads (λ x. (x.0.items, x.1.now)) result (list_at (literal_at draft.now variable_count) most_literals bytes.now) }
 {
     let (count, rest) = number(bytes, MOST_LITERALS as u32 + 1)?;
-    many_literals(alloc, draft, rest, count, vars)
+    many_literals(alloc, draft, rest, count, variable_count)
 }

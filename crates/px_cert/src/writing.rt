@@ -47,7 +47,7 @@ fn push_table(text: &mut String, table: &Table) -> Result<(), AllocError>
     ensures { OnOk result (string_bytes text.new ≡ string_bytes text.old ++ flat_map line_bytes (table_lines table.now)) }
 {
     push_numbers(text, "table", table.param_sorts.as_slice())?;
-    push_goal(text, table.goal_vars, table.goal.as_slice())?;
+    push_goal(text, table.goal_variable_count, table.goal.as_slice())?;
     push_steps(text, table.steps.as_slice())?;
     push_rows(text, table.proofs.as_slice())
 }
@@ -160,11 +160,11 @@ fn push_literals(text: &mut String, lits: &[Lit]) -> Result<(), AllocError>
 }
 
 /// Appends the line of an axiom.
-fn push_axiom(text: &mut String, vars: u32, lits: &[Lit]) -> Result<(), AllocError>
+fn push_axiom(text: &mut String, variable_count: u32, lits: &[Lit]) -> Result<(), AllocError>
     ensures { OnOk result (string_bytes text.new ≡ string_bytes text.old
-        ++ line_bytes (clause (record { vars = vars; lits = lits.now }))) }
+        ++ line_bytes (clause (record { variable_count = variable_count; lits = lits.now }))) }
 {
-    write!(text, "axiom {vars}")?;
+    write!(text, "axiom {variable_count}")?;
     push_literals(text, lits)?;
     text.push_str("\n")
 }
@@ -176,7 +176,7 @@ fn push_axioms(text: &mut String, arena: &ClauseArena) -> Result<(), AllocError>
 {
     push_count(text, "axioms", arena.count() as usize)?;
     for number in 0..arena.count() {
-        push_axiom(text, arena.vars(number), arena.lits(number))?;
+        push_axiom(text, arena.variable_count(number), arena.lits(number))?;
     }
     Ok(())
 }
@@ -204,10 +204,10 @@ fn push_operators(text: &mut String, schemas: &[Schema]) -> Result<(), AllocErro
 }
 
 /// Appends the line of the goal.
-fn push_goal(text: &mut String, vars: u32, atoms: &[Atom]) -> Result<(), AllocError>
-    ensures { OnOk result (string_bytes text.new ≡ string_bytes text.old ++ line_bytes (goal vars atoms.now)) }
+fn push_goal(text: &mut String, variable_count: u32, atoms: &[Atom]) -> Result<(), AllocError>
+    ensures { OnOk result (string_bytes text.new ≡ string_bytes text.old ++ line_bytes (goal variable_count atoms.now)) }
 {
-    write!(text, "goal {vars}")?;
+    write!(text, "goal {variable_count}")?;
     push_atoms(text, atoms)?;
     text.push_str("\n")
 }

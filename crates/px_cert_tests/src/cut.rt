@@ -26,15 +26,15 @@ const LINES: [&str; 16] = [
 #[test]
 fn a_cut_certificate_is_bad_where_it_ends(rt: HostRuntime) {
     let alloc = rt.alloc();
-    let mut front: Vec<u8> = Vec::new(alloc);
+    let mut prefix: Vec<u8> = Vec::new(alloc);
     for (place, line) in LINES.iter().enumerate() {
         for byte in line.as_bytes() {
-            assert!(&rt; first_bad(alloc, &front) == place as u32 + 1);
-            front.push(b'?').expect(&rt, "memory");
-            assert!(&rt; first_bad(alloc, &front) == place as u32 + 1);
-            front.pop();
-            front.push(*byte).expect(&rt, "memory");
+            assert!(&rt; first_bad(alloc, &prefix) == place as u32 + 1);
+            prefix.push(b'?').expect(&rt, "memory");
+            assert!(&rt; first_bad(alloc, &prefix) == place as u32 + 1);
+            prefix.pop();
+            prefix.push(*byte).expect(&rt, "memory");
         }
     }
-    assert!(&rt; first_bad(alloc, &front) == 0);
+    assert!(&rt; first_bad(alloc, &prefix) == 0);
 }

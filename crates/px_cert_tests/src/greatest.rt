@@ -91,20 +91,20 @@ fn numbers_have_their_limits(rt: HostRuntime) {
 fn with_items(
     alloc: Global,
     rt: &impl Abort,
-    front: &str,
+    prefix: &str,
     item: &str,
     count: usize,
     end: &str,
 ) -> String {
     let items = item.repeat(alloc, count).expect(rt, "memory");
-    format!(in alloc; "{front}{items}{end}").expect(rt, "memory")
+    format!(in alloc; "{prefix}{items}{end}").expect(rt, "memory")
 }
 
 /// Returns the first wrong line of a certificate of no steps whose goal is proved by so many steps over each other, above a fact.
 fn above_a_fact(alloc: Global, rt: &impl Abort, steps: usize) -> u32 {
-    let front =
+    let prefix =
         "planex certificate 1\nobjects 0\npredicates 1 0\naxioms 1\naxiom 0 2 1 0 0 0\noperators 0\ntable 0\ngoal 0 1 0\nsteps 0\nrow 1";
-    let text = with_items(alloc, rt, front, " s 0 0", steps, " f 9999 9999 0\n");
+    let text = with_items(alloc, rt, prefix, " s 0 0", steps, " f 9999 9999 0\n");
     first_bad(alloc, text.as_bytes())
 }
 

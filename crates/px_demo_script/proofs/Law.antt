@@ -27,11 +27,11 @@ abbrev last_lines : List ℕ
 last_lines = codes "box B1 R2\nrobot R1\nend"
 
 -- the building without its last line feed
-abbrev front : ℕ → List ℕ
-front rooms = start-text ++ (rooms-text rooms ++ (doors-text rooms ++ last_lines))
+abbrev prefix : ℕ → List ℕ
+prefix rooms = start-text ++ (rooms-text rooms ++ (doors-text rooms ++ last_lines))
 
-front-is : (rooms : ℕ) → building_text rooms ≡ front rooms ++ 10 ∷ []
-front-is rooms = building-text rooms
+prefix-is : (rooms : ℕ) → building_text rooms ≡ prefix rooms ++ 10 ∷ []
+prefix-is rooms = building-text rooms
     ∙ sym (append_assoc start-text (rooms-text rooms ++ (doors-text rooms ++ last_lines)) (10 ∷ [])
     ∙ ap (λ text. start-text ++ text) (append_assoc (rooms-text rooms) (doors-text rooms ++ last_lines) (10 ∷ [])
     ∙ ap (λ text. rooms-text rooms ++ text) (append_assoc (doors-text rooms) last_lines (10 ∷ []))))
@@ -44,8 +44,8 @@ module _ (rooms seed : ℕ) (some : 3 ≤ rooms) (few : rooms ≤ 12) where
   two-parts = text-append (building_lines rooms) (errands rooms seed)
       ∙ ap (λ text. building_text rooms ++ text) (lines-joined (errands rooms seed))
 
-  bytes-are : demo_script rooms seed ≡ front rooms ++ 10 ∷ joined lines
-  bytes-are = two-parts ∙ ap (λ text. text ++ joined lines) (front-is rooms) ∙ append_assoc (front rooms) (10 ∷ []) (joined lines)
+  bytes-are : demo_script rooms seed ≡ prefix rooms ++ 10 ∷ joined lines
+  bytes-are = two-parts ∙ ap (λ text. text ++ joined lines) (prefix-is rooms) ∙ append_assoc (prefix rooms) (10 ∷ []) (joined lines)
 
   line-texts : AllByRecursion IsLineText lines
   line-texts = errands-text rooms seed some few 1 rooms (omega (arith, few))
@@ -76,9 +76,9 @@ module _ (rooms seed : ℕ) (some : 3 ≤ rooms) (few : rooms ≤ 12) where
   spells = record {
     text = is-text;
     lines = subst (λ bytes. PassAll stage_now 1 nothing_declared (lines_of bytes) last) (sym bytes-are)
-        (lines-after stage_now (front rooms) lines (underway (demo_building rooms) [] [] []) last
+        (lines-after stage_now (prefix rooms) lines (underway (demo_building rooms) [] [] []) last
         (all-implied IsLineText (λ line. is_in_line line ≡ true) (λ line is. is.1) lines line-texts)
-        (subst (λ bytes. PassAll stage_now 1 nothing_declared (lines_of bytes) (underway (demo_building rooms) [] [] [])) (front-is rooms)
+        (subst (λ bytes. PassAll stage_now 1 nothing_declared (lines_of bytes) (underway (demo_building rooms) [] [] [])) (prefix-is rooms)
         (building-passes rooms some few))
         all-pass.1);
     closed = refl;

@@ -11,7 +11,7 @@ use Rattle.px_demo.specs.Script.{DemoLine, learn_line, plan_line, run_line}
 use Rattle.px_script.specs.Statements.{learn, plan, run}
 use Rattle.px_script.specs.declared.kinds.Sign.TheVariants.{Bare as bare}
 use Rattle.px_script.proofs.Common.{◌≡◌, ℕ, ◌<◌, ◌≤◌, true, List, [], ◌∷◌, ◌++◌, refl, sym, subst, arith, append-nil, codes, decimal, flat_map, starts_name, robot_name, Lexeme, name, sign, variable, IsLexeme, SignedAtom, named, spelling}
-use Rattle.px_saved.proofs.Words.{Ends, IsWord, Reads, ascii-front, closing-ends, comma-ends, is_inside, keyword, name-word, nothing-ends, nothing-reads, opening-ends, sign-word, space-ends, space-reads, variable-word, word-before, word-reads}
+use Rattle.px_saved.proofs.Words.{Ends, IsWord, Reads, ascii-prefix, closing-ends, comma-ends, is_inside, keyword, name-word, nothing-ends, nothing-reads, opening-ends, sign-word, space-ends, space-reads, variable-word, word-before, word-reads}
 
 -- a line without what ends it
 abbrev pub line_bytes : DemoLine → List ℕ
@@ -23,7 +23,7 @@ lettered : (letter k : ℕ) → letter < 128 → starts_name letter ≡ true →
     → IsWord (letter ∷ decimal k) (name (letter ∷ decimal k))
 lettered letter k low starts inside below =
     let text = letter ∷ decimal k in
-    let is = subst (IsLexeme (variable text)) (ascii-front 63 text (omega arith)) (variable-word letter k low starts inside below).is in
+    let is = subst (IsLexeme (variable text)) (ascii-prefix 63 text (omega arith)) (variable-word letter k low starts inside below).is in
     name-word text (IsUtf8-from_ascii text (IsAscii-cons letter (decimal k) low (IsAscii-decimal k (omega (arith, below))))) is.1
 
 pub room-word : (k : ℕ) → k < 2 ^ 31 → IsWord (codes "R" ++ decimal k) (name (codes "R" ++ decimal k))
@@ -83,14 +83,14 @@ spaced-ends [] = nothing-ends
 spaced-ends (word ∷ words) = space-ends (word ++ spaced words)
 
 -- a word, and words after spaces
-front-reads : (word : List ℕ) (words : List (List ℕ)) (lexeme : Lexeme) (lexemes : List Lexeme) → IsWord word lexeme
+prefix-reads : (word : List ℕ) (words : List (List ℕ)) (lexeme : Lexeme) (lexemes : List Lexeme) → IsWord word lexeme
     → Reads (spaced words) lexemes → Reads (word ++ spaced words) (lexeme ∷ lexemes)
-front-reads word words lexeme lexemes is more = word-before word (spaced words) lexeme lexemes is (spaced-ends words) more
+prefix-reads word words lexeme lexemes is more = word-before word (spaced words) lexeme lexemes is (spaced-ends words) more
 
 next-reads : (word : List ℕ) (words : List (List ℕ)) (lexeme : Lexeme) (lexemes : List Lexeme) → IsWord word lexeme
     → Reads (spaced words) lexemes → Reads (spaced (word ∷ words)) (lexeme ∷ lexemes)
 next-reads word words lexeme lexemes is more =
-    space-reads (word ++ spaced words) lexeme lexemes (front-reads word words lexeme lexemes is more)
+    space-reads (word ++ spaced words) lexeme lexemes (prefix-reads word words lexeme lexemes is more)
 
 -- ---- the three lines
 
@@ -120,17 +120,17 @@ plan-reads j room low there =
     let goal = goal-reads (codes "R" ++ decimal room) (room-word room there) in
     let last = space-reads (atom ++ []) (name (codes "INROOM")) (goal_lexemes (codes "R" ++ decimal room))
     (subst (λ bytes. Reads bytes (name (codes "INROOM") ∷ goal_lexemes (codes "R" ++ decimal room))) (sym (append-nil atom)) goal) in
-    front-reads (codes "plan") ((codes "G" ++ decimal j) ∷ atom ∷ []) (name (codes "plan")) _ word-plan
+    prefix-reads (codes "plan") ((codes "G" ++ decimal j) ∷ atom ∷ []) (name (codes "plan")) _ word-plan
     (next-reads (codes "G" ++ decimal j) (atom ∷ []) (name (codes "G" ++ decimal j)) _ (plan-word j low) last)
 
 pub learn-reads : (j : ℕ) → j < 2 ^ 31
     → Reads (line_bytes (learn_line j)) (spelling (learn (codes "M" ++ decimal j) (codes "G" ++ decimal j)))
 learn-reads j low =
-    front-reads (codes "learn") ((codes "M" ++ decimal j) ∷ codes "from" ∷ (codes "G" ++ decimal j) ∷ []) (name (codes "learn")) _ word-learn
+    prefix-reads (codes "learn") ((codes "M" ++ decimal j) ∷ codes "from" ∷ (codes "G" ++ decimal j) ∷ []) (name (codes "learn")) _ word-learn
     (next-reads (codes "M" ++ decimal j) (codes "from" ∷ (codes "G" ++ decimal j) ∷ []) (name (codes "M" ++ decimal j)) _ (table-word j low)
     (next-reads (codes "from") ((codes "G" ++ decimal j) ∷ []) (name (codes "from")) _ word-from
     (next-reads (codes "G" ++ decimal j) [] (name (codes "G" ++ decimal j)) [] (plan-word j low) nothing-reads)))
 
 pub run-reads : (j : ℕ) → j < 2 ^ 31 → Reads (line_bytes (run_line j)) (spelling (run (codes "G" ++ decimal j) []))
-run-reads j low = front-reads (codes "run") ((codes "G" ++ decimal j) ∷ []) (name (codes "run")) _ word-run
+run-reads j low = prefix-reads (codes "run") ((codes "G" ++ decimal j) ∷ []) (name (codes "run")) _ word-run
     (next-reads (codes "G" ++ decimal j) [] (name (codes "G" ++ decimal j)) [] (plan-word j low) nothing-reads)

@@ -21,7 +21,7 @@ use Rattle.px_terms.specs.declared.instance.OpInst.{OpInst}
 use Rattle.px_terms.specs.declared.problem.Problem.{Problem}
 use Rattle.px_gaps.specs.Closings.{OneOf}
 use Rattle.px_gaps.specs.declared.question.MetLimit.{MetLimit}
-use Rattle.px_diff.specs.Firsts.{AreEnough, AreFirstEntries, BringsFirst, ComeBefore, IsBeforeFront, IsOfTableFrom}
+use Rattle.px_diff.specs.Firsts.{AreEnough, AreFirstEntries, BringsFirst, ComeBefore, IsBeforePrefix, IsOfTableFrom}
 use Rattle.px_diff.specs.Gathering.{Gathers}
 use Rattle.px_entries.specs.Instances.{Covers, IsCovered, IsPartialInstance, StandsFor}
 use Rattle.px_diff.specs.Macros.{GathersEntries, IsMacroEntry, IsOperatorEntry}
@@ -29,7 +29,7 @@ use Rattle.px_entries.specs.Unlimited.{IsNeverLimited}
 use Rattle.px_diff.specs.Pushes.{IsPushable, LimitsRelevant}
 use Rattle.px_diff.specs.declared.request.Request.{Request}
 use Rattle.px_entries.specs.declared.partial.PartialInstance.{PartialInstance}
-use Rattle.px_diff.proofs.FirstOrder.{before_front-order, enough-entries}
+use Rattle.px_diff.proofs.FirstOrder.{before_prefix-order, enough-entries}
 use Rattle.px_diff.proofs.GatherLemmas.{IsEarlier, IsShorter}
 use Rattle.px_gaps.proofs.Grows.{one_none}
 use Rattle.px_diff.proofs.WholeLemmas.{either, operator_adds, operators_gather, whole-exact}
@@ -142,29 +142,29 @@ module _ (problem : Problem) (tables : List Table) (wanted : List Atom) (stack :
 
   -- ---- first steps
 
-  after-front : (number count n prefix : ℕ) (sigma : List ℕ) (entry : Entry) (found : List Entry) → Macro n prefix sigma ≡ entry
-      → All (IsBeforeFront number count) found → (number < n) ⊎ ((number ≡ n) × (count ≤ prefix))
+  after-prefix : (number count n prefix : ℕ) (sigma : List ℕ) (entry : Entry) (found : List Entry) → Macro n prefix sigma ≡ entry
+      → All (IsBeforePrefix number count) found → (number < n) ⊎ ((number ≡ n) × (count ≤ prefix))
       → All (λ earlier. order_of_entries earlier entry ≡ Less) found
-  after-front number count n prefix sigma entry found same before from =
+  after-prefix number count n prefix sigma entry found same before from =
       All-each (λ (earlier : Entry). order_of_entries earlier entry ≡ Less) found (λ earlier has.
       subst (λ (e : Entry). order_of_entries earlier e ≡ Less) same
-      (before_front-order number count n prefix sigma earlier (All-at (IsBeforeFront number count) found earlier before has) from))
+      (before_prefix-order number count n prefix sigma earlier (All-at (IsBeforePrefix number count) found earlier before has) from))
 
   -- fewer first steps are gathered, and all that is there comes before those of that many first steps
-  pub fronts-left : (number count : ℕ) (old new : List Entry)
+  pub prefixes-left : (number count : ℕ) (old new : List Entry)
       → GathersEntries problem tables wanted stack model (IsShorter problem tables wanted stack model number count) old new
-      → All (IsBeforeFront number count) new
+      → All (IsBeforePrefix number count) new
       → AreEnough order_of_entries enough new → Brings (IsOfTableFrom number) old new
-  fronts-left number count old new g before are_enough = record {
+  prefixes-left number count old new g before are_enough = record {
     kept = g.kept;
     only = g.only;
     others = λ entry (n, from, (prefix, (sigma, same))) p. elim (below-or-from number n) [
-      | inl later ↦ inr (after-front number count n prefix sigma entry new same before (inl later))
+      | inl later ↦ inr (after-prefix number count n prefix sigma entry new same before (inl later))
       | inr up_to ↦
           let level : number ≡ n = omega (arith, from, up_to) in
           elim (below-or-from prefix count) [
             | inl fewer ↦ inl (g.all entry (prefix, fewer, (sigma, ap (λ (m : ℕ). Macro m prefix sigma) level ∙ same)) p)
-            | inr more ↦ inr (after-front number count n prefix sigma entry new same before (inr (level, more)))
+            | inr more ↦ inr (after-prefix number count n prefix sigma entry new same before (inr (level, more)))
           ]
     ];
     are_enough = are_enough;

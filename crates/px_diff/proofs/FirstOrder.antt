@@ -26,7 +26,7 @@ use Rattle.px_question.specs.Answers.{object_terms}
 use Rattle.px_table.specs.EntryOrder.{order_of_entries}
 use Rattle.px_table.specs.declared.entry.Entry.{Entry}
 use Rattle.px_table.specs.declared.entry.Entry.TheVariants.{Macro, Op}
-use Rattle.px_diff.specs.Firsts.{AreEnough, ComeBefore, IsNotAfter, IsBeforeFront}
+use Rattle.px_diff.specs.Firsts.{AreEnough, ComeBefore, IsNotAfter, IsBeforePrefix}
 use Rattle.px_entries.specs.Instances.{IsPartialInstance, StandsFor}
 use Rattle.px_entries.specs.declared.partial.PartialInstance.{PartialInstance}
 use Rattle.px_entries.proofs.PartialLemmas.{object_at}
@@ -65,7 +65,7 @@ abbrev pub IsZero : ℕ → Type 0
 IsZero n = n ≡ 0
 
 pub instance-least : (problem : Problem) (partial : PartialInstance) (lows : List ℕ) (full : OpInst) → IsPartialInstance problem partial
-    → length lows ≡ partial.vars → All IsZero lows → StandsFor problem partial full
+    → length lows ≡ partial.variable_count → All IsZero lows → StandsFor problem partial full
     → IsNotAfter (substitute_instance (object_terms lows) partial.inst) full
 instance-least problem partial lows full form count low (objects, fills) =
     subst (IsNotAfter (substitute_instance (object_terms lows) partial.inst)) fills.same
@@ -74,12 +74,12 @@ instance-least problem partial lows full form count low (objects, fills) =
     (map (substitute (object_terms objects)) partial.inst.args))
     (equal-not_after (nat_cmp partial.inst.op partial.inst.op) (tied_itself nat_cmp_total partial.inst.op))
     (list-not_after (substitute (object_terms lows)) (substitute (object_terms objects))
-    (IsTermOf problem partial.vars) each partial.inst.args form.terms))
+    (IsTermOf problem partial.variable_count) each partial.inst.args form.terms))
   where
     at_most : (t u : Term) (m : ℕ) → t ≡ Obj 0 → u ≡ Obj m → NotAfter t u
     at_most t u m first second = subst (λ (x : Term). NotAfter x u) (sym first) (subst (NotAfter (Obj 0)) (sym second) (zero-first m))
 
-    each : (t : Term) → IsTermOf problem partial.vars t → NotAfter (substitute (object_terms lows) t) (substitute (object_terms objects) t)
+    each : (t : Term) → IsTermOf problem partial.variable_count t → NotAfter (substitute (object_terms lows) t) (substitute (object_terms objects) t)
     each (Obj n) of = same-not_after (Obj n) (Obj n) refl
     each (Var v) of =
         at_most (slice_index_or (object_terms lows) v Any) (slice_index_or (object_terms objects) v Any) (get_or objects v 0)
@@ -174,10 +174,10 @@ nat-equal : (m n : ℕ) → m ≡ n → nat_cmp m n ≡ Equal
 nat-equal m n is = sym (nat_cmp_is m n Equal is)
 
 -- what comes before a number of first steps of a table comes before as many or more of it, and before those of later tables
-pub before_front-order : (number count n prefix : ℕ) (sigma : List ℕ) (kept : Entry) → IsBeforeFront number count kept
+pub before_prefix-order : (number count n prefix : ℕ) (sigma : List ℕ) (kept : Entry) → IsBeforePrefix number count kept
     → (number < n) ⊎ ((number ≡ n) × (count ≤ prefix)) → order_of_entries kept (Macro n prefix sigma) ≡ Less
-before_front-order number count n prefix sigma (Op inst) before from = refl
-before_front-order number count n prefix sigma (Macro m p tau) before from = elim from [
+before_prefix-order number count n prefix sigma (Op inst) before from = refl
+before_prefix-order number count n prefix sigma (Macro m p tau) before from = elim from [
   | inl later ↦ then-less (nat_cmp m n) rest (nat-less m n
       (elim before [ inl less ↦ omega (arith, less, later) | inr same ↦ omega (arith, same.0, later) ]))
   | inr level ↦ elim before [

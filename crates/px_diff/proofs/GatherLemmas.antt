@@ -26,16 +26,16 @@ use Rattle.px_gaps.specs.Closings.{OneOf}
 use Rattle.px_entries.specs.Entries.{IsEntry, obligations_of}
 use Rattle.px_gaps.specs.Needs.{IsOpen}
 use Rattle.px_entries.specs.Learned.{AreLearned}
-use Rattle.px_diff.specs.Macros.{GathersEntries, IsMacroFront, IsMacroBefore, IsMacroBy, IsMacroEntry, IsMacroTold, IsOfFront, IsOfTable}
+use Rattle.px_diff.specs.Macros.{GathersEntries, IsMacroPrefix, IsMacroBefore, IsMacroBy, IsMacroEntry, IsMacroTold, IsOfPrefix, IsOfTable}
 use Rattle.px_entries.specs.Parameters.{AreFirstTerms, Matches}
 use Rattle.px_diff.specs.Pushes.{IsPushable, IsRelevant}
 use Rattle.px_gaps.specs.Questions.{AreUnlimited}
 use Rattle.px_diff.specs.RowQuestions.{AreRowsKnown, FitsEach, FitsOne, IsInstanceKnown}
-use Rattle.px_diff.specs.declared.front.Front.{Front}
+use Rattle.px_diff.specs.declared.front.Prefix.{Prefix}
 use Rattle.px_diff.proofs.EntryLemmas.{entries_less, entries_none, entries_part, entries_relevant, needs_are, relevant_macro}
 use Rattle.px_gaps.proofs.Grows.{one_next, one_none}
 use Rattle.px_base.proofs.Loops.{level_or_below}
-use Rattle.px_diff.proofs.MacroLemmas.{front-range, macro_before-all, macro_before-next, macro_before-none, of_matches}
+use Rattle.px_diff.proofs.MacroLemmas.{prefix-range, macro_before-all, macro_before-next, macro_before-none, of_matches}
 use Rattle.px_entries.proofs.ParameterLemmas.{closed-values, first-extends}
 use Rattle.px_diff.proofs.PrefixLemmas.{rows-fit, rows-unlimited}
 use Rattle.px_diff.proofs.RowSplitting.{limited_or_known}
@@ -53,8 +53,8 @@ pub learned-at : (problem : Problem) (tables : List Table) (number : ℕ) (d : T
 learned-at problem tables number d learned within =
     learned-table problem tables number (get_or tables number d) learned (slice_get-read tables number d within)
 
-pub front-table : (front : Front) → IsMacroFront front → IsTable front.request.problem.now front.table.now
-front-table front is = learned-table front.request.problem.now front.request.tables.now front.number front.table.now is.tables is.table
+pub prefix-table : (front : Prefix) → IsMacroPrefix front → IsTable front.request.problem.now front.table.now
+prefix-table front is = learned-table front.request.problem.now front.request.tables.now front.number front.table.now is.tables is.table
 
 -- ---- parts
 
@@ -181,7 +181,7 @@ module _ (problem : Problem) (tables : List Table) (wanted : List Atom) (stack :
   pub wide-gather : (old new : List Entry)
       → GathersEntries problem tables wanted stack model
       (λ entry. OneOf matches (λ (terms : List Term). IsMacroTold problem.objects number prefix rows limited terms entry)) old new
-      → GathersEntries problem tables wanted stack model (IsOfFront number prefix) old new
+      → GathersEntries problem tables wanted stack model (IsOfPrefix number prefix) old new
   wide-gather old new gathers = record {
     kept = gathers.kept;
     only = gathers.only;
@@ -243,20 +243,20 @@ told-same problem tables wanted stack model number count lent matches lent_rows 
 
 module _ (problem : Problem) (tables : List Table) (wanted : List Atom) (stack : List Entry) (model : List Atom) where
   abbrev pub IsShorter : ℕ → ℕ → Entry → Type 0
-  IsShorter number count entry = (prefix : ℕ) × (prefix < count) × IsOfFront number prefix entry
+  IsShorter number count entry = (prefix : ℕ) × (prefix < count) × IsOfPrefix number prefix entry
 
   abbrev pub IsEarlier : ℕ → Entry → Type 0
   IsEarlier number entry = (table : ℕ) × (table < number) × IsOfTable table entry
 
   pub shorter-next : (number count : ℕ) (old made new : List Entry)
       → GathersEntries problem tables wanted stack model (IsShorter number count) old made
-      → GathersEntries problem tables wanted stack model (IsOfFront number count) made new
+      → GathersEntries problem tables wanted stack model (IsOfPrefix number count) made new
       → GathersEntries problem tables wanted stack model (IsShorter number (count + 1)) old new
   shorter-next number count old made new first second =
-      entries_part problem tables wanted stack model (IsShorter number count) (IsOfFront number count)
+      entries_part problem tables wanted stack model (IsShorter number count) (IsOfPrefix number count)
       (IsShorter number (count + 1)) old made new
       (λ entry (prefix, less, of). elim (level_or_below prefix count less)
-      [ inl before ↦ inl (prefix, before, of) | inr level ↦ inr (subst (λ (n : ℕ). IsOfFront number n entry) level of) ]) first second
+      [ inl before ↦ inl (prefix, before, of) | inr level ↦ inr (subst (λ (n : ℕ). IsOfPrefix number n entry) level of) ]) first second
 
   pub earlier-next : (number : ℕ) (old made new : List Entry) → GathersEntries problem tables wanted stack model (IsEarlier number) old made
       → GathersEntries problem tables wanted stack model (IsOfTable number) made new
@@ -275,7 +275,7 @@ module _ (problem : Problem) (tables : List Table) (wanted : List Atom) (stack :
       → GathersEntries problem tables wanted stack model (IsShorter number 2) found found
   shorter-none number table found at is_table =
       entries_none problem tables wanted stack model (IsShorter number 2) found (λ entry relevant (prefix, less, of).
-      let range = front-range problem tables wanted stack number prefix table at is_table entry relevant of in
+      let range = prefix-range problem tables wanted stack number prefix table at is_table entry relevant of in
       omega (arith, less, range.0))
 
   pub shorter-all : (number count : ℕ) (table : Table) (old new : List Entry) → slice_get tables number ≡ Some table → IsTable problem table
@@ -284,7 +284,7 @@ module _ (problem : Problem) (tables : List Table) (wanted : List Atom) (stack :
       → GathersEntries problem tables wanted stack model (IsOfTable number) old new
   shorter-all number count table old new at is_table past gathered =
       entries_relevant problem tables wanted stack model (IsShorter number count) (IsOfTable number) old new (λ entry relevant (prefix, of).
-      let range = front-range problem tables wanted stack number prefix table at is_table entry relevant of in
+      let range = prefix-range problem tables wanted stack number prefix table at is_table entry relevant of in
       (prefix, omega (arith, range.1, past), of)) gathered
 
   pub earlier-none : (found : List Entry) → GathersEntries problem tables wanted stack model (IsEarlier 0) found found

@@ -7,7 +7,7 @@ mod EntryLemmas
 mod RowLemmas
 mod PrefixLemmas
 mod MacroLemmas
-mod FrontMacros
+mod PrefixMacros
 mod RowAnswerLemmas
 mod RowSplitting
 mod FittingLemmas

@@ -20,7 +20,7 @@ use Rattle.px_terms.specs.declared.term.Term.{Term}
 use Rattle.px_terms.specs.declared.term.Term.TheVariants.{Obj, Var}
 use Rattle.px_gaps.specs.Bindings.{ExtendsTerms, IsPlain, first_values}
 use Rattle.px_gaps.specs.Closings.{OneOf}
-use Rattle.px_diff.specs.Macros.{IsMacroBefore, IsMacroBy, IsOfFront}
+use Rattle.px_diff.specs.Macros.{IsMacroBefore, IsMacroBy, IsOfPrefix}
 use Rattle.px_entries.specs.Parameters.{AreFirstTerms, Matches}
 use Rattle.px_diff.specs.Pushes.{IsRelevant}
 use Rattle.px_gaps.proofs.Choosing.{bound-extends}
@@ -92,7 +92,7 @@ module _ (problem : Problem) (tables : List Table) (wanted : List Atom) (stack :
     pub of_matches : (matches : List (List Term)) → 0 < problem.objects
         → Matches problem.objects (length start) start
         (λ sigma. OneOf wanted (IsAdded problem (map (instance_under sigma) (take prefix table.steps)))) [] matches
-        → (entry : Entry) → IsRelevant problem tables wanted stack entry → IsOfFront number prefix entry
+        → (entry : Entry) → IsRelevant problem tables wanted stack entry → IsOfPrefix number prefix entry
         → OneOf matches (λ (terms : List Term). IsMacroBy problem.objects number prefix terms entry)
     of_matches matches some matched entry relevant (sigma, same) =
         let here = subst (IsRelevant problem tables wanted stack) (sym same) relevant in
@@ -108,7 +108,7 @@ module _ (problem : Problem) (tables : List Table) (wanted : List Atom) (stack :
         (one.0, one.1, (sigma, one.2, same))
 
     -- without objects there is one at most
-    pub of_zeros : problem.objects ≡ 0 → (entry : Entry) → IsRelevant problem tables wanted stack entry → IsOfFront number prefix entry
+    pub of_zeros : problem.objects ≡ 0 → (entry : Entry) → IsRelevant problem tables wanted stack entry → IsOfPrefix number prefix entry
         → Macro number prefix (first_values start) ≡ entry
     of_zeros none entry relevant (sigma, same) =
         let is =
@@ -116,9 +116,9 @@ module _ (problem : Problem) (tables : List Table) (wanted : List Atom) (stack :
         (subst (IsRelevant problem tables wanted stack) (sym same) relevant) in
         ap (λ (l : List ℕ). Macro number prefix l) (sym (zero-values problem table prefix start first sigma is none)) ∙ same
 
-  pub front-range : (entry : Entry) → IsRelevant problem tables wanted stack entry → IsOfFront number prefix entry
+  pub prefix-range : (entry : Entry) → IsRelevant problem tables wanted stack entry → IsOfPrefix number prefix entry
       → (2 ≤ prefix) × (prefix ≤ length table.steps)
-  front-range entry relevant (sigma, same) =
+  prefix-range entry relevant (sigma, same) =
       let is =
       relevant_macro problem tables number prefix table at sigma wanted stack
       (subst (IsRelevant problem tables wanted stack) (sym same) relevant) in

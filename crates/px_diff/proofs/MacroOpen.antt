@@ -117,7 +117,7 @@ module _ (problem : Problem) (valid : IsValid problem) (apart : ¬ AxiomsMention
 
     module _ (formula : List Atom) (of : All (IsAtomOf problem 0) formula) where
       abbrev needed : Obligation
-      needed = record { formula = formula; vars = 0; facts = left }
+      needed = record { formula = formula; variable_count = 0; facts = left }
 
       -- where all of its atoms are settled in the whole model, a formula is open from what is left
       settled-open : All (IsSettled problem model) formula → IsOpenOne problem needed
@@ -179,7 +179,7 @@ module _ (problem : Problem) (valid : IsValid problem) (table : Table) (is : IsT
   steps = take prefix (steps_under table sigma)
 
   abbrev needed_in : ℕ → Obligation
-  needed_in row = record { formula = initial_atoms table sigma row; vars = 0; facts = left_after problem (take (row - 1) steps) model }
+  needed_in row = record { formula = initial_atoms table sigma row; variable_count = 0; facts = left_after problem (take (row - 1) steps) model }
 
   abbrev rows : List ℕ
   rows = range_with_len 1 (length steps)

@@ -70,7 +70,7 @@ abbrev pub IsOpenOne : Problem → Obligation → Type 0
 IsOpenOne problem needed = HasAnswer problem needed ⊎ ((gap : Atom) × HasGap problem needed gap)
 
 abbrev needed_from : List Atom → List Atom → Obligation
-needed_from formula facts = record { formula = formula; vars = 0; facts = facts }
+needed_from formula facts = record { formula = formula; variable_count = 0; facts = facts }
 
 module _ (problem : Problem) (valid : IsValid problem) where
   open-alike : (formula facts others : List Atom) → All (IsAtomOf problem 0) formula → DecideAlike problem facts others

@@ -100,7 +100,7 @@ module _ (problem : Problem) (valid : IsValid problem) (model : List Atom) (part
       ∙ ap (λ (i : OpInst). literals_of (precondition problem i) []) fills.same
 
   pub list_full : (rules : Rules) (full : OpInst) (objects : List ℕ) (ds : Derivations) → Fills problem partial full objects
-      → IsList rules s (precondition problem partial.inst) partial.vars objects ds → IsList rules s (precondition problem full) 0 [] ds
+      → IsList rules s (precondition problem partial.inst) partial.variable_count objects ds → IsList rules s (precondition problem full) 0 [] ds
   list_full rules full objects ds fills list = record {
     count = refl;
     below = All-nil (λ n. n < problem.objects);
@@ -109,7 +109,7 @@ module _ (problem : Problem) (valid : IsValid problem) (model : List Atom) (part
   }
 
   pub list_open : (rules : Rules) (full : OpInst) (objects none : List ℕ) (ds : Derivations) → Fills problem partial full objects
-      → IsList rules s (precondition problem full) 0 none ds → IsList rules s (precondition problem partial.inst) partial.vars objects ds
+      → IsList rules s (precondition problem full) 0 none ds → IsList rules s (precondition problem partial.inst) partial.variable_count objects ds
   list_open rules full objects none ds fills list = record {
     count = fills.count;
     below = fills.below;
@@ -122,7 +122,7 @@ module _ (problem : Problem) (valid : IsValid problem) (model : List Atom) (part
 
   shape_open : (full : OpInst) (objects : List ℕ) (shape : List Tick) → Fills problem partial full objects
       → IsPartialShape (loose_gaps_in s) s (precondition problem full) 0 shape
-      → IsPartialShape (loose_gaps_in s) s (precondition problem partial.inst) partial.vars shape
+      → IsPartialShape (loose_gaps_in s) s (precondition problem partial.inst) partial.variable_count shape
   shape_open full objects shape fills partly = (
     partly.0,
     (
@@ -133,7 +133,7 @@ module _ (problem : Problem) (valid : IsValid problem) (model : List Atom) (part
     ),
   )
 
-  module _ (lists : List GapList) (listed : AreListed s (precondition problem partial.inst) partial.vars lists) where
+  module _ (lists : List GapList) (listed : AreListed s (precondition problem partial.inst) partial.variable_count lists) where
     pub list-fills : (list : GapList) → Contains lists list → Fills problem partial (instance_by partial list.objects) list.objects
     list-fills list has =
         let known = ((listed.all.members list).0 has).0 in record { count = known.1.count; below = known.1.below; same = refl }
@@ -142,20 +142,20 @@ module _ (problem : Problem) (valid : IsValid problem) (model : List Atom) (part
         → IsAnsweredIn partial lists full
     answer-in full objects fills answer =
         let r =
-        answer_listed s (precondition problem partial.inst) partial.vars lists listed.all objects answer.1
+        answer_listed s (precondition problem partial.inst) partial.variable_count lists listed.all objects answer.1
         (list_open (proofs_in s) full objects answer.0 answer.1 fills answer.2) in
         (r.0, r.1, (r.3, ap (instance_by partial) r.2 ∙ fills.same))
 
     in-answer : (full : OpInst) → IsAnsweredIn partial lists full → HasAnswer problem (needed_by problem model full)
     in-answer full (list, has, (empty, same)) =
-        let r = listed_answer s (precondition problem partial.inst) partial.vars lists listed.all list has empty in
+        let r = listed_answer s (precondition problem partial.inst) partial.variable_count lists listed.all list has empty in
         subst (λ (i : OpInst). HasAnswer problem (needed_by problem model i)) same
         ([], r.0, list_full (proofs_in s) (instance_by partial list.objects) list.objects r.0 (list-fills list has) r.1)
 
     not-proof-limited : (full : OpInst) (objects : List ℕ) (shapes : List (List Tick)) → Fills problem partial full objects
         → ¬ IsLimited s (precondition problem full) 0 shapes
     not-proof-limited full objects shapes fills limited =
-        few_firsts (IsPartialShape (loose_gaps_in s) s (precondition problem partial.inst) partial.vars)
+        few_firsts (IsPartialShape (loose_gaps_in s) s (precondition problem partial.inst) partial.variable_count)
         (IsPartialShape (proofs_in s) s (precondition problem full) 0) s.limit shapes listed.few
         (λ shape partly. shape_open full objects shape fills (partial-loose s (precondition problem full) 0 shape partly)) limited.count
         limited.kept
@@ -163,7 +163,7 @@ module _ (problem : Problem) (valid : IsValid problem) (model : List Atom) (part
     not-gap-limited : (full : OpInst) (objects : List ℕ) (shapes : List (List Tick)) → Fills problem partial full objects
         → ¬ IsGapLimited s (precondition problem full) 0 shapes
     not-gap-limited full objects shapes fills limited =
-        few_firsts (IsPartialShape (loose_gaps_in s) s (precondition problem partial.inst) partial.vars)
+        few_firsts (IsPartialShape (loose_gaps_in s) s (precondition problem partial.inst) partial.variable_count)
         (IsPartialShape (loose_gaps_in s) s (precondition problem full) 0) s.limit shapes listed.few
         (λ shape partly. shape_open full objects shape fills partly) limited.count limited.kept
 
@@ -173,7 +173,7 @@ module _ (problem : Problem) (valid : IsValid problem) (model : List Atom) (part
           → ((atom : Atom) → Contains list.gaps atom → ¬ IsProvable s atom)
           → (gap : Atom) × HasGap problem (needed_by problem model (instance_by partial list.objects)) gap
       gap-of list has unanswered none =
-          let r = listed_gap s (precondition problem partial.inst) partial.vars lists listed.all list has none in
+          let r = listed_gap s (precondition problem partial.inst) partial.variable_count lists listed.all list has none in
           let inst = instance_by partial list.objects in
           let gap = some-item list.gaps (λ empty. unanswered (list, has, (empty, refl))) in (
             gap.0,
@@ -203,7 +203,7 @@ module _ (problem : Problem) (valid : IsValid problem) (model : List Atom) (part
         | inr gap ↦
             let ds = gap.1.1.1 in
             let r =
-            gap_listed s (precondition problem partial.inst) partial.vars lists listed.all objects ds
+            gap_listed s (precondition problem partial.inst) partial.variable_count lists listed.all objects ds
             (list_open (gaps_in s) full objects gap.1.1.0 ds fills gap.1.1.2) in
             (list_of objects ds, r.0, (fills.same, (none_provable (list_of objects ds) r.0).1 r.1))
       ]
@@ -228,7 +228,7 @@ module _ (problem : Problem) (valid : IsValid problem) (model : List Atom) (part
                   let atom = one.0 in
                   let ds = one.2.1 in
                   let listed_one =
-                  loose_listed s (precondition problem partial.inst) partial.vars lists listed.all stands.0 ds
+                  loose_listed s (precondition problem partial.inst) partial.variable_count lists listed.all stands.0 ds
                   (list_open (loose_gaps_in s) inst stands.0 one.2.0 ds stands.1 one.2.2) in
                   unlimited atom shapes (list_of stands.0 ds, listed_one, (list_of-members stands.0 ds atom).1 one.2.3)
                   (subst (λ (l : List Atom). IsLimited s l 0 shapes) one.1 one.3)

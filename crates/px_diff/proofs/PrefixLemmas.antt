@@ -29,7 +29,7 @@ pub record IsRowOf (table : Table) (sigma : List ℕ) (model : List Atom) (row :
   pub facts : List Atom
   pub among : All (Contains model) facts
   pub set : IsAtomSet facts
-  pub same : needed ≡ record { formula = initial_atoms table sigma row; vars = 0; facts = facts }
+  pub same : needed ≡ record { formula = initial_atoms table sigma row; variable_count = 0; facts = facts }
 
 module _ (problem : Problem) (table : Table) (sigma : List ℕ) (model : List Atom) where
   abbrev left : OpInst → List Atom → List Atom
@@ -49,7 +49,7 @@ module _ (problem : Problem) (table : Table) (sigma : List ℕ) (model : List At
       → (at : ℕ) × (row ≤ at) × (at < row + length steps) × IsRowOf table sigma model at needed
   part-row [] row facts among set needed has = absurd (Contains-none needed has)
   part-row (step ∷ steps) row facts among set needed has =
-      elim (Contains-cases (record { formula = initial_atoms table sigma row; vars = 0; facts = facts })
+      elim (Contains-cases (record { formula = initial_atoms table sigma row; variable_count = 0; facts = facts })
       (row_obligations problem table sigma (left step facts) (suc row) steps) needed has) [
         | inl here ↦ (row, omega arith, omega arith, record { facts = facts; among = among; set = set; same = sym here })
         | inr later ↦
@@ -64,14 +64,14 @@ module _ (problem : Problem) (table : Table) (sigma : List ℕ) (model : List At
   row-part [] row facts among set at low high = absurd (omega (arith, low, high))
   row-part (step ∷ steps) row facts among set at low high = elim (first_or_later row at low) [
     | inl here ↦ (
-      record { formula = initial_atoms table sigma row; vars = 0; facts = facts },
-      Contains-first (record { formula = initial_atoms table sigma row; vars = 0; facts = facts })
+      record { formula = initial_atoms table sigma row; variable_count = 0; facts = facts },
+      Contains-first (record { formula = initial_atoms table sigma row; variable_count = 0; facts = facts })
           (row_obligations problem table sigma (left step facts) (suc row) steps),
       record {
         facts = facts;
         among = among;
         set = set;
-        same = ap (λ (n : ℕ). record { formula = initial_atoms table sigma n; vars = 0; facts = facts }) here;
+        same = ap (λ (n : ℕ). record { formula = initial_atoms table sigma n; variable_count = 0; facts = facts }) here;
       },
     )
     | inr later ↦
@@ -79,7 +79,7 @@ module _ (problem : Problem) (table : Table) (sigma : List ℕ) (model : List At
         row-part steps (suc row) (left step facts) (left-among step facts among) (left-set step facts set) at later
         (omega (arith, high)) in (
           r.0,
-          Contains-later (record { formula = initial_atoms table sigma row; vars = 0; facts = facts })
+          Contains-later (record { formula = initial_atoms table sigma row; variable_count = 0; facts = facts })
               (row_obligations problem table sigma (left step facts) (suc row) steps) r.0 r.1,
           r.2,
         )

@@ -223,9 +223,9 @@ module _ (rules : Rules) (axioms : List Clause) (objects : List ℕ) (high : ℕ
 
 -- ---- gap lists
 
-module _ (s : Setting) (vars : ℕ) where
+module _ (s : Setting) (variable_count : ℕ) where
   gap_list-moved : (xs ys firsts seconds : List Atom) → AreParted xs firsts seconds → AreParted ys firsts seconds
-      → (objects : List ℕ) (gaps : List Atom) → IsGapList s xs vars objects gaps → IsGapList s ys vars objects gaps
+      → (objects : List ℕ) (gaps : List Atom) → IsGapList s xs variable_count objects gaps → IsGapList s ys variable_count objects gaps
   gap_list-moved xs ys firsts seconds one other objects gaps (ds, list, same) =
       let m = moved (loose_gaps_in s) s.axioms objects s.height xs ys firsts seconds one other ds (list.proved, list.low) in (
         m.0,
@@ -234,7 +234,7 @@ module _ (s : Setting) (vars : ℕ) where
       )
 
   pub lists-reordered : (atoms ordered : List Atom) → IsReordered atoms ordered → (lists : List GapList)
-      → AreGapLists s ordered vars lists → AreGapLists s atoms vars lists
+      → AreGapLists s ordered variable_count lists → AreGapLists s atoms variable_count lists
   lists-reordered atoms ordered is lists listed =
       let other : AreParted ordered is.firsts is.seconds =
       subst (λ (l : List Atom). AreParted l is.firsts is.seconds) (sym is.ordered_is) (parted-both is.firsts is.seconds) in

@@ -57,14 +57,14 @@ open-to problem model inst is_open = open-gaps problem (needed_by problem model 
 
 -- the objects of a gap list fill the partial instance
 pub stands-by : (problem : Problem) (model formula : List Atom) (partial : PartialInstance) (lists : List GapList)
-    → AreGapLists (setting_of problem model) formula partial.vars lists
+    → AreGapLists (setting_of problem model) formula partial.variable_count lists
     → (list : GapList) → Contains lists list → Fills problem partial (instance_by partial list.objects) list.objects
 stands-by problem model formula partial lists listed list has =
     let known = ((listed.members list).0 has).0 in record { count = known.1.count; below = known.1.below; same = refl }
 
 module _ (problem : Problem) (valid : IsValid problem) (model : List Atom) (partial : PartialInstance)
     (form : IsPartialInstance problem partial) (rest : List Atom) (is : IsRest problem (precondition problem partial.inst) rest)
-    (lists : List GapList) (listed : AreGapLists (setting_of problem model) rest partial.vars lists) where
+    (lists : List GapList) (listed : AreGapLists (setting_of problem model) rest partial.variable_count lists) where
   abbrev s : Setting
   s = setting_of problem model
 
@@ -79,8 +79,8 @@ module _ (problem : Problem) (valid : IsValid problem) (model : List Atom) (part
         let list = one.0 in
         let stands = list-stands list one.1 in
         let own : Fills problem partial full list.objects = record { count = stands.count; below = stands.below; same = one.2.1 } in
-        let r = listed_answer s rest partial.vars lists listed list one.1 one.2.0 in
-        elim (list-or-none problem valid model (precondition problem partial.inst) partial.vars
+        let r = listed_answer s rest partial.variable_count lists listed list one.1 one.2.0 in
+        elim (list-or-none problem valid model (precondition problem partial.inst) partial.variable_count
         (needs-are problem partial valid form) rest is list.objects) [
           | inl more ↦ let made =
               more r.0 r.1 in inl ([], made.0, list_full problem valid model partial form (proofs_in s) full list.objects made.0 own made.1)
@@ -89,10 +89,10 @@ module _ (problem : Problem) (valid : IsValid problem) (model : List Atom) (part
         ]
     | inr never ↦ inr (λ answer.
         let less =
-        list-less problem valid model (precondition problem partial.inst) partial.vars (needs-are problem partial valid form) rest is
+        list-less problem valid model (precondition problem partial.inst) partial.variable_count (needs-are problem partial valid form) rest is
         (proofs_in s) objects answer.1 (list_open problem valid model partial form
         (proofs_in s) full objects answer.0 answer.1 fills answer.2) in
-        let r = answer_listed s rest partial.vars lists listed objects less.0 less.1 in
+        let r = answer_listed s rest partial.variable_count lists listed objects less.0 less.1 in
         never (r.0, r.1, (r.3, ap (instance_by partial) r.2 ∙ fills.same)))
   ]
 
@@ -103,9 +103,9 @@ module _ (problem : Problem) (valid : IsValid problem) (model : List Atom) (part
         → IsOpen problem (needed_by problem model (instance_by partial list.objects) ∷ [])
     open-only list has none =
         let inst = instance_by partial list.objects in
-        let r = listed_gap s rest partial.vars lists listed list has ((none_provable list has).0 none) in
+        let r = listed_gap s rest partial.variable_count lists listed list has ((none_provable list has).0 none) in
         let more =
-        list-more problem valid model (precondition problem partial.inst) partial.vars
+        list-more problem valid model (precondition problem partial.inst) partial.variable_count
         (needs-are problem partial valid form) rest is list.objects r.0 r.1 in
         open-from problem model inst (answered inst list.objects (list-stands list has)) more.0
         (list_full problem valid model partial form (gaps_in s) inst list.objects more.0 (list-stands list has) more.1)
@@ -116,10 +116,10 @@ module _ (problem : Problem) (valid : IsValid problem) (model : List Atom) (part
     open-all full objects fills is_open =
         let there = open-to problem model full is_open in
         let less =
-        list-less problem valid model (precondition problem partial.inst) partial.vars (needs-are problem partial valid form) rest is
+        list-less problem valid model (precondition problem partial.inst) partial.variable_count (needs-are problem partial valid form) rest is
         (gaps_in s) objects there.1 (list_open problem valid model partial form (gaps_in s) full objects there.0 there.1 fills there.2)
         in
-        let r = gap_listed s rest partial.vars lists listed objects less.0 less.1 in
+        let r = gap_listed s rest partial.variable_count lists listed objects less.0 less.1 in
         (list_of objects less.0, r.0, (fills.same, (none_provable (list_of objects less.0) r.0).1 r.1))
 
     module _ (tables : List Table) (wanted : List Atom) (stack : List Entry) (ascends : IsAtomSet model)
@@ -137,13 +137,13 @@ module _ (problem : Problem) (valid : IsValid problem) (model : List Atom) (part
           → (shapes : List (List Tick)) → ¬ IsLimited s (atom ∷ []) 0 shapes
       gap-unlimited full objects none fills es list atom has shapes limited =
           let less =
-          list-less problem valid model (precondition problem partial.inst) partial.vars (needs-are problem partial valid form) rest is
+          list-less problem valid model (precondition problem partial.inst) partial.variable_count (needs-are problem partial valid form) rest is
           (loose_gaps_in s) objects es (list_open problem valid model partial form (loose_gaps_in s) full objects none es fills list) in
           elim (less.2 atom has) [
             | inl free ↦ free-unlimited problem model valid atom shapes free limited
             | inr there ↦ unlimited atom shapes (
               list_of objects less.0,
-              loose_listed s rest partial.vars lists listed objects less.0 less.1,
+              loose_listed s rest partial.variable_count lists listed objects less.0 less.1,
               (list_of-members objects less.0 atom).1 there,
             ) limited
           ]

@@ -48,21 +48,21 @@ ground-same problem (Obj n ∷ ts) of =
 ground-same problem (Var v ∷ ts) of = absurd (omega (arith, of 0 Any (omega arith)))
 ground-same problem (Any ∷ ts) of = absurd (of 0 Any (omega arith))
 
-module _ (problem : Problem) (valid : IsValid problem) (facts formula : List Atom) (vars : ℕ) (of : All (IsAtomOf problem vars) formula)
-    (patterns : List GapPattern) (are : AreGapPatterns (setting_of problem facts) formula vars patterns)
+module _ (problem : Problem) (valid : IsValid problem) (facts formula : List Atom) (variable_count : ℕ) (of : All (IsAtomOf problem variable_count) formula)
+    (patterns : List GapPattern) (are : AreGapPatterns (setting_of problem facts) formula variable_count patterns)
     (forms : List Atom) (forms_are : (form : Atom) → Contains forms form
     ↔ OneOf patterns (λ (pattern : GapPattern). OneOf pattern.atoms (λ atom. form_by atom ≡ form))) where
-  pub row-answer : AreFewGapShapes (setting_of problem facts) formula vars
+  pub row-answer : AreFewGapShapes (setting_of problem facts) formula variable_count
       → All (λ (form : Atom). AreFewGapShapes (setting_of problem facts) (form ∷ []) (length form.args)) forms
-      → IsRowAnswer (setting_of problem facts) formula vars patterns
+      → IsRowAnswer (setting_of problem facts) formula variable_count patterns
   row-answer few all_few = record {
     all = are;
     few = few;
     atoms = λ q closed.
-        let stood = (forms-closed problem valid facts formula vars of patterns are forms forms_are q).1 closed in
+        let stood = (forms-closed problem valid facts formula variable_count of patterns are forms forms_are q).1 closed in
         let is_atom =
-        closed-are problem facts formula vars (lists_of problem.objects patterns) valid of
-        (patterns-are (setting_of problem facts) formula vars patterns are) q closed in
+        closed-are problem facts formula variable_count (lists_of problem.objects patterns) valid of
+        (patterns-are (setting_of problem facts) formula variable_count patterns are) q closed in
         let args = ground-same problem q.args is_atom.1 in
         let here : substitute_atom [] q ≡ q = λ i. record { pred = q.pred; args = args i } in
         let same : literals_of (stood.0 ∷ []) stood.2.0 ≡ literals_of (q ∷ []) [] =
@@ -79,11 +79,11 @@ object-mapped values [] v n at = absurd (cc)
 object-mapped values (t ∷ terms) zero n at = let same : t ≡ Obj n = some_same at in ap (object_under values) same
 object-mapped values (t ∷ terms) (suc v) n at = object-mapped values terms v n at
 
-pub patterns-long : (s : Setting) (formula : List Atom) (vars : ℕ) (patterns : List GapPattern) → AreGapPatterns s formula vars patterns
-    → All (λ (pattern : GapPattern). length pattern.terms ≡ vars) patterns
-patterns-long s formula vars patterns are =
-    All-each (λ (pattern : GapPattern). length pattern.terms ≡ vars) patterns
-    (λ pattern has. (All-at (IsPattern s.objects vars) patterns pattern are.form has).count)
+pub patterns-long : (s : Setting) (formula : List Atom) (variable_count : ℕ) (patterns : List GapPattern) → AreGapPatterns s formula variable_count patterns
+    → All (λ (pattern : GapPattern). length pattern.terms ≡ variable_count) patterns
+patterns-long s formula variable_count patterns are =
+    All-each (λ (pattern : GapPattern). length pattern.terms ≡ variable_count) patterns
+    (λ pattern has. (All-at (IsPattern s.objects variable_count) patterns pattern are.form has).count)
 
 -- what the patterns say of the row with objects that extend the terms
 module _ (s : Setting) (table : Table) (terms : List Term) (binding : IsBinding s.objects terms) (long : length terms ≡ table.params)

@@ -50,10 +50,10 @@ mutual
 abbrev in_row : ℕ → Mark → Bool
 in_row row mark = (mark.row == row) && (mark.column == 0)
 
-module _ (s : Setting) (vars : ℕ) (wide full : List Atom) (sigma : List ℕ) (count : length sigma ≡ vars)
+module _ (s : Setting) (variable_count : ℕ) (wide full : List Atom) (sigma : List ℕ) (count : length sigma ≡ variable_count)
     (below : All (λ n. n < s.objects) sigma) (same : literals_of wide sigma ≡ literals_of full []) where
   pub list-wide : (rules : Rules) (nothing : List ℕ) (ds : Derivations) → IsList rules s full 0 nothing ds
-      → IsList rules s wide vars sigma ds
+      → IsList rules s wide variable_count sigma ds
   list-wide rules nothing ds list = record {
     count = count;
     below = below;
@@ -62,7 +62,7 @@ module _ (s : Setting) (vars : ℕ) (wide full : List Atom) (sigma : List ℕ) (
     low = list.low;
   }
 
-  pub few-full : AreFewGapShapes s wide vars → AreFewGapShapes s full 0
+  pub few-full : AreFewGapShapes s wide variable_count → AreFewGapShapes s full 0
   few-full few = record {
     seen = few.seen;
     fewer = few.fewer;

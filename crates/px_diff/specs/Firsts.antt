@@ -44,9 +44,9 @@ abbrev pub ComeBefore : List OpInst → OpInst → Type 0
 ComeBefore insts inst = All (λ earlier. instance_cmp earlier inst ≡ Less) insts
 
 -- `count` first steps of the table of this number, whatever the objects are, come after the entry
-abbrev pub IsBeforeFront : ℕ → ℕ → Entry → Type 0
-IsBeforeFront number count (Op inst) = Unit {0}
-IsBeforeFront number count (Macro n prefix sigma) = (n < number) ⊎ ((n ≡ number) × (prefix < count))
+abbrev pub IsBeforePrefix : ℕ → ℕ → Entry → Type 0
+IsBeforePrefix number count (Op inst) = Unit {0}
+IsBeforePrefix number count (Macro n prefix sigma) = (n < number) ⊎ ((n ≡ number) × (prefix < count))
 
 -- it takes first steps of that table or of a later one
 abbrev pub IsOfTableFrom : ℕ → Entry → Type 0

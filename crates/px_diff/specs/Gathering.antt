@@ -27,7 +27,7 @@ pub record Gathers (problem : Problem) (tables : List Table) (wanted : List Atom
 
 -- the objects are the problem's, one for each variable
 pub record AreObjectsFor (problem : Problem) (partial : PartialInstance) (objects : List ℕ) : Type 0 where
-  pub count : length objects ≡ partial.vars
+  pub count : length objects ≡ partial.variable_count
   pub below : All (λ n. n < problem.objects) objects
 
 -- the instance that the partial one is with the objects

@@ -19,7 +19,7 @@ use Rattle.px_entries.specs.Parameters.{AreFirstTerms}
 use Rattle.px_diff.specs.RowQuestions.{FitsEach}
 use Rattle.px_diff.specs.Pushes.{IsPushable, IsRelevant}
 use Rattle.px_gaps.specs.Questions.{AreUnlimited}
-use Rattle.px_diff.specs.declared.front.Front.{Front}
+use Rattle.px_diff.specs.declared.front.Prefix.{Prefix}
 use Rattle.px_diff.specs.declared.request.Request.{Request}
 
 -- The new list has what the old one had, and besides only what may be pushed, including all such entries of the part. No question about a
@@ -63,7 +63,7 @@ IsMacroTold limit number prefix rows limited terms entry = IsMacroLimited limit 
 
 -- Two or more of the first steps of the table of that number, which is learned, with their first terms. Where it is said that they keep
 -- their marks, or that the facts suffice, this is so.
-pub record IsMacroFront (front : Front) : Type 0 where
+pub record IsMacroPrefix (front : Prefix) : Type 0 where
   pub problem : IsValid front.request.problem.now
   pub tables : AreLearned front.request.problem.now front.request.tables.now
   pub table : slice_get front.request.tables.now front.number ≡ Some front.table.now
@@ -75,12 +75,12 @@ pub record IsMacroFront (front : Front) : Type 0 where
       × FactsSuffice front.request.problem.now front.table.now
 
 -- the entry takes `prefix` first steps of the table of that number, with whatever objects
-abbrev pub IsOfFront : ℕ → ℕ → Entry → Type 0
-IsOfFront number prefix entry = (sigma : List ℕ) × (Macro number prefix sigma ≡ entry)
+abbrev pub IsOfPrefix : ℕ → ℕ → Entry → Type 0
+IsOfPrefix number prefix entry = (sigma : List ℕ) × (Macro number prefix sigma ≡ entry)
 
 -- it takes first steps of the table
 abbrev pub IsOfTable : ℕ → Entry → Type 0
-IsOfTable number entry = (prefix : ℕ) × IsOfFront number prefix entry
+IsOfTable number entry = (prefix : ℕ) × IsOfPrefix number prefix entry
 
 -- it is a MACROP
 abbrev pub IsMacroEntry : Entry → Type 0

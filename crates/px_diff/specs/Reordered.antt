@@ -24,11 +24,11 @@ pub record IsReordered (atoms ordered : List Atom) : Type 0 where
 
 -- These are the patterns of the formula's rest in another order, and those of the atoms that they close which are provable. Whatever the
 -- facts are, the formula without variables has fewer unfinished gap proofs than the limit.
-pub record IsReorderedAnswer (problem : Problem) (facts formula : List Atom) (vars : ℕ) (patterns : List GapPattern) (provable : List Atom)
+pub record IsReorderedAnswer (problem : Problem) (facts formula : List Atom) (variable_count : ℕ) (patterns : List GapPattern) (provable : List Atom)
     : Type 0 where
   pub rest : List Atom
   pub is_rest : IsRest problem formula rest
   pub few : HasFewShapes problem (map (λ (atom : Atom). atom.pred) formula)
   pub ordered : List Atom
   pub reordered : IsReordered rest ordered
-  pub answer : IsGapAnswer (setting_of problem facts) ordered vars patterns provable
+  pub answer : IsGapAnswer (setting_of problem facts) ordered variable_count patterns provable

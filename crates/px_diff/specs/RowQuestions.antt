@@ -22,9 +22,9 @@ use Rattle.px_diff.specs.declared.row_choices.TableChoices.{TableChoices}
 
 -- All patterns of the formula, which has fewer unfinished gap proofs than the limit, by their shapes; and each atom that they close has
 -- fewer, too.
-pub record IsRowAnswer (s : Setting) (formula : List Atom) (vars : ℕ) (patterns : List GapPattern) : Type 0 where
-  pub all : AreGapPatterns s formula vars patterns
-  pub few : AreFewGapShapes s formula vars
+pub record IsRowAnswer (s : Setting) (formula : List Atom) (variable_count : ℕ) (patterns : List GapPattern) : Type 0 where
+  pub all : AreGapPatterns s formula variable_count patterns
+  pub few : AreFewGapShapes s formula variable_count
   pub atoms : (atom : Atom) → IsClosedIn (lists_of s.objects patterns) atom → AreFewGapShapes s (atom ∷ []) 0
 
 -- the table's rows can be asked with these terms for its parameters, which are few enough for a question

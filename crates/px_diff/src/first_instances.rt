@@ -25,7 +25,10 @@ fn least_of(problem: &Problem, partial: &PartialInstance) -> OpInst
 {
     // what stands behind a reference is known to be in range once it is read
     let _objects = problem.objects;
-    filled(partial, &[0; MOST_PARAMETERS][..partial.vars as usize])
+    filled(
+        partial,
+        &[0; MOST_PARAMETERS][..partial.variable_count as usize],
+    )
 }
 
 /// Returns the lesser of the two.

@@ -3,18 +3,18 @@ ghost use Rattle.std.specs.Prelude.{◌<◌, ◌↔◌, All, Contains, IfOk, IsT
 ghost use Rattle.px_table.specs.EntryOrder.{order_of_entries};
 ghost use Rattle.px_table.specs.declared.entry.Entry.{Entry as EntryValue};
 ghost use Rattle.px_terms.specs.Validity.{IsValid};
-ghost use Rattle.px_diff.specs.Firsts.{AreEnough, BringsFirstEntries, IsBeforeFront, IsOfTableFrom};
+ghost use Rattle.px_diff.specs.Firsts.{AreEnough, BringsFirstEntries, IsBeforePrefix, IsOfTableFrom};
 ghost use Rattle.px_entries.specs.Learned.{AreLearned};
 ghost use Rattle.px_diff.specs.Macros.{GathersEntriesFor, IsMacroEntry, IsOfTable};
 ghost use Rattle.px_entries.specs.Unlimited.{IsNeverLimited};
 ghost use Rattle.px_diff.specs.Outcomes.{IfStopped};
 ghost use Rattle.px_diff.specs.Requests.{LimitsFor};
 
-use crate::front::Front;
-use crate::front_macros::keep_marks;
 use crate::macro_open::facts_suffice;
-use crate::macros::{choices_of_table, gather_front};
+use crate::macros::{choices_of_table, gather_prefix};
 use crate::move_err::MoveErr;
+use crate::prefix::Prefix;
+use crate::prefix_macros::keep_marks;
 use crate::pushes::order_entries;
 use crate::request::Request;
 use px_entries::first_terms;
@@ -22,8 +22,8 @@ use px_gaps::Asker;
 use px_table::Entry;
 
 /// Returns whether the entry comes before this many first steps of the table of this number, whatever their objects are.
-fn is_before_front(entry: &Entry, number: u32, count: u32) -> bool
-    ensures { IsTrue result → IsBeforeFront number count entry.now }
+fn is_before_prefix(entry: &Entry, number: u32, count: u32) -> bool
+    ensures { IsTrue result → IsBeforePrefix number count entry.now }
 {
     match entry {
         Entry::Op(_) => true,
@@ -36,12 +36,12 @@ fn is_before_front(entry: &Entry, number: u32, count: u32) -> bool
 }
 
 /// Returns whether all entries come before this many first steps of the table of this number, whatever their objects are.
-fn are_before_front(entries: &[Entry], number: u32, count: u32) -> bool
-    ensures { IsTrue result → All (IsBeforeFront number count) entries.now }
+fn are_before_prefix(entries: &[Entry], number: u32, count: u32) -> bool
+    ensures { IsTrue result → All (IsBeforePrefix number count) entries.now }
 {
     entries
         .iter()
-        .all(|entry| is_before_front(entry, number, count))
+        .all(|entry| is_before_prefix(entry, number, count))
 }
 
 /// Returns whether there are enough entries, and all come before this many first steps of the table of this number. If so, they are in
@@ -49,13 +49,13 @@ fn are_before_front(entries: &[Entry], number: u32, count: u32) -> bool
 fn can_leave_off_steps(found: &mut Vec<Entry>, number: u32, count: u32, enough: usize) -> bool
     ensures members { (entry : EntryValue) → Contains found.new.items entry ↔ Contains found.old.items entry }
     ensures enough { IsTrue result → AreEnough order_of_entries enough found.new.items }
-    ensures before { IsTrue result → All (IsBeforeFront number count) found.new.items }
+    ensures before { IsTrue result → All (IsBeforePrefix number count) found.new.items }
 {
-    if found.len() < enough || !are_before_front(found, number, count) {
+    if found.len() < enough || !are_before_prefix(found, number, count) {
         return false;
     }
     order_entries(found);
-    found.len() >= enough && are_before_front(found, number, count)
+    found.len() >= enough && are_before_prefix(found, number, count)
 }
 
 // Alike: `gather_table` of `macros` goes through the same first steps, and through all of them.
@@ -90,7 +90,7 @@ fn gather_first_table(
             return Ok(false);
         }
         let start = first_terms(asker.alloc, table, count)?;
-        let front = Front {
+        let prefix = Prefix {
             alloc: asker.alloc,
             request: *request,
             number,
@@ -100,7 +100,7 @@ fn gather_first_table(
             keeps_marks: keep_marks(request.problem, table, count),
             facts_suffice: suffice,
         };
-        gather_front(found, &front, rows)?;
+        gather_prefix(found, &prefix, rows)?;
     }
     Ok(true)
 }

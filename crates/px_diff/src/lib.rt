@@ -46,7 +46,7 @@
 //! from what the steps before it leave of the model, so it has no more shapes than that question, and nothing that the question
 //! doesn't offer. What is provable from the whole model says nothing of it, so nothing is left out for that. The objects that
 //! the rows offer are joined, a row with few choices first (`fitting`), so that tuples of objects aren't listed. Which parameters the
-//! first steps use, and whether a step may delete a mark at all, is found once for all objects (`front_macros`). Each
+//! first steps use, and whether a step may delete a mark at all, is found once for all objects (`prefix_macros`). Each
 //! MACROP that comes out is tried by itself, by the calls for one entry, whose questions aren't counted (`macros`). `relevant` asks nothing
 //! about the rows of a table with at most 256 choices of objects: it tries each of its MACROPs by itself.
 //!
@@ -62,13 +62,13 @@ mod first_instances;
 mod first_macros;
 mod firsts;
 mod fitting;
-mod front;
-mod front_macros;
 mod laws;
 mod macro_open;
 mod macros;
 mod measured;
 mod move_err;
+mod prefix;
+mod prefix_macros;
 mod pushes;
 mod relevance;
 mod request;

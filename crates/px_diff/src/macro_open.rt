@@ -8,9 +8,9 @@ ghost use Rattle.px_terms.specs.Language.{IsVariableBelow};
 ghost use Rattle.px_terms.specs.Operators.{IsAddable};
 ghost use Rattle.px_terms.specs.Validity.{IsAtomOf, IsValid};
 ghost use Rattle.px_diff.specs.MacroOpen.{DeletesAddable, FactsSuffice, IsNeeded, IsSettledMark};
-ghost use Rattle.px_diff.specs.Macros.{IsMacroFront};
+ghost use Rattle.px_diff.specs.Macros.{IsMacroPrefix};
 
-use crate::front::Front;
+use crate::prefix::Prefix;
 use px_entries::{axioms_mention_addable, is_settled};
 use px_ops::{is_addable, schema_of};
 use px_table::{Mark, Table, atom_with};
@@ -72,23 +72,23 @@ fn is_needed(mark: &Mark, prefix: u32) -> bool
 
 /// Returns whether the mark isn't one of the first rows from the initial model, or its atom is one that operators add or that is provable.
 /// `None` where asking meets the limit of shapes.
-fn is_settled_mark(front: &Front, sigma: &[u32], mark: &Mark) -> Result<Option<bool>, NoMemory>
-    requires front { IsMacroFront front.now }
+fn is_settled_mark(prefix: &Prefix, sigma: &[u32], mark: &Mark) -> Result<Option<bool>, NoMemory>
+    requires prefix { IsMacroPrefix prefix.now }
     requires variables { All (IsVariableBelow (length sigma.now)) mark.now.atom.args }
-    requires atom { mark.now.row ≤ front.now.count → IsAtomOf front.now.request.problem.now 0 (atom_under sigma.now mark.now.atom) }
+    requires atom { mark.now.row ≤ prefix.now.count → IsAtomOf prefix.now.request.problem.now 0 (atom_under sigma.now mark.now.atom) }
     ensures { IfOk result (λ found. IfSome found (λ settled. MatchBool settled
-        (IsSettledMark front.now.request.problem.now front.now.request.model.now.atoms front.now.count sigma.now mark.now)
-        (¬ IsSettledMark front.now.request.problem.now front.now.request.model.now.atoms front.now.count sigma.now mark.now))) }
+        (IsSettledMark prefix.now.request.problem.now prefix.now.request.model.now.atoms prefix.now.count sigma.now mark.now)
+        (¬ IsSettledMark prefix.now.request.problem.now prefix.now.request.model.now.atoms prefix.now.count sigma.now mark.now))) }
 {
-    if !is_needed(mark, front.count) {
+    if !is_needed(mark, prefix.count) {
         return Ok(Some(true));
     }
     let atom = atom_with(sigma, &mark.atom);
     is_settled(
-        front.alloc,
-        front.request.problem,
+        prefix.alloc,
+        prefix.request.problem,
         &atom,
-        front.request.model,
+        prefix.request.model,
     )
 }
 
@@ -96,17 +96,17 @@ fn is_settled_mark(front: &Front, sigma: &[u32], mark: &Mark) -> Result<Option<b
 /// provable; `None` where asking for one meets the limit of shapes. Where the facts suffice and no question about an entry is ever
 /// limited, this says that the MACROP with these objects is open. The prover is asked only about atoms that axioms conclude and that
 /// aren't facts, and takes the whole model for all rows.
-pub fn are_settled_marks(front: &Front, sigma: &[u32]) -> Result<Option<bool>, NoMemory>
-    requires front { IsMacroFront front.now }
-    requires sigma { IsMacro front.now.request.problem.now front.now.table.now front.now.count sigma.now }
+pub fn are_settled_marks(prefix: &Prefix, sigma: &[u32]) -> Result<Option<bool>, NoMemory>
+    requires prefix { IsMacroPrefix prefix.now }
+    requires sigma { IsMacro prefix.now.request.problem.now prefix.now.table.now prefix.now.count sigma.now }
     ensures { IfOk result (λ found. IfSome found (λ settled. MatchBool settled
-        (All (IsSettledMark front.now.request.problem.now front.now.request.model.now.atoms front.now.count sigma.now)
-        front.now.table.now.marks) (¬ All (IsSettledMark front.now.request.problem.now front.now.request.model.now.atoms front.now.count
-        sigma.now) front.now.table.now.marks))) }
+        (All (IsSettledMark prefix.now.request.problem.now prefix.now.request.model.now.atoms prefix.now.count sigma.now)
+        prefix.now.table.now.marks) (¬ All (IsSettledMark prefix.now.request.problem.now prefix.now.request.model.now.atoms prefix.now.count
+        sigma.now) prefix.now.table.now.marks))) }
 {
-    let marks = front.table.marks.as_slice();
+    let marks = prefix.table.marks.as_slice();
     for mark in marks {
-        match is_settled_mark(front, sigma, mark)? {
+        match is_settled_mark(prefix, sigma, mark)? {
             Some(true) => {}
             Some(false) => return Ok(Some(false)),
             None => return Ok(None),

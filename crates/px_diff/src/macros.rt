@@ -8,17 +8,17 @@ ghost use Rattle.px_terms.specs.declared.term.Term.{Term as TermValue};
 ghost use Rattle.px_gaps.specs.Bindings.{IsBinding};
 ghost use Rattle.px_gaps.specs.Closings.{OneOf};
 ghost use Rattle.px_entries.specs.Learned.{AreLearned};
-ghost use Rattle.px_diff.specs.Macros.{GathersEntriesFor, IsMacroFront, IsMacroBy, IsMacroEntry, IsMacroFitting, IsMacroTold, IsOfFront, IsOfTable};
+ghost use Rattle.px_diff.specs.Macros.{GathersEntriesFor, IsMacroPrefix, IsMacroBy, IsMacroEntry, IsMacroFitting, IsMacroTold, IsOfPrefix, IsOfTable};
 ghost use Rattle.px_entries.specs.Parameters.{IsParameterMatch};
 ghost use Rattle.px_diff.specs.Outcomes.{IfStopped};
 ghost use Rattle.px_diff.specs.Requests.{IsRelevantEntryFor, LimitsFor};
 ghost use Rattle.px_diff.specs.RowQuestions.{AreTableChoices};
 
 use crate::fitting::{fewest, numbers_below, without_place};
-use crate::front::Front;
-use crate::front_macros::{is_macro_of, keep_marks};
 use crate::macro_open::are_settled_marks;
 use crate::move_err::MoveErr;
+use crate::prefix::Prefix;
+use crate::prefix_macros::{is_macro_of, keep_marks};
 use crate::pushes::are_few;
 use crate::relevance::is_stacked;
 use crate::request::Request;
@@ -37,44 +37,44 @@ use px_terms::{Atom, NoMemory, OpInst, Problem, Sequence, Term, fits_sort};
 use std::alloc::Global;
 
 /// Returns the entry of the first steps with these objects.
-fn entry_of(front: &Front, sigma: &[u32]) -> Result<Entry, NoMemory>
-    ensures { IfOk result (λ entry. entry ≡ Macro front.now.number front.now.count sigma.now) }
+fn entry_of(prefix: &Prefix, sigma: &[u32]) -> Result<Entry, NoMemory>
+    ensures { IfOk result (λ entry. entry ≡ Macro prefix.now.number prefix.now.count sigma.now) }
 {
-    let sigma = Sequence::from_slice(front.alloc, sigma)?;
+    let sigma = Sequence::from_slice(prefix.alloc, sigma)?;
     Ok(Entry::Macro {
-        number: front.number,
-        prefix: front.count,
+        number: prefix.number,
+        prefix: prefix.count,
         sigma,
     })
 }
 
 /// Returns whether the entry of the first steps is relevant: not on the stack, and adding one of the wanted atoms.
-fn is_relevant_macro(front: &Front, sigma: &[u32], entry: &Entry) -> Result<bool, NoMemory>
-    requires front { IsMacroFront front.now }
-    requires sigma { IsMacro front.now.request.problem.now front.now.table.now front.now.count sigma.now }
-    requires entry { entry.now ≡ Macro front.now.number front.now.count sigma.now }
-    ensures { IfOk result (λ yes'. IsTrue yes' ↔ IsRelevantEntryFor front.now.request entry.now) }
+fn is_relevant_macro(prefix: &Prefix, sigma: &[u32], entry: &Entry) -> Result<bool, NoMemory>
+    requires prefix { IsMacroPrefix prefix.now }
+    requires sigma { IsMacro prefix.now.request.problem.now prefix.now.table.now prefix.now.count sigma.now }
+    requires entry { entry.now ≡ Macro prefix.now.number prefix.now.count sigma.now }
+    ensures { IfOk result (λ yes'. IsTrue yes' ↔ IsRelevantEntryFor prefix.now.request entry.now) }
 {
-    if is_stacked(front.request.stack, entry) {
+    if is_stacked(prefix.request.stack, entry) {
         return Ok(false);
     }
-    let steps = steps_with(front.alloc, front.table, front.count, sigma)?;
-    Ok(add_wanted(front.request.problem, &steps, front.request.wanted))
+    let steps = steps_with(prefix.alloc, prefix.table, prefix.count, sigma)?;
+    Ok(add_wanted(prefix.request.problem, &steps, prefix.request.wanted))
 }
 
 /// Adds the relevant entry where it may be pushed, as questions about it show.
-fn keep_known(found: &mut Vec<Entry>, front: &Front, entry: Entry) -> Result<(), MoveErr>
-    requires front { IsMacroFront front.now }
-    requires relevant { IsRelevantEntryFor front.now.request entry }
-    ensures gathers { OnOk result (GathersEntriesFor front.now.request (λ other. entry ≡ other) found.old.items found.new.items) }
-    ensures limited { IfStopped result (LimitsFor front.now.request) }
+fn keep_known(found: &mut Vec<Entry>, prefix: &Prefix, entry: Entry) -> Result<(), MoveErr>
+    requires prefix { IsMacroPrefix prefix.now }
+    requires relevant { IsRelevantEntryFor prefix.now.request entry }
+    ensures gathers { OnOk result (GathersEntriesFor prefix.now.request (λ other. entry ≡ other) found.old.items found.new.items) }
+    ensures limited { IfStopped result (LimitsFor prefix.now.request) }
 {
     match known_entry(
-        front.alloc,
-        front.request.problem,
-        front.request.tables,
+        prefix.alloc,
+        prefix.request.problem,
+        prefix.request.tables,
         &entry,
-        front.request.model,
+        prefix.request.model,
     ) {
         Ok(Known::Applicable) => {
             push(found, entry)?;
@@ -93,76 +93,76 @@ fn keep_known(found: &mut Vec<Entry>, front: &Front, entry: Entry) -> Result<(),
 /// Adds the relevant entry of the first steps with these objects where it may be pushed, as the facts show, where they suffice.
 fn keep_relevant_macro(
     found: &mut Vec<Entry>,
-    front: &Front,
+    prefix: &Prefix,
     sigma: &[u32],
     entry: Entry,
 ) -> Result<(), MoveErr>
-    requires front { IsMacroFront front.now }
-    requires sigma { IsMacro front.now.request.problem.now front.now.table.now front.now.count sigma.now }
-    requires entry { entry ≡ Macro front.now.number front.now.count sigma.now }
-    requires relevant { IsRelevantEntryFor front.now.request entry }
-    ensures gathers { OnOk result (GathersEntriesFor front.now.request (λ other. entry ≡ other) found.old.items found.new.items) }
-    ensures limited { IfStopped result (LimitsFor front.now.request) }
+    requires prefix { IsMacroPrefix prefix.now }
+    requires sigma { IsMacro prefix.now.request.problem.now prefix.now.table.now prefix.now.count sigma.now }
+    requires entry { entry ≡ Macro prefix.now.number prefix.now.count sigma.now }
+    requires relevant { IsRelevantEntryFor prefix.now.request entry }
+    ensures gathers { OnOk result (GathersEntriesFor prefix.now.request (λ other. entry ≡ other) found.old.items found.new.items) }
+    ensures limited { IfStopped result (LimitsFor prefix.now.request) }
 {
-    if !front.facts_suffice {
-        return keep_known(found, front, entry);
+    if !prefix.facts_suffice {
+        return keep_known(found, prefix, entry);
     }
     // `atoms` says that these are a model, ascending and each once, on which the proof of what follows rests
-    let _facts = front.request.model.atoms();
-    match are_settled_marks(front, sigma)? {
+    let _facts = prefix.request.model.atoms();
+    match are_settled_marks(prefix, sigma)? {
         Some(true) => {
             push(found, entry)?;
             Ok(())
         }
         Some(false) => Ok(()),
-        None => keep_known(found, front, entry),
+        None => keep_known(found, prefix, entry),
     }
 }
 
 /// Adds the entry of the first steps with these objects where it is one that may be pushed.
-fn keep_open_macro(found: &mut Vec<Entry>, front: &Front, sigma: &[u32]) -> Result<(), MoveErr>
-    requires front { IsMacroFront front.now }
-    ensures gathers { OnOk result (GathersEntriesFor front.now.request (λ other. Macro front.now.number front.now.count sigma.now ≡ other)
+fn keep_open_macro(found: &mut Vec<Entry>, prefix: &Prefix, sigma: &[u32]) -> Result<(), MoveErr>
+    requires prefix { IsMacroPrefix prefix.now }
+    ensures gathers { OnOk result (GathersEntriesFor prefix.now.request (λ other. Macro prefix.now.number prefix.now.count sigma.now ≡ other)
         found.old.items found.new.items) }
-    ensures limited { IfStopped result (LimitsFor front.now.request) }
+    ensures limited { IfStopped result (LimitsFor prefix.now.request) }
 {
-    if !is_macro_of(front, sigma) {
+    if !is_macro_of(prefix, sigma) {
         return Ok(());
     }
-    let entry = entry_of(front, sigma)?;
-    if !is_relevant_macro(front, sigma, &entry)? {
+    let entry = entry_of(prefix, sigma)?;
+    if !is_relevant_macro(prefix, sigma, &entry)? {
         return Ok(());
     }
-    keep_relevant_macro(found, front, sigma, entry)
+    keep_relevant_macro(found, prefix, sigma, entry)
 }
 
 /// Adds those of the entries of the first steps, with the objects that are chosen, that may be pushed. Each recursive call has one
 /// parameter without an object less. An object of another sort than its places have is passed over.
-fn keep_all(found: &mut Vec<Entry>, front: &Front, terms: &[Term]) -> Result<(), MoveErr>
-    requires front { IsMacroFront front.now }
-    requires binding { IsBinding front.now.request.problem.now.objects terms.now }
-    ensures gathers { OnOk result (GathersEntriesFor front.now.request
-        (IsMacroBy front.now.request.problem.now.objects front.now.number front.now.count terms.now) found.old.items found.new.items) }
-    ensures limited { IfStopped result (LimitsFor front.now.request) }
+fn keep_all(found: &mut Vec<Entry>, prefix: &Prefix, terms: &[Term]) -> Result<(), MoveErr>
+    requires prefix { IsMacroPrefix prefix.now }
+    requires binding { IsBinding prefix.now.request.problem.now.objects terms.now }
+    ensures gathers { OnOk result (GathersEntriesFor prefix.now.request
+        (IsMacroBy prefix.now.request.problem.now.objects prefix.now.number prefix.now.count terms.now) found.old.items found.new.items) }
+    ensures limited { IfStopped result (LimitsFor prefix.now.request) }
 {
-    if !steps_may_fit(front, terms) {
+    if !steps_may_fit(prefix, terms) {
         return Ok(());
     }
     let parameter = match first_unbound(terms) {
         Some(parameter) => parameter,
         None => {
-            let sigma = objects_of(front.alloc, terms)?;
-            return keep_open_macro(found, front, sigma.as_slice());
+            let sigma = objects_of(prefix.alloc, terms)?;
+            return keep_open_macro(found, prefix, sigma.as_slice());
         }
     };
-    let problem = front.request.problem;
-    let sort = parameter_sort(front, parameter);
+    let problem = prefix.request.problem;
+    let sort = parameter_sort(prefix, parameter);
     for object in 0..problem.objects {
         if !fits_sort(problem.object_sorts.as_slice(), sort, object) {
             continue;
         }
-        let next = bound(front.alloc, terms, parameter, object)?;
-        keep_all(found, front, &next)?;
+        let next = bound(prefix.alloc, terms, parameter, object)?;
+        keep_all(found, prefix, &next)?;
     }
     Ok(())
 }
@@ -171,31 +171,31 @@ fn keep_all(found: &mut Vec<Entry>, front: &Front, terms: &[Term]) -> Result<(),
 /// one number less. It takes a row of which few choices fit the terms.
 fn keep_by_rows(
     found: &mut Vec<Entry>,
-    front: &Front,
+    prefix: &Prefix,
     terms: &[Term],
     rows: &[Sequence<Sequence<Term>>],
     numbers: &[usize],
 ) -> Result<(), MoveErr>
-    requires front { IsMacroFront front.now }
-    requires binding { IsBinding front.now.request.problem.now.objects terms.now }
+    requires prefix { IsMacroPrefix prefix.now }
+    requires binding { IsBinding prefix.now.request.problem.now.objects terms.now }
     requires rows { All (All (λ (choice : List TermValue). length choice ≡ length terms.now)) rows.now }
     requires numbers { All (λ number. number < length rows.now) numbers.now }
-    ensures gathers { OnOk result (GathersEntriesFor front.now.request
-        (IsMacroFitting front.now.request.problem.now.objects front.now.number front.now.count terms.now rows.now) found.old.items
+    ensures gathers { OnOk result (GathersEntriesFor prefix.now.request
+        (IsMacroFitting prefix.now.request.problem.now.objects prefix.now.number prefix.now.count terms.now rows.now) found.old.items
         found.new.items) }
-    ensures limited { IfStopped result (LimitsFor front.now.request) }
+    ensures limited { IfStopped result (LimitsFor prefix.now.request) }
 {
-    let limit = front.request.problem.objects;
+    let limit = prefix.request.problem.objects;
     let place = match fewest(limit, terms, rows, numbers) {
         Some(place) => place,
-        None => return keep_all(found, front, terms),
+        None => return keep_all(found, prefix, terms),
     };
-    let others = without_place(front.alloc, numbers, place)?;
+    let others = without_place(prefix.alloc, numbers, place)?;
     let choices = rows[numbers[place]].as_slice();
-    let made = merged_with_each(front.alloc, limit, terms, choices)?;
+    let made = merged_with_each(prefix.alloc, limit, terms, choices)?;
     let joins = made.as_slice();
     for next in joins {
-        keep_by_rows(found, front, next.as_slice(), rows, &others)?;
+        keep_by_rows(found, prefix, next.as_slice(), rows, &others)?;
     }
     Ok(())
 }
@@ -203,37 +203,37 @@ fn keep_by_rows(
 /// Adds those whose objects fit one of the choices of each row.
 fn keep_fitting(
     found: &mut Vec<Entry>,
-    front: &Front,
+    prefix: &Prefix,
     terms: &[Term],
     rows: &[Sequence<Sequence<Term>>],
 ) -> Result<(), MoveErr>
-    requires front { IsMacroFront front.now }
-    requires binding { IsBinding front.now.request.problem.now.objects terms.now }
+    requires prefix { IsMacroPrefix prefix.now }
+    requires binding { IsBinding prefix.now.request.problem.now.objects terms.now }
     requires rows { All (All (λ (choice : List TermValue). length choice ≡ length terms.now)) rows.now }
-    ensures gathers { OnOk result (GathersEntriesFor front.now.request
-        (IsMacroFitting front.now.request.problem.now.objects front.now.number front.now.count terms.now rows.now) found.old.items
+    ensures gathers { OnOk result (GathersEntriesFor prefix.now.request
+        (IsMacroFitting prefix.now.request.problem.now.objects prefix.now.number prefix.now.count terms.now rows.now) found.old.items
         found.new.items) }
-    ensures limited { IfStopped result (LimitsFor front.now.request) }
+    ensures limited { IfStopped result (LimitsFor prefix.now.request) }
 {
-    let numbers = numbers_below(front.alloc, rows.len())?;
-    keep_by_rows(found, front, terms, rows, &numbers)
+    let numbers = numbers_below(prefix.alloc, rows.len())?;
+    keep_by_rows(found, prefix, terms, rows, &numbers)
 }
 
 /// Adds all entries that the matches stand for and that may be pushed, each tried by itself.
 fn keep_listed(
     found: &mut Vec<Entry>,
-    front: &Front,
+    prefix: &Prefix,
     matches: &[Sequence<Term>],
 ) -> Result<(), MoveErr>
-    requires front { IsMacroFront front.now }
-    requires matches { All (IsParameterMatch front.now.request.problem.now.objects front.now.table.now.params) matches.now }
-    ensures gathers { OnOk result (GathersEntriesFor front.now.request
-        (λ entry. OneOf matches.now (λ (terms : List TermValue). IsMacroBy front.now.request.problem.now.objects front.now.number
-        front.now.count terms entry)) found.old.items found.new.items) }
-    ensures limited { IfStopped result (LimitsFor front.now.request) }
+    requires prefix { IsMacroPrefix prefix.now }
+    requires matches { All (IsParameterMatch prefix.now.request.problem.now.objects prefix.now.table.now.params) matches.now }
+    ensures gathers { OnOk result (GathersEntriesFor prefix.now.request
+        (λ entry. OneOf matches.now (λ (terms : List TermValue). IsMacroBy prefix.now.request.problem.now.objects prefix.now.number
+        prefix.now.count terms entry)) found.old.items found.new.items) }
+    ensures limited { IfStopped result (LimitsFor prefix.now.request) }
 {
     for terms in matches {
-        keep_all(found, front, terms.as_slice())?;
+        keep_all(found, prefix, terms.as_slice())?;
     }
     Ok(())
 }
@@ -242,85 +242,85 @@ fn keep_listed(
 /// meets the limit.
 fn keep_told(
     found: &mut Vec<Entry>,
-    front: &Front,
+    prefix: &Prefix,
     terms: &[Term],
     rows: &[Sequence<Sequence<Term>>],
     limited: &[Sequence<Sequence<Term>>],
 ) -> Result<(), MoveErr>
-    requires front { IsMacroFront front.now }
-    requires binding { IsBinding front.now.request.problem.now.objects terms.now }
+    requires prefix { IsMacroPrefix prefix.now }
+    requires binding { IsBinding prefix.now.request.problem.now.objects terms.now }
     requires rows { All (All (λ (choice : List TermValue). length choice ≡ length terms.now)) rows.now }
     requires limited { All (All (λ (choice : List TermValue). length choice ≡ length terms.now)) limited.now }
-    ensures gathers { OnOk result (GathersEntriesFor front.now.request
-        (IsMacroTold front.now.request.problem.now.objects front.now.number front.now.count rows.now limited.now terms.now) found.old.items
+    ensures gathers { OnOk result (GathersEntriesFor prefix.now.request
+        (IsMacroTold prefix.now.request.problem.now.objects prefix.now.number prefix.now.count rows.now limited.now terms.now) found.old.items
         found.new.items) }
-    ensures limited { IfStopped result (LimitsFor front.now.request) }
+    ensures limited { IfStopped result (LimitsFor prefix.now.request) }
 {
     for place in 0..limited.len() {
-        keep_fitting(found, front, terms, &limited[place..place + 1])?;
+        keep_fitting(found, prefix, terms, &limited[place..place + 1])?;
     }
-    keep_fitting(found, front, terms, rows)
+    keep_fitting(found, prefix, terms, rows)
 }
 
 /// Adds those of the entries that the matches stand for whose objects fit one of the choices of each row, or one of the terms at
 /// which some row meets the limit.
 fn keep_matches(
     found: &mut Vec<Entry>,
-    front: &Front,
+    prefix: &Prefix,
     matches: &[Sequence<Term>],
     rows: &[Sequence<Sequence<Term>>],
     limited: &[Sequence<Sequence<Term>>],
 ) -> Result<(), MoveErr>
-    requires front { IsMacroFront front.now }
-    requires matches { All (IsParameterMatch front.now.request.problem.now.objects front.now.table.now.params) matches.now }
-    requires rows { All (All (λ (choice : List TermValue). length choice ≡ front.now.table.now.params)) rows.now }
-    requires limited { All (All (λ (choice : List TermValue). length choice ≡ front.now.table.now.params)) limited.now }
-    ensures gathers { OnOk result (GathersEntriesFor front.now.request
-        (λ entry. OneOf matches.now (λ (terms : List TermValue). IsMacroTold front.now.request.problem.now.objects front.now.number
-        front.now.count rows.now limited.now terms entry)) found.old.items found.new.items) }
-    ensures limited { IfStopped result (LimitsFor front.now.request) }
+    requires prefix { IsMacroPrefix prefix.now }
+    requires matches { All (IsParameterMatch prefix.now.request.problem.now.objects prefix.now.table.now.params) matches.now }
+    requires rows { All (All (λ (choice : List TermValue). length choice ≡ prefix.now.table.now.params)) rows.now }
+    requires limited { All (All (λ (choice : List TermValue). length choice ≡ prefix.now.table.now.params)) limited.now }
+    ensures gathers { OnOk result (GathersEntriesFor prefix.now.request
+        (λ entry. OneOf matches.now (λ (terms : List TermValue). IsMacroTold prefix.now.request.problem.now.objects prefix.now.number
+        prefix.now.count rows.now limited.now terms entry)) found.old.items found.new.items) }
+    ensures limited { IfStopped result (LimitsFor prefix.now.request) }
 {
     for terms in matches {
-        keep_told(found, front, terms.as_slice(), rows, limited)?;
+        keep_told(found, prefix, terms.as_slice(), rows, limited)?;
     }
     Ok(())
 }
 
 /// Adds those of all entries of the first steps that may be pushed. The rows are what questions about the whole table gave, where no
 /// parameter had an object; without them each entry is tried by itself.
-pub fn gather_front(
+pub fn gather_prefix(
     found: &mut Vec<Entry>,
-    front: &Front,
+    prefix: &Prefix,
     rows: &Option<TableChoices>,
 ) -> Result<(), MoveErr>
-    requires front { IsMacroFront front.now }
-    requires rows { IfSome rows.now (AreTableChoices front.now.request.problem.now front.now.request.model.now.atoms front.now.table.now) }
-    ensures gathers { OnOk result (GathersEntriesFor front.now.request (IsOfFront front.now.number front.now.count) found.old.items
+    requires prefix { IsMacroPrefix prefix.now }
+    requires rows { IfSome rows.now (AreTableChoices prefix.now.request.problem.now prefix.now.request.model.now.atoms prefix.now.table.now) }
+    ensures gathers { OnOk result (GathersEntriesFor prefix.now.request (IsOfPrefix prefix.now.number prefix.now.count) found.old.items
         found.new.items) }
-    ensures limited { IfStopped result (LimitsFor front.now.request) }
+    ensures limited { IfStopped result (LimitsFor prefix.now.request) }
 {
-    let problem = front.request.problem;
+    let problem = prefix.request.problem;
     if problem.objects == 0 {
-        let sigma = objects_of(front.alloc, front.start)?;
-        return keep_open_macro(found, front, &sigma);
+        let sigma = objects_of(prefix.alloc, prefix.start)?;
+        return keep_open_macro(found, prefix, &sigma);
     }
-    let count = front.count as usize;
-    let steps = &front.table.steps.as_slice()[..count];
+    let count = prefix.count as usize;
+    let steps = &prefix.table.steps.as_slice()[..count];
     let made = macro_matches(
-        front.alloc,
+        prefix.alloc,
         problem,
-        front.start,
+        prefix.start,
         steps,
-        front.request.wanted,
+        prefix.request.wanted,
     )?;
     let matches = made.as_slice();
     match rows {
         Some(known) => {
             let choices = &known.choices.as_slice()[..count];
             let limited = &known.limited.as_slice()[..count];
-            keep_matches(found, front, matches, choices, limited)
+            keep_matches(found, prefix, matches, choices, limited)
         }
-        None => keep_listed(found, front, matches),
+        None => keep_listed(found, prefix, matches),
     }
 }
 
@@ -410,7 +410,7 @@ fn gather_table(
     let steps = table.steps.len() as u32;
     for count in 2..steps + 1 {
         let start = first_terms(asker.alloc, table, count)?;
-        let front = Front {
+        let prefix = Prefix {
             alloc: asker.alloc,
             request: *request,
             number,
@@ -420,7 +420,7 @@ fn gather_table(
             keeps_marks: keep_marks(request.problem, table, count),
             facts_suffice: false,
         };
-        gather_front(found, &front, rows)?;
+        gather_prefix(found, &prefix, rows)?;
     }
     Ok(())
 }

@@ -124,7 +124,7 @@ fn keep_open(
 ) -> Result<(), NoMemory>
     requires problem { IsValid request.now.problem.now }
     requires partial { IsPartialInstance request.now.problem.now partial.now }
-    requires answer { AnswersSome request.now.problem.now request.now.model.now.atoms partial.now.vars answer.now.patterns.items
+    requires answer { AnswersSome request.now.problem.now request.now.model.now.atoms partial.now.variable_count answer.now.patterns.items
         answer.now.provable.atoms }
     ensures { OnOk result ((inst : OpInst) → Contains found.new.items inst
         ↔ (Contains found.old.items inst ⊎ (IsOpenIn partial.now (lists_of request.now.problem.now.objects answer.now.patterns.items)
@@ -146,9 +146,9 @@ fn keep_open(
 const FEW_INSTANCES: u64 = 9;
 
 /// Returns whether there are at most this number of choices of objects for the variables. Nothing rests on the answer.
-pub fn are_few(objects: u32, vars: u32, most: u64) -> bool {
+pub fn are_few(objects: u32, variable_count: u32, most: u64) -> bool {
     let mut choices: u64 = 1;
-    for _place in 0..vars {
+    for _place in 0..variable_count {
         choices = choices.saturating_mul(objects as u64);
         if choices > most {
             return false;
@@ -163,19 +163,25 @@ fn whole_answer(
     asker: &mut Asker,
     request: &Request,
     formula: &[Atom],
-    vars: u32,
+    variable_count: u32,
 ) -> Result<Option<GapAnswer>, NoMemory>
     requires problem { IsValid request.now.problem.now }
-    requires formula { All (IsAtomOf request.now.problem.now vars) formula.now }
-    requires few_variables { vars ≤ most_gap_variables }
-    requires some_object { 0 < vars → 0 < request.now.problem.now.objects }
+    requires formula { All (IsAtomOf request.now.problem.now variable_count) formula.now }
+    requires few_variables { variable_count ≤ most_gap_variables }
+    requires some_object { 0 < variable_count → 0 < request.now.problem.now.objects }
     ensures { IfOk result (λ found. IfSome found (λ answer. IsGapAnswer (setting_of request.now.problem.now request.now.model.now.atoms)
-        formula.now vars answer.patterns.items answer.provable.atoms)) }
+        formula.now variable_count answer.patterns.items answer.provable.atoms)) }
 {
-    if are_few(request.problem.objects, vars, FEW_INSTANCES) {
+    if are_few(request.problem.objects, variable_count, FEW_INSTANCES) {
         return Ok(None);
     }
-    match ask_gaps(asker, request.problem, formula, vars, request.model) {
+    match ask_gaps(
+        asker,
+        request.problem,
+        formula,
+        variable_count,
+        request.model,
+    ) {
         Ok(answer) => Ok(Some(answer)),
         Err(AskErr::NoMemory) => Err(NoMemory),
         Err(AskErr::ShapeLimit { .. }) => Ok(None),
@@ -205,17 +211,17 @@ pub fn gather(
         return Ok(());
     }
     let formula = precondition_of(asker.alloc, request.problem, &partial.inst)?;
-    match rest_answer(asker, request, bounds, &formula, partial.vars)? {
+    match rest_answer(asker, request, bounds, &formula, partial.variable_count)? {
         Some(answer) => {
             keep_open(asker.alloc, found, request, partial, &answer)?;
             return Ok(());
         }
         None => {}
     }
-    if partial.vars == 0 {
+    if partial.variable_count == 0 {
         return gather_one(asker.alloc, found, request, &partial.inst);
     }
-    match whole_answer(asker, request, &formula, partial.vars)? {
+    match whole_answer(asker, request, &formula, partial.variable_count)? {
         Some(answer) => {
             keep_open(asker.alloc, found, request, partial, &answer)?;
             return Ok(());

@@ -62,22 +62,28 @@ pub fn rest_answer(
     request: &Request,
     bounds: &Bounds,
     formula: &[Atom],
-    vars: u32,
+    variable_count: u32,
 ) -> Result<Option<GapAnswer>, NoMemory>
     requires problem { IsValid request.now.problem.now }
     requires bounds { AreBounds request.now.problem.now request.now.problem.now.height bounds.now.table }
-    requires formula { All (IsAtomOf request.now.problem.now vars) formula.now }
-    requires few_variables { vars ≤ most_gap_variables }
-    requires some_object { 0 < vars → 0 < request.now.problem.now.objects }
+    requires formula { All (IsAtomOf request.now.problem.now variable_count) formula.now }
+    requires few_variables { variable_count ≤ most_gap_variables }
+    requires some_object { 0 < variable_count → 0 < request.now.problem.now.objects }
     ensures { IfOk result (λ found. IfSome found (λ answer. IsReorderedAnswer request.now.problem.now request.now.model.now.atoms
-        formula.now vars answer.patterns.items answer.provable.atoms)) }
+        formula.now variable_count answer.patterns.items answer.provable.atoms)) }
 {
     if !bounds.has_few(request.problem, formula) {
         return Ok(None);
     }
     let rest = rest_of(asker.alloc, request.problem, formula)?;
     let ordered = narrow_first(asker.alloc, &rest)?;
-    match ask_gaps(asker, request.problem, &ordered, vars, request.model) {
+    match ask_gaps(
+        asker,
+        request.problem,
+        &ordered,
+        variable_count,
+        request.model,
+    ) {
         Ok(answer) => Ok(Some(answer)),
         Err(AskErr::NoMemory) => Err(NoMemory),
         Err(AskErr::ShapeLimit { .. }) => Ok(None),

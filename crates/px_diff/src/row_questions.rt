@@ -55,8 +55,8 @@ fn has_few(
     ensures { IfOk result (λ few. IsTrue few → AreFewGapShapes (setting_of problem.now model.now.atoms) (form.now ∷ [])
         (length form.now.args)) }
 {
-    let vars = form.args().len() as u32;
-    match asker.gap_patterns(problem, &[*form], vars, model) {
+    let variable_count = form.args().len() as u32;
+    match asker.gap_patterns(problem, &[*form], variable_count, model) {
         Ok(_) => Ok(true),
         Err(GapErr::ShapeLimit(_)) => Ok(false),
         Err(GapErr::NoMemory) => Err(NoMemory),
@@ -90,16 +90,16 @@ fn ask_row(
     problem: &Problem,
     model: &Model,
     formula: &[Atom],
-    vars: u32,
+    variable_count: u32,
 ) -> Result<Option<Vec<GapPattern>>, NoMemory>
     requires problem { IsValid problem.now }
-    requires formula { All (IsAtomOf problem.now vars) formula.now }
-    requires few_variables { vars ≤ most_gap_variables }
-    requires some_object { 0 < vars → 0 < problem.now.objects }
-    ensures { IfOk result (λ answer. IfSome answer (λ patterns. IsRowAnswer (setting_of problem.now model.now.atoms) formula.now vars
+    requires formula { All (IsAtomOf problem.now variable_count) formula.now }
+    requires few_variables { variable_count ≤ most_gap_variables }
+    requires some_object { 0 < variable_count → 0 < problem.now.objects }
+    ensures { IfOk result (λ answer. IfSome answer (λ patterns. IsRowAnswer (setting_of problem.now model.now.atoms) formula.now variable_count
         patterns.items)) }
 {
-    match asker.gap_patterns(problem, formula, vars, model) {
+    match asker.gap_patterns(problem, formula, variable_count, model) {
         Ok(patterns) => {
             let forms = forms_of(asker.alloc, &patterns)?;
             if have_few(asker, problem, model, &forms)? {

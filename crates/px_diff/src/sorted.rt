@@ -9,10 +9,10 @@ ghost use Rattle.px_terms.specs.Validity.{IsValid};
 ghost use Rattle.px_terms.specs.declared.instance.OpInst.{OpInst as InstanceValue};
 ghost use Rattle.px_gaps.specs.Bindings.{ExtendsTerms, IsBinding};
 ghost use Rattle.px_diff.specs.Gathering.{AreObjectsFor, instance_by};
-ghost use Rattle.px_diff.specs.Macros.{IsMacroFront};
+ghost use Rattle.px_diff.specs.Macros.{IsMacroPrefix};
 ghost use Rattle.px_entries.specs.Instances.{IsPartialInstance, StandsFor};
 
-use crate::front::Front;
+use crate::prefix::Prefix;
 use px_entries::PartialInstance;
 use px_gaps::{Sorting, sort_of};
 use px_ops::schema_of;
@@ -63,7 +63,7 @@ pub fn variable_sorts(problem: &Problem, partial: &PartialInstance) -> [u32; MOS
         wanted: schema_of(problem, &partial.inst).param_sorts.as_slice(),
     };
     let mut sorts = [0; MOST_PARAMETERS];
-    for variable in 0..partial.vars {
+    for variable in 0..partial.variable_count {
         sorts[variable as usize] = sort_of(&sorting, partial.inst.args(), variable);
     }
     sorts
@@ -86,18 +86,18 @@ fn step_may_fit(problem: &Problem, step: &OpInst, terms: &[Term]) -> bool
 }
 
 /// Returns false only where no objects that extend the terms make these steps of the table fit.
-pub fn steps_may_fit(front: &Front, terms: &[Term]) -> bool
-    requires front { IsMacroFront front.now }
-    requires binding { IsBinding front.now.request.problem.now.objects terms.now }
-    ensures { result ≡ false → (sigma : List ℕ) → ExtendsTerms front.now.request.problem.now.objects terms.now sigma
-        → ¬ IsMacro front.now.request.problem.now front.now.table.now front.now.count sigma }
+pub fn steps_may_fit(prefix: &Prefix, terms: &[Term]) -> bool
+    requires prefix { IsMacroPrefix prefix.now }
+    requires binding { IsBinding prefix.now.request.problem.now.objects terms.now }
+    ensures { result ≡ false → (sigma : List ℕ) → ExtendsTerms prefix.now.request.problem.now.objects terms.now sigma
+        → ¬ IsMacro prefix.now.request.problem.now prefix.now.table.now prefix.now.count sigma }
 {
-    let problem = front.request.problem;
-    if problem.sorts == 0 || terms.len() != front.table.params as usize {
+    let problem = prefix.request.problem;
+    if problem.sorts == 0 || terms.len() != prefix.table.params as usize {
         return true;
     }
-    for place in 0..front.count as usize {
-        if !step_may_fit(problem, &front.table.steps.as_slice()[place], terms) {
+    for place in 0..prefix.count as usize {
+        if !step_may_fit(problem, &prefix.table.steps.as_slice()[place], terms) {
             return false;
         }
     }
@@ -150,18 +150,18 @@ pub fn row_may_fit(problem: &Problem, table: &Table, row: u32, terms: &[Term]) -
 
 /// Returns the sort that the object of the parameter has to have, or 0: the first sort other than 0 of the places of these steps at which
 /// it stands.
-pub fn parameter_sort(front: &Front, parameter: u32) -> u32
-    requires front { IsMacroFront front.now }
-    ensures { (sigma : List ℕ) → IsMacro front.now.request.problem.now front.now.table.now front.now.count sigma → parameter < length sigma
-        → FitsSort front.now.request.problem.now.object_sorts result (slice_index sigma parameter) }
+pub fn parameter_sort(prefix: &Prefix, parameter: u32) -> u32
+    requires prefix { IsMacroPrefix prefix.now }
+    ensures { (sigma : List ℕ) → IsMacro prefix.now.request.problem.now prefix.now.table.now prefix.now.count sigma → parameter < length sigma
+        → FitsSort prefix.now.request.problem.now.object_sorts result (slice_index sigma parameter) }
 {
-    let problem = front.request.problem;
+    let problem = prefix.request.problem;
     if problem.sorts == 0 {
         return 0;
     }
-    let count = front.count as usize;
+    let count = prefix.count as usize;
     for place in 0..count {
-        let step = &front.table.steps.as_slice()[place];
+        let step = &prefix.table.steps.as_slice()[place];
         let sorting = Sorting {
             object_sorts: problem.object_sorts.as_slice(),
             wanted: schema_of(problem, step).param_sorts.as_slice(),

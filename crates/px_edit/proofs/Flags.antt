@@ -227,10 +227,10 @@ numbers-none flags k numbers low is = record {
   );
 }
 
-push-front : (xs : List ℕ) (y k : ℕ) → k < length xs → slice_index (xs ++ y ∷ []) k ≡ slice_index xs k
-push-front [] y k below = absurd (omega (arith, below))
-push-front (x ∷ xs) y zero below = refl
-push-front (x ∷ xs) y (suc k) below = push-front xs y k (omega (arith, below))
+push-prefix : (xs : List ℕ) (y k : ℕ) → k < length xs → slice_index (xs ++ y ∷ []) k ≡ slice_index xs k
+push-prefix [] y k below = absurd (omega (arith, below))
+push-prefix (x ∷ xs) y zero below = refl
+push-prefix (x ∷ xs) y (suc k) below = push-prefix xs y k (omega (arith, below))
 
 push-end : (xs : List ℕ) (y k : ℕ) → k ≡ length xs → slice_index (xs ++ y ∷ []) k ≡ y
 push-end [] y zero is = refl
@@ -245,15 +245,15 @@ rises-push xs y rising below k within =
       | inl inside ↦
           omega (
             arith,
-            push-front xs y k (omega (arith, inside)),
-            push-front xs y (k + 1) inside,
+            push-prefix xs y k (omega (arith, inside)),
+            push-prefix xs y (k + 1) inside,
             rising k inside,
           )
       | inr end ↦
           let is : k + 1 ≡ length xs = omega (arith, end, long, within) in
           omega (
             arith,
-            push-front xs y k (omega (arith, is)),
+            push-prefix xs y k (omega (arith, is)),
             push-end xs y (k + 1) is,
             below k 0 (omega (arith, is)),
           )

@@ -37,27 +37,27 @@ use Rattle.px_edit.proofs.TableParts.{AreTableParts}
 
 -- ---- rows and steps of a table
 
-pub rows-count : (Is : Term → Type 0) (problem : Problem) (params : ℕ) (goal : List Atom) (goal_vars : ℕ) (steps : List OpInst)
-    (rows : List (List Derivation)) → RowsProve Is problem params steps goal goal_vars rows → length rows ≡ suc (length steps)
-rows-count Is problem params goal goal_vars [] [] p = absurd p
-rows-count Is problem params goal goal_vars [] (row ∷ []) p = refl
-rows-count Is problem params goal goal_vars [] (row ∷ second ∷ rows) p = absurd p
-rows-count Is problem params goal goal_vars (s ∷ steps) [] p = absurd p
-rows-count Is problem params goal goal_vars (s ∷ steps) (row ∷ rows) p = ap suc (rows-count Is problem params goal goal_vars steps rows p.1)
+pub rows-count : (Is : Term → Type 0) (problem : Problem) (params : ℕ) (goal : List Atom) (goal_variable_count : ℕ) (steps : List OpInst)
+    (rows : List (List Derivation)) → RowsProve Is problem params steps goal goal_variable_count rows → length rows ≡ suc (length steps)
+rows-count Is problem params goal goal_variable_count [] [] p = absurd p
+rows-count Is problem params goal goal_variable_count [] (row ∷ []) p = refl
+rows-count Is problem params goal goal_variable_count [] (row ∷ second ∷ rows) p = absurd p
+rows-count Is problem params goal goal_variable_count (s ∷ steps) [] p = absurd p
+rows-count Is problem params goal goal_variable_count (s ∷ steps) (row ∷ rows) p = ap suc (rows-count Is problem params goal goal_variable_count steps rows p.1)
 
-row-proves : (Is : Term → Type 0) (problem : Problem) (params : ℕ) (goal : List Atom) (goal_vars : ℕ) (steps : List OpInst)
-    (rows : List (List Derivation)) → RowsProve Is problem params steps goal goal_vars rows → (k : ℕ) → k < length steps
+row-proves : (Is : Term → Type 0) (problem : Problem) (params : ℕ) (goal : List Atom) (goal_variable_count : ℕ) (steps : List OpInst)
+    (rows : List (List Derivation)) → RowsProve Is problem params steps goal goal_variable_count rows → (k : ℕ) → k < length steps
     → ProvesEachOf Is problem.axioms (precondition problem (slice_index_or steps k no_step)) (slice_index_or rows k [])
-row-proves Is problem params goal goal_vars [] rows p k below = absurd (omega (arith, below))
-row-proves Is problem params goal goal_vars (s ∷ steps) [] p k below = absurd p
-row-proves Is problem params goal goal_vars (s ∷ steps) (row ∷ rows) p zero below = p.0
-row-proves Is problem params goal goal_vars (s ∷ steps) (row ∷ rows) p (suc k) below =
-    row-proves Is problem params goal goal_vars steps rows p.1 k (omega (arith, below))
+row-proves Is problem params goal goal_variable_count [] rows p k below = absurd (omega (arith, below))
+row-proves Is problem params goal goal_variable_count (s ∷ steps) [] p k below = absurd p
+row-proves Is problem params goal goal_variable_count (s ∷ steps) (row ∷ rows) p zero below = p.0
+row-proves Is problem params goal goal_variable_count (s ∷ steps) (row ∷ rows) p (suc k) below =
+    row-proves Is problem params goal goal_variable_count steps rows p.1 k (omega (arith, below))
 
 -- the table has a row for each step and one for the goal
 pub table-rows : (problem : Problem) (table : Table) → IsTable problem table → length (rows_of table.proofs) ≡ suc (length table.steps)
 table-rows problem table is =
-    rows-count (IsObjectOrParameter problem.objects table.params) problem table.params table.goal table.goal_vars table.steps
+    rows-count (IsObjectOrParameter problem.objects table.params) problem table.params table.goal table.goal_variable_count table.steps
     (rows_of table.proofs) is.prove
 
 module _ (problem : Problem) (valid : IsValid problem) (table : Table) (is : IsTable problem table) (prefix : ℕ) (wanted : List (ℕ × ℕ))
@@ -154,7 +154,7 @@ module _ (problem : Problem) (valid : IsValid problem) (table : Table) (is : IsT
   kept-prove (k ∷ ks) all =
       let w = all 0 k (omega arith) in (
         row-columns number Is problem.axioms (precondition problem (old_step k)) (slice_index_or old_rows (k - 1) [])
-            (row-proves Is problem table.params table.goal table.goal_vars table.steps old_rows is.prove (k - 1) (omega (arith, w.0, w.1))),
+            (row-proves Is problem table.params table.goal table.goal_variable_count table.steps old_rows is.prove (k - 1) (omega (arith, w.0, w.1))),
         kept-prove ks (λ i d below. all (suc i) d (omega (arith, below))),
       )
 
@@ -239,11 +239,11 @@ module _ (problem : Problem) (valid : IsValid problem) (table : Table) (is : IsT
             })
       ]
 
-  front-at : (rows : List (List Derivation)) (last row : List Derivation) (k : ℕ) → slice_get rows k ≡ Some row
+  prefix-at : (rows : List (List Derivation)) (last row : List Derivation) (k : ℕ) → slice_get rows k ≡ Some row
       → slice_get (rows ++ last ∷ []) k ≡ Some row
-  front-at [] last row k at = absurd (cc)
-  front-at (r ∷ rows) last row zero at = at
-  front-at (r ∷ rows) last row (suc k) at = front-at rows last row k at
+  prefix-at [] last row k at = absurd (cc)
+  prefix-at (r ∷ rows) last row zero at = at
+  prefix-at (r ∷ rows) last row (suc k) at = prefix-at rows last row k at
 
   last-at : (rows : List (List Derivation)) (last : List Derivation) → slice_get (rows ++ last ∷ []) (length rows) ≡ Some last
   last-at [] last = refl
@@ -259,7 +259,7 @@ module _ (problem : Problem) (valid : IsValid problem) (table : Table) (is : IsT
       let row : slice_index_or old_rows (mark.row - 1) [] ≡ found.row =
       ap (λ n. slice_index_or old_rows n []) place ∙ read-at old_rows found.place found.row [] found.at in
       let there =
-      front-at (map (map (in_columns number)) (kept_of [] kept old_rows)) goal_row (map (in_columns number) found.row) i
+      prefix-at (map (map (in_columns number)) (kept_of [] kept old_rows)) goal_row (map (in_columns number) found.row) i
       (slice_get-map (map (in_columns number)) (kept_of [] kept old_rows) i found.row
       (slice_get-map (λ k. slice_index_or old_rows (k - 1) []) kept i mark.row at ∙ ap Some row)) in
       let leaf : Contains (row_leaves (map (in_columns number) found.row)) (leaf_in_column number found.leaf) =

@@ -118,8 +118,8 @@ no-wild_card t (inr h) none = no_variable h.0 (sym h.1 ∙ none)
 
 -- what is written back of a borrowed list is the whole
 pub written_back : {X : Type 0} (len : ℕ) (made old : List X) → len ≡ length made → take len (made ++ drop (length made) old) ≡ made
-written_back len made old same = ap (λ (n : ℕ). take n (made ++ drop (length made) old)) same ∙ front made (drop (length made) old)
+written_back len made old same = ap (λ (n : ℕ). take n (made ++ drop (length made) old)) same ∙ prefix made (drop (length made) old)
   where
-    front : {X : Type 0} (xs ys : List X) → take (length xs) (xs ++ ys) ≡ xs
-    front [] ys = refl
-    front (x ∷ xs) ys = ap (λ l. x ∷ l) (front xs ys)
+    prefix : {X : Type 0} (xs ys : List X) → take (length xs) (xs ++ ys) ≡ xs
+    prefix [] ys = refl
+    prefix (x ∷ xs) ys = ap (λ l. x ∷ l) (prefix xs ys)

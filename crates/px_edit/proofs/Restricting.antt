@@ -15,7 +15,7 @@ use Rattle.px_terms.specs.Validity.{IsAtomOf, IsTermOf, IsValid}
 use Rattle.px_proof.specs.declared.proof.Leaf.{Leaf}
 use Rattle.px_proof.specs.Derivation.{Derivation, Derivations, fact, ancestor, step, gap, open_place, none, also, leaves_of, leaf_atoms, terms_of, all_terms_of}
 use Rattle.px_proof.specs.Literals.{positive_of}
-use Rattle.px_proof.specs.PlaceLaws.{All-front, All-back, Contains-mapped}
+use Rattle.px_proof.specs.PlaceLaws.{All-prefix, All-back, Contains-mapped}
 use Rattle.px_proof.specs.Proves.{Proves, ProvesEach, IsObjectOrParameter, from_atoms, parts_of}
 use Rattle.px_proof.specs.ProvesLaws.{name_of_term, term_of_name}
 use Rattle.px_proof.specs.Substitution.{derivation_under}
@@ -43,7 +43,7 @@ module _ (Is Left : Term → Type 0) (axioms : List Clause) (atoms : List Atom) 
       record {
         axiom_at = p.1.axiom_at;
         terms = p.1.terms;
-        choices = both-all theta p.1.choices (All-front Left theta (all_terms_of parts) left);
+        choices = both-all theta p.1.choices (All-prefix Left theta (all_terms_of parts) left);
         literal_at = p.1.literal_at;
       },
       each_restricted (lit ∷ path) (parts_of p.0.lits theta place) parts (All-back Left theta (all_terms_of parts) left) p.2,
@@ -57,7 +57,7 @@ module _ (Is Left : Term → Type 0) (axioms : List Clause) (atoms : List Atom) 
     each_restricted path [] (also d ds) left p = absurd p
     each_restricted path (lit ∷ lits) none left p = absurd p
     each_restricted path (lit ∷ lits) (also d ds) left p = (
-      restricted path lit d (All-front Left (terms_of d) (all_terms_of ds) left) p.0,
+      restricted path lit d (All-prefix Left (terms_of d) (all_terms_of ds) left) p.0,
       each_restricted path lits ds (All-back Left (terms_of d) (all_terms_of ds) left) p.1,
     )
 
@@ -104,7 +104,7 @@ module _ (problem : Problem) (valid : IsValid problem) (params new : ℕ) (names
   row-named [] (d ∷ row) p left are = absurd p
   row-named (atom ∷ atoms) [] p left are = absurd p
   row-named (atom ∷ atoms) (d ∷ row) p left are = (
-    proof-named atom d p.0 (All-front Left (terms_of d) (flat_map terms_of row) left)
+    proof-named atom d p.0 (All-prefix Left (terms_of d) (flat_map terms_of row) left)
         (atom-names (substitute_atom names atom) (are 0 (substitute_atom names atom) (omega arith))),
     row-named atoms row p.1 (All-back Left (terms_of d) (flat_map terms_of row) left)
         (λ k e below. are (suc k) e (omega (arith, below))),
@@ -135,13 +135,13 @@ module _ (problem : Problem) (valid : IsValid problem) (params new : ℕ) (names
       (map (map (derivation_under names)) rows)
   rows-named [] goal [] old steps_are goal_are left p = absurd p
   rows-named [] goal (row ∷ []) old steps_are goal_are left p =
-      goal-named goal row old goal_are (All-front Left (flat_map terms_of row) [] left) p
+      goal-named goal row old goal_are (All-prefix Left (flat_map terms_of row) [] left) p
   rows-named [] goal (row ∷ second ∷ rows) old steps_are goal_are left p = absurd p
   rows-named (s ∷ steps) goal [] old steps_are goal_are left p = absurd p
   rows-named (s ∷ steps) goal (row ∷ rows) old steps_are goal_are left p = (
     subst (λ (atoms : List Atom). ProvesEachOf New problem.axioms atoms (map (derivation_under names) row))
         (sym (precondition-under problem names s))
-        (row-named (precondition problem s) row p.0 (All-front Left (flat_map terms_of row) (row_terms rows) left)
+        (row-named (precondition problem s) row p.0 (All-prefix Left (flat_map terms_of row) (row_terms rows) left)
         (subst (All (IsAtomOf problem new)) (precondition-under problem names s)
         (precondition-of_step problem valid new (substitute_instance names s) (steps_are 0 (substitute_instance names s) (omega arith))))),
     rows-named steps goal rows old (λ k d below. steps_are (suc k) d (omega (arith, below))) goal_are

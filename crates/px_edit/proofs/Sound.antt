@@ -54,7 +54,7 @@ module _ (problem : Problem) (table : Table) (prefix : ℕ) (wanted : List (ℕ 
       table-of_parts problem edited (length (left_parameters problem table wanted done.kept))
       (map (substitute_instance names) (kept_steps table done.kept)) (map (substitute_atom names) (wanted_atoms problem table wanted))
       (map (map (derivation_under names)) (kept_rows problem table wanted done.kept)) valid done.params done.renamed.sorts_are
-      done.renamed.steps_are done.renamed.goal_is done.renamed.goal_vars done.renamed.rows_are done.renamed.marks_are
+      done.renamed.steps_are done.renamed.goal_is done.renamed.goal_variable_count done.renamed.rows_are done.renamed.marks_are
       (parts-named problem valid table.params table.param_sorts (kept_steps table done.kept) (wanted_atoms problem table wanted)
       (kept_rows problem table wanted done.kept) (kept-parts problem valid table is prefix wanted may done.kept done.are_kept))
 
@@ -196,7 +196,7 @@ one_by problem table wanted a b kept one other =
     let params : a.params ≡ b.params = one.0 ∙ sym other.0 in
     let steps : a.steps ≡ b.steps = one.1.steps_are ∙ sym other.1.steps_are in
     let goal : a.goal ≡ b.goal = one.1.goal_is ∙ sym other.1.goal_is in
-    let goal_vars : a.goal_vars ≡ b.goal_vars = one.1.goal_vars ∙ sym other.1.goal_vars in
+    let goal_variable_count : a.goal_variable_count ≡ b.goal_variable_count = one.1.goal_variable_count ∙ sym other.1.goal_variable_count in
     let rows : rows_of a.proofs ≡ rows_of b.proofs = one.1.rows_are ∙ sym other.1.rows_are in
     let proofs : a.proofs ≡ b.proofs = rows-tell a.proofs b.proofs rows in
     let marks : a.marks ≡ b.marks = one.1.marks_are ∙ ap (marks_from 1) rows ∙ sym other.1.marks_are in
@@ -207,7 +207,7 @@ one_by problem table wanted a b kept one other =
       params = params i;
       steps = steps i;
       goal = goal i;
-      goal_vars = goal_vars i;
+      goal_variable_count = goal_variable_count i;
       marks = marks i;
       proofs = proofs i;
       param_sorts = sorts i;

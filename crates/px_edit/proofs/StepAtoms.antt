@@ -18,16 +18,16 @@ use Rattle.px_table.specs.Tables.{IsStepOf}
 use Rattle.px_edit.proofs.Names.{read-variable}
 
 module _ (problem : Problem) (params : ℕ) (args : List Term) (terms : All (IsTermOf problem params) args) where
-  term-of : (vars : ℕ) → length args ≡ vars → (t : Term) → IsTermOf problem vars t → IsTermOf problem params (substitute args t)
-  term-of vars long (Obj n) is = is
-  term-of vars long (Var v) is = terms v Any (omega (arith, long, is))
-  term-of vars long Any is = absurd is
+  term-of : (variable_count : ℕ) → length args ≡ variable_count → (t : Term) → IsTermOf problem variable_count t → IsTermOf problem params (substitute args t)
+  term-of variable_count long (Obj n) is = is
+  term-of variable_count long (Var v) is = terms v Any (omega (arith, long, is))
+  term-of variable_count long Any is = absurd is
 
-  atom-of : (vars : ℕ) → length args ≡ vars → (atom : Atom) → IsAtomOf problem vars atom
+  atom-of : (variable_count : ℕ) → length args ≡ variable_count → (atom : Atom) → IsAtomOf problem variable_count atom
       → IsAtomOf problem params (substitute_atom args atom)
-  atom-of vars long atom is = (
+  atom-of variable_count long atom is = (
     (is.0.0, length-map atom.args (substitute args) ∙ is.0.1),
-    All-map (IsTermOf problem params) (substitute args) atom.args (λ k d below. term-of vars long _ (is.1 k d below)),
+    All-map (IsTermOf problem params) (substitute args) atom.args (λ k d below. term-of variable_count long _ (is.1 k d below)),
   )
 
 module _ (problem : Problem) (valid : IsValid problem) (params : ℕ) (inst : OpInst) (is : IsStepOf problem params inst) where

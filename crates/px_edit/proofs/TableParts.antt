@@ -362,7 +362,7 @@ module _ (problem : Problem) (valid : IsValid problem) (params : ℕ) (param_sor
 pub table-of_parts : (problem : Problem) (table : Table) (params : ℕ) (steps : List OpInst) (goal : List Atom)
     (rows : List (List Derivation)) → IsValid problem
     → table.params ≡ params → table.param_sorts ≡ sorts_by_places problem table.steps table.params → table.steps ≡ steps → table.goal ≡ goal
-    → table.goal_vars ≡ 0 → rows_of table.proofs ≡ rows → table.marks ≡ marks_from 1 (rows_of table.proofs)
+    → table.goal_variable_count ≡ 0 → rows_of table.proofs ≡ rows → table.marks ≡ marks_from 1 (rows_of table.proofs)
     → AreTableParts problem params (sorts_by_places problem steps params) steps goal rows → IsTable problem table
 table-of_parts problem table params steps goal rows valid params_are sorts_are steps_are goal_is none rows_are marks_are are =
     let marks : table.marks ≡ marks_from 1 rows = marks_are ∙ ap (marks_from 1) rows_are in
@@ -371,14 +371,14 @@ table-of_parts problem table params steps goal rows valid params_are sorts_are s
     let sorts = sorts_by_places-are problem table.steps table.params valid (λ k d below. (here k d below).op) in
     let own : table.param_sorts ≡ sorts_by_places problem steps params =
     sorts_are ∙ ap (λ (s : List OpInst). sorts_by_places problem s table.params) steps_are ∙ ap (sorts_by_places problem steps) params_are in
-    let more : table.params + table.goal_vars ≡ params = omega (arith, params_are, none) in
+    let more : table.params + table.goal_variable_count ≡ params = omega (arith, params_are, none) in
     record {
       in_range = record {
         short = omega (arith, are.short, ap length steps_are);
         steps = here;
         goal = subst (λ n. All (IsAtomOf problem n) table.goal) (sym more) (subst (All (IsAtomOf problem params)) (sym goal_is) are.goal_is);
       };
-      prove = prove_here table.params table.steps table.goal table.goal_vars (rows_of table.proofs) params_are steps_are goal_is none rows_are;
+      prove = prove_here table.params table.steps table.goal table.goal_variable_count (rows_of table.proofs) params_are steps_are goal_is none rows_are;
       marks = marks_are;
       atoms = subst (λ n. All (λ (mark : Mark). IsAtomOf problem n mark.atom) table.marks) (sym params_are)
           (subst (All (λ (mark : Mark). IsAtomOf problem params mark.atom)) (sym marks) are.atoms);

@@ -148,15 +148,15 @@ module _ (Is : Term → Type 0) (problem : Problem) (params : ℕ) where
       let rest = row-back atoms row proves.1 in
       λ i. here i ∷ rest i
 
-  rows-back : (goal : List Atom) (vars : ℕ) (steps : List OpInst) (rows : List (List Derivation))
-      → RowsProve Is problem params steps goal vars rows → rows_of (map (map proof_of) rows) ≡ rows
-  rows-back goal vars [] [] proves = absurd proves
-  rows-back goal vars [] (row ∷ []) proves = ap (λ (r : List Derivation). r ∷ []) (row-back _ row proves.2)
-  rows-back goal vars [] (row ∷ second ∷ rows) proves = absurd proves
-  rows-back goal vars (inst ∷ steps) [] proves = absurd proves
-  rows-back goal vars (inst ∷ steps) (row ∷ rows) proves =
+  rows-back : (goal : List Atom) (variable_count : ℕ) (steps : List OpInst) (rows : List (List Derivation))
+      → RowsProve Is problem params steps goal variable_count rows → rows_of (map (map proof_of) rows) ≡ rows
+  rows-back goal variable_count [] [] proves = absurd proves
+  rows-back goal variable_count [] (row ∷ []) proves = ap (λ (r : List Derivation). r ∷ []) (row-back _ row proves.2)
+  rows-back goal variable_count [] (row ∷ second ∷ rows) proves = absurd proves
+  rows-back goal variable_count (inst ∷ steps) [] proves = absurd proves
+  rows-back goal variable_count (inst ∷ steps) (row ∷ rows) proves =
       let here = row-back (precondition problem inst) row proves.0 in
-      let rest = rows-back goal vars steps rows proves.1 in
+      let rest = rows-back goal variable_count steps rows proves.1 in
       λ i. here i ∷ rest i
 
 -- ---- the table
@@ -264,7 +264,7 @@ module _ (problem : Problem) (valid : IsValid problem) (table : Table) (is : IsT
       kept = kept;
       are_kept = are;
       params = refl;
-      renamed = record { steps_are = refl; goal_is = refl; goal_vars = refl; rows_are = back; marks_are = refl; sorts_are = refl };
+      renamed = record { steps_are = refl; goal_is = refl; goal_variable_count = refl; rows_are = back; marks_are = refl; sorts_are = refl };
     }
 
   pub edited-there : (edited : Table) × IsEdited problem table wanted edited

@@ -188,7 +188,7 @@ going-edited = record {
     steps_are = sym (ap (λ rows. map (substitute_instance (names_here rows)) (kept_steps fetching_table (1 ∷ []))) fetching-back);
     goal_is =
         sym (ap (λ rows. map (substitute_atom (names_here rows)) (wanted_atoms fetching_problem fetching_table ((1, 0) ∷ []))) fetching-back);
-    goal_vars = refl;
+    goal_variable_count = refl;
     rows_are = going-back ∙ sym (ap (λ rows. map (map (derivation_under (names_here rows))) (rows_here rows)) fetching-back);
     marks_are = refl;
     sorts_are = refl;

@@ -116,7 +116,7 @@ pub record IsRenamedTable (problem : Problem) (names : List Term) (steps : List 
     (made : Table) : Type 0 where
   pub steps_are : made.steps ≡ map (substitute_instance names) steps
   pub goal_is : made.goal ≡ map (substitute_atom names) goal
-  pub goal_vars : made.goal_vars ≡ 0
+  pub goal_variable_count : made.goal_variable_count ≡ 0
   pub rows_are : rows_of made.proofs ≡ map (map (derivation_under names)) rows
   pub marks_are : made.marks ≡ marks_from 1 (rows_of made.proofs)
   pub sorts_are : made.param_sorts ≡ sorts_by_places problem made.steps made.params

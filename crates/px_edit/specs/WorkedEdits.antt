@@ -32,7 +32,7 @@ fetching_problem = record {
   objects = 7;
   arities = 2 ∷ 3 ∷ 1 ∷ [];
   axioms = record {
-    vars = 3;
+    variable_count = 3;
     lits = record { positive = false; atom = leads_to (Var 0) (Var 1) (Var 2) }
         ∷ record { positive = true; atom = leads_to (Var 0) (Var 2) (Var 1) } ∷ [];
   } ∷ [];

@@ -94,7 +94,7 @@ fn named_table(
         params,
         steps: Sequence::from_vec(steps),
         goal: Sequence::from_vec(goal),
-        goal_vars: 0,
+        goal_variable_count: 0,
         marks: found,
         proofs: Sequence::from_vec(rows),
         param_sorts: sorts,

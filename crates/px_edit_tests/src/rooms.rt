@@ -27,7 +27,7 @@ fn going_alone(rt: HostRuntime) {
     assert!(&rt; check_table(&problem, &table));
     let edited = edit(alloc, &problem, &table, 2, &[(1, 0)]).expect(&rt, "memory");
     let there = is_in(ROBOT, v(2));
-    assert!(&rt; edited.params == 3 && edited.goal_vars == 0);
+    assert!(&rt; edited.params == 3 && edited.goal_variable_count == 0);
     assert!(&rt; edited.steps.as_slice() == [instance(0, &[v(1), v(0), v(2)])].as_slice());
     assert!(&rt; edited.goal.as_slice() == [there].as_slice());
     let marks = [

@@ -3,7 +3,7 @@ use Rattle.px_effects.proofs.Common.{◌≡◌, ℕ, ◌+◌, ◌<◌, List, [],
 
 swapped : (first second third : List Atom) (q : Atom) → Contains ((first ++ second) ++ third) q → Contains ((first ++ third) ++ second) q
 swapped first second third q there = elim (Contains-append_cases (first ++ second) third q there) [
-  | inl front ↦ elim (Contains-append_cases first second q front) [
+  | inl prefix ↦ elim (Contains-append_cases first second q prefix) [
     | inl one ↦ Contains-append_left (first ++ third) second q (Contains-append_left first third q one)
     | inr two ↦ Contains-append_right (first ++ third) second q two
   ]

@@ -22,8 +22,8 @@ more-names kind.Operator ns names = refl
 more-names kind.Result ns names = refl
 
 -- names in front of others of their kind
-front-names : (k : Kind) (xs ys : List (List ℕ)) → AreOfKind k (xs ++ ys) → AreOfKind k xs
-front-names k xs ys all = let both = length-append xs ys in let few = all.few in record {
+prefix-names : (k : Kind) (xs ys : List (List ℕ)) → AreOfKind k (xs ++ ys) → AreOfKind k xs
+prefix-names k xs ys all = let both = length-append xs ys in let few = all.few in record {
   distinct = λ i j d before below same. all.distinct i j d before (omega (arith, below, both))
       (get_or_append_left xs ys d i (omega (arith, before, below)) ∙ same ∙ sym (get_or_append_left xs ys d j below));
   few = omega (arith, few, both);
@@ -33,16 +33,16 @@ front-names k xs ys all = let both = length-append xs ys in let few = all.few in
 pub next-fresh : (k : Kind) (first now : NameLists) (names : List (Bor (List ℕ))) (i : ℕ) (x : Bor (List ℕ))
     → now ≡ with_more k (map text_of (take i names)) first → AllByRecursion (λ n. IsName n.now) names
     → AreOfKind k (names_in k first ++ map text_of names) → i < length names → IsFresh k now (get_or names i x).now
-next-fresh k first now names i x is named all below = let front = take (i + 1) names in
-    let parts : map text_of names ≡ map text_of front ++ map text_of (drop (i + 1) names) =
-    ap (map text_of) (sym (take-append-drop (i + 1) names)) ∙ map-append text_of front (drop (i + 1) names) in
+next-fresh k first now names i x is named all below = let prefix = take (i + 1) names in
+    let parts : map text_of names ≡ map text_of prefix ++ map text_of (drop (i + 1) names) =
+    ap (map text_of) (sym (take-append-drop (i + 1) names)) ∙ map-append text_of prefix (drop (i + 1) names) in
     let whole = ap (λ t. names_in k first ++ t) parts
-    ∙ sym (append_assoc (names_in k first) (map text_of front) (map text_of (drop (i + 1) names))) in
-    let these : names_in k first ++ map text_of front ≡ names_in k now ++ (get_or names i x).now ∷ [] =
+    ∙ sym (append_assoc (names_in k first) (map text_of prefix) (map text_of (drop (i + 1) names))) in
+    let these : names_in k first ++ map text_of prefix ≡ names_in k now ++ (get_or names i x).now ∷ [] =
     ap (λ t. names_in k first ++ t) (map_more text_of names i x below) ∙ sym (append_assoc (names_in k first) _ _)
     ∙ ap (λ t. t ++ (get_or names i x).now ∷ []) (sym (ap (names_in k) is ∙ more-names k _ first)) in (
       All-from_recursion (λ n. IsName n.now) names named i x below,
-      subst (AreOfKind k) these (front-names k _ _ (subst (AreOfKind k) whole all)),
+      subst (AreOfKind k) these (prefix-names k _ _ (subst (AreOfKind k) whole all)),
     )
 
 -- the so_far with one more of the names

@@ -77,21 +77,21 @@ kind-is number opened b t is kind = ap (λ o. option_map (λ block. block.kind) 
     ∙ ap (λ k. Some (kind_view number k)) kind
 
 -- the goal of the table is set
-pub goal-set : (so_far : SoFar) (b : code.OpenBlock) (t : table.OpenTable) (aim : List Atom) (vars : ℕ) (xs : List SignedAtom)
+pub goal-set : (so_far : SoFar) (b : code.OpenBlock) (t : table.OpenTable) (aim : List Atom) (variable_count : ℕ) (xs : List SignedAtom)
     → so_far.block ≡ Some b → b.kind ≡ block.BlockKind.TheVariants.Table t
-    → aim ≡ map (atom_of (declared_of so_far) (table_variables (declared_of so_far))) xs → vars ≡ goal_variables (declared_of so_far) xs
+    → aim ≡ map (atom_of (declared_of so_far) (table_variables (declared_of so_far))) xs → variable_count ≡ goal_variables (declared_of so_far) xs
     → ◌≡◌ {A = Declared} (record (declared_of so_far) {
-      block = Some (record { line = b.line; kind = of_table_rows (record (table_view t) { goal = aim; goal_vars = vars }) });
+      block = Some (record { line = b.line; kind = of_table_rows (record (table_view t) { goal = aim; goal_variable_count = variable_count }) });
     }) (leaves 0 (declared_of so_far) (goal xs))
-goal-set so_far b t aim vars xs is kind aim_is vars_are =
+goal-set so_far b t aim variable_count xs is kind aim_is variable_count_are =
     let d = declared_of so_far in
     let n = length so_far.schemas.items in
     let f : WrittenTable → WrittenTable
-    = λ w. record w { goal = map (atom_of d (table_variables d)) xs; goal_vars = goal_variables d xs } in
+    = λ w. record w { goal = map (atom_of d (table_variables d)) xs; goal_variable_count = goal_variables d xs } in
     let here : d.block ≡ Some (record { line = b.line; kind = table_kind t.has_goal (table_view t) })
     = ap (option_map (open_block_view n)) is ∙ ap (λ k. Some (record { line = b.line; kind = kind_view n k })) kind in
-    let new : record (table_view t) { goal = aim; goal_vars = vars } ≡ f (table_view t)
-    = λ i. record (table_view t) { goal = aim_is i; goal_vars = vars_are i } in
+    let new : record (table_view t) { goal = aim; goal_variable_count = variable_count } ≡ f (table_view t)
+    = λ i. record (table_view t) { goal = aim_is i; goal_variable_count = variable_count_are i } in
     ap (λ (w : WrittenTable). record d { block = Some (record { line = b.line; kind = of_table_rows w }) }) new
     ∙ ap (λ (k : BlockKind). record d { block = Some (record { line = b.line; kind = k }) }) (sym (aimed f t.has_goal (table_view t)))
     ∙ ap (λ (o : Option OpenBlock). record d {

@@ -19,7 +19,7 @@ use px_terms::Atom;
 struct NumberedGoal {
     atoms: Sequence<Atom>,
     /// How many variables it has.
-    vars: u32,
+    variable_count: u32,
 }
 
 /// Returns the goal by numbers, with its variables by first occurrence.
@@ -29,13 +29,13 @@ fn numbered(so_far: &SoFar, goal: &[SignedAtom<'_>]) -> Result<NumberedGoal, NoM
     requires readable { AreReadable (declared_of so_far.now) goal.now }
     ensures atoms { IfOk result (λ numbered. numbered.atoms
         ≡ map (atom_of (declared_of so_far.now) (variable_names_of (map signed_view goal.now))) (map signed_view goal.now)) }
-    ensures vars { IfOk result (λ numbered. numbered.vars ≡ length (variable_names_of (map signed_view goal.now))) }
+    ensures variable_count { IfOk result (λ numbered. numbered.variable_count ≡ length (variable_names_of (map signed_view goal.now))) }
 {
     let variables = variables(so_far.alloc, goal)?;
     let atoms = so_far.atoms(&Variables::Named(&variables), goal)?;
     Ok(NumberedGoal {
         atoms: Sequence::from_vec(atoms),
-        vars: variables.len() as u32,
+        variable_count: variables.len() as u32,
     })
 }
 
@@ -61,7 +61,7 @@ pub fn add_plan(so_far: &mut SoFar, name: &str, goal: &[SignedAtom<'_>]) -> Resu
         Command::Plan {
             name,
             goal: goal.atoms,
-            vars: goal.vars,
+            variable_count: goal.variable_count,
         },
     )
 }
@@ -102,7 +102,7 @@ pub fn add_pursuit(so_far: &mut SoFar, name: &str, goal: &[SignedAtom<'_>]) -> R
         Command::Pursue {
             name,
             goal: goal.atoms,
-            vars: goal.vars,
+            variable_count: goal.variable_count,
         },
     )
 }
@@ -128,7 +128,7 @@ pub fn add_tree(
             name,
             nodes,
             goal: goal.atoms,
-            vars: goal.vars,
+            variable_count: goal.variable_count,
         },
     )
 }

@@ -38,7 +38,7 @@ pub fn begin_table(
             steps: Vec::new(alloc),
             has_goal: false,
             goal: Vec::new(alloc),
-            goal_vars: 0,
+            goal_variable_count: 0,
             rows: Vec::new(alloc),
         }),
     });
@@ -69,11 +69,11 @@ pub fn set_goal(so_far: &mut SoFar, atoms: &[SignedAtom<'_>]) -> Result<(), NoMe
     ensures { OnOk result (declared_of so_far.new ≡ leaves 0 (declared_of so_far.old) (spec.goal (map signed_view atoms.now))) }
 {
     let goal = so_far.table_atoms(atoms)?;
-    let goal_vars = goal_variables(atoms);
+    let goal_variable_count = goal_variables(atoms);
     if let Some(block) = &mut so_far.block {
         if let BlockKind::Table(table) = &mut block.kind {
             table.goal = goal;
-            table.goal_vars = goal_vars;
+            table.goal_variable_count = goal_variable_count;
             table.has_goal = true;
         }
     }

@@ -1,7 +1,7 @@
 -- Which questions are asked, by the stop.
 use Rattle.std.proofs.Common.{◌≡◌, ◌↔◌, ◌⊎◌, List, [], ◌∷◌, ◌++◌, length, ◌<◌, subst}
 use Rattle.px_table.specs.declared.entry.Move.{Move}
-use Rattle.px_order.specs.Beginnings.{front-least}
+use Rattle.px_order.specs.Beginnings.{prefix-least}
 use Rattle.px_ends.specs.ByValue.{space_of}
 use Rattle.px_ends.specs.Order.{IsBefore}
 use Rattle.px_ends.specs.Tasks.{Task}
@@ -22,7 +22,7 @@ module _ (task : Task) where
   )
 
   pub parent_least : (parent : List Move) (m : Move) → IsLeastList task (parent ++ m ∷ []) → IsLeastList task parent
-  parent_least parent m least = front-least (space_of task) IsBefore order parent m least
+  parent_least parent m least = prefix-least (space_of task) IsBefore order parent m least
 
   tested : (earlier : List (List Move)) (last moves : List Move) → IsStop task earlier last
       → IsTested task moves ↔ (IsLeastList task moves × ((node_of task moves).stack ≡ [])

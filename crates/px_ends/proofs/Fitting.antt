@@ -100,8 +100,8 @@ stands (p ∷ ps) (u ∷ us) h v t has =
         let same : p ≡ Var v = (term_eq-decides p (Var v)).0 e in
         let object : u ≡ Obj (object_of u) =
         is-object v u (ap (λ (x : Term). fits_place x u) (sym same) ∙ first_so (fits_place p u) (pointwise fits_place ps us) h) in
-        let front : Pair = (p, u) in
-        subst (λ (x : Pair). Contains ((p, u) ∷ zip ps us) x) (cc (same, object)) (Contains-first front (zip ps us))
+        let prefix : Pair = (p, u) in
+        subst (λ (x : Pair). Contains ((p, u) ∷ zip ps us) x) (cc (same, object)) (Contains-first prefix (zip ps us))
     by false e onward = elim (Contains-cases (p, u) (zip ps us) (Var v, t) has) [
       | inl is ↦ absurd (differs (term_eq p (Var v)) e ((term_eq-decides p (Var v)).1 (ap (λ (x : Pair). x.0) is)))
       | inr later ↦ Contains-later (p, u) (zip ps us) (Var v, Obj (objects_by ps us v)) (onward later)

@@ -145,11 +145,11 @@ module _ (problem : Problem) (made : List OpInst) where
 
   -- ---- rows
 
-  first_row-one : (facts formula : List Atom) (vars : ℕ) (row other : List Derivation) → IsFirstRow problem made facts formula vars row
-      → IsFirstRow problem made facts formula vars other → row ≡ other
-  first_row-one facts formula vars row other is is_other =
+  first_row-one : (facts formula : List Atom) (variable_count : ℕ) (row other : List Derivation) → IsFirstRow problem made facts formula variable_count row
+      → IsFirstRow problem made facts formula variable_count other → row ≡ other
+  first_row-one facts formula variable_count row other is is_other =
       let firsts =
-      first-is_one (setting_of problem facts) formula vars is.0 is_other.0 (derivations is.1)
+      first-is_one (setting_of problem facts) formula variable_count is.0 is_other.0 (derivations is.1)
       (derivations is_other.1) is.2 is_other.2 in
       let same : is.1 ≡ is_other.1 = derivations-one is.1 is_other.1 firsts.1 in
       zip-one (IsSourced problem made) sourced-one is_other.1 row other
@@ -209,7 +209,7 @@ moves_rows-one : (task : Task) (node : Node) (made : List OpInst) (moves : List 
     → MovesRows task node made moves rows → MovesRows task node made moves others → rows ≡ others
 moves_rows-one task node made [] rows others is is_other =
     is.2 ∙ ap (λ (row : List Derivation). row ∷ [])
-    (first_row-one task.problem made node.model task.goal task.vars is.0 is_other.0 is.1 is_other.1) ∙ sym is_other.2
+    (first_row-one task.problem made node.model task.goal task.variable_count is.0 is_other.0 is.1 is_other.1) ∙ sym is_other.2
 moves_rows-one task node made (Push entry ∷ moves) rows others is is_other =
     moves_rows-one task (after task node (Push entry)) made moves rows others is is_other
 moves_rows-one task node made (Apply ∷ moves) rows others is is_other =
@@ -230,7 +230,7 @@ tables_are_one task moves one other is is_other =
     let params = is.params ∙ sym is_other.params in
     let steps = is.steps ∙ sym is_other.steps in
     let goal = is.goal ∙ sym is_other.goal in
-    let goal_vars = is.goal_vars ∙ sym is_other.goal_vars in
+    let goal_variable_count = is.goal_variable_count ∙ sym is_other.goal_variable_count in
     let marks = is.marks ∙ ap (marks_from 1) rows ∙ sym is_other.marks in
     let proofs = proofs-one one.proofs other.proofs rows in
     let sorts = is.param_sorts ∙ sym is_other.param_sorts in
@@ -238,7 +238,7 @@ tables_are_one task moves one other is is_other =
       params = params i;
       steps = steps i;
       goal = goal i;
-      goal_vars = goal_vars i;
+      goal_variable_count = goal_variable_count i;
       marks = marks i;
       proofs = proofs i;
       param_sorts = sorts i;

@@ -137,7 +137,7 @@ few_shapes schemas nodes facts (atom ∷ other ∷ atoms) rules small = absurd s
 
 -- the formula, proved from the facts
 abbrev pub needed_from : List Atom → List Atom → Obligation
-needed_from facts formula = record { formula = formula; vars = 0; facts = facts }
+needed_from facts formula = record { formula = formula; variable_count = 0; facts = facts }
 
 -- no question about at most one atom meets the limit
 pub proving_below : (schemas : List Schema) (nodes : ℕ) (facts formula : List Atom) → IsSmall formula → (kept : List Atom)
@@ -238,7 +238,7 @@ table_there = record {
   params = refl;
   steps = refl;
   goal = refl;
-  goal_vars = refl;
+  goal_variable_count = refl;
   rows = (fact p_leaf ∷ [], p_row, ap (λ (d : Derivation). (d ∷ []) ∷ []) (derivation_of-fact p_leaf));
   marks = ap (λ (d : Derivation). marks_from 1 ((d ∷ []) ∷ [])) (sym (derivation_of-fact p_leaf));
   param_sorts = refl;

@@ -46,8 +46,8 @@ IsSourced problem made d new =
 
 -- the row has the first proofs of the formula from these facts
 abbrev pub IsFirstRow : Problem → List OpInst → List Atom → List Atom → ℕ → List Derivation → Type 0
-IsFirstRow problem made facts formula vars row =
-    (objects : List ℕ) × (ds : List Derivation) × IsFirst (setting_of problem facts) formula vars objects (derivations ds)
+IsFirstRow problem made facts formula variable_count row =
+    (objects : List ℕ) × (ds : List Derivation) × IsFirst (setting_of problem facts) formula variable_count objects (derivations ds)
     × AllZip (IsSourced problem made) ds row
 
 -- the part is the first proof of the leaf's atom from these facts
@@ -92,7 +92,7 @@ TopRows problem tables model made (entry ∷ below) rows = EntryRows problem tab
 
 -- from a node that is reached after the steps made, the rows of the steps that the moves make, and the goal's row at the end
 abbrev pub MovesRows : Task → Node → List OpInst → List Move → List (List Derivation) → Type 0
-MovesRows task node made [] rows = (row : List Derivation) × IsFirstRow task.problem made node.model task.goal task.vars row
+MovesRows task node made [] rows = (row : List Derivation) × IsFirstRow task.problem made node.model task.goal task.variable_count row
     × (rows ≡ row ∷ [])
 MovesRows task node made (Push entry ∷ moves) rows = MovesRows task (after task node (Push entry)) made moves rows
 MovesRows task node made (Apply ∷ moves) rows =
@@ -104,7 +104,7 @@ pub record IsTableOfMoves (task : Task) (moves : List Move) (table : Table) : Ty
   pub params : table.params ≡ 0
   pub steps : table.steps ≡ steps_of task.tables [] moves
   pub goal : table.goal ≡ task.goal
-  pub goal_vars : table.goal_vars ≡ task.vars
+  pub goal_variable_count : table.goal_variable_count ≡ task.variable_count
   pub rows : MovesRows task (initial_node task) [] moves (rows_of table.proofs)
   pub marks : table.marks ≡ marks_from 1 (rows_of table.proofs)
   pub param_sorts : table.param_sorts ≡ []

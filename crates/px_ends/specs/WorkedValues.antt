@@ -28,7 +28,7 @@ get_stuck = Op (record { op = 0; args = [] })
 -- With each weight P is reached as the third node, which is the node limit where there is room for two; and with the operator alone that
 -- isn't open the search is exhausted.
 pub record ValueFacts : Type 0 where
-  pub counted : lacks_of (record { formula = twice_x ∷ x_and_y ∷ twice_x ∷ []; vars = 2; facts = a_and_b ∷ [] }) ≡ 2
+  pub counted : lacks_of (record { formula = twice_x ∷ x_and_y ∷ twice_x ∷ []; variable_count = 2; facts = a_and_b ∷ [] }) ≡ 2
   pub at_first : (nodes : ℕ) → needs (p_from_none (stuck ∷ maker ∷ []) nodes) (bare []) ≡ 1
   pub with_make : (nodes : ℕ) → needs (p_from_none (stuck ∷ maker ∷ []) nodes) (bare (make ∷ [])) ≡ 1
   pub with_stuck : (nodes : ℕ) → needs (p_from_none (stuck ∷ maker ∷ []) nodes) (bare (get_stuck ∷ [])) ≡ 2

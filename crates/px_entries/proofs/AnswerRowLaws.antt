@@ -65,9 +65,9 @@ answers-support = record {
       each-row problem facts formula ds row (answers-make_rows.without_variables problem facts formula objects ds valid.axioms of list)
       others in
       (r.0, one-row problem row r.1);
-  goal = λ problem facts formula vars objects ds row valid of list others.
+  goal = λ problem facts formula variable_count objects ds row valid of list others.
       let r =
       each-row problem facts (map (substitute_atom (object_terms objects)) formula) ds row
-      (answers-make_rows.under problem facts formula vars objects ds valid.axioms of list) others in
+      (answers-make_rows.under problem facts formula variable_count objects ds valid.axioms of list) others in
       ((object_terms objects, length-map objects Obj ∙ list.count, r.0), one-row problem row r.1);
 }

@@ -73,20 +73,20 @@ same_object : (m n : ℕ) → Obj m ≡ Obj n → m ≡ n
 same_object m n is = cc
 
 pub object_is : (problem : Problem) (partial : PartialInstance) (full : OpInst) (objects : List ℕ) (v n : ℕ) (wanted : Term)
-    → Fills problem partial full objects → v < partial.vars → slice_index_or (object_terms objects) v Any ≡ wanted → wanted ≡ Obj n
+    → Fills problem partial full objects → v < partial.variable_count → slice_index_or (object_terms objects) v Any ≡ wanted → wanted ≡ Obj n
     → get_or objects v 0 ≡ n
 object_is problem partial full objects v n wanted fills below is same =
     same_object (get_or objects v 0) n (sym (object_at objects v (omega (arith, below, fills.count))) ∙ is ∙ same)
 
 pub object_within : (problem : Problem) (partial : PartialInstance) (full : OpInst) (objects : List ℕ) (v : ℕ)
-    → Fills problem partial full objects → v < partial.vars → get_or objects v 0 < problem.objects
+    → Fills problem partial full objects → v < partial.variable_count → get_or objects v 0 < problem.objects
 object_within problem partial full objects v fills below = fills.below v 0 (omega (arith, below, fills.count))
 
 no_other : (n : ℕ) (t : Term) → Obj n ≡ t → (¬ (t ≡ Any)) × ((v : ℕ) → ¬ (t ≡ Var v))
 no_other n t is = (λ e. cc, λ v e. cc)
 
 pub not_other : (problem : Problem) (partial : PartialInstance) (full : OpInst) (objects : List ℕ) (v : ℕ) (wanted : Term)
-    → Fills problem partial full objects → v < partial.vars → slice_index_or (object_terms objects) v Any ≡ wanted
+    → Fills problem partial full objects → v < partial.variable_count → slice_index_or (object_terms objects) v Any ≡ wanted
     → (¬ (wanted ≡ Any)) × ((w : ℕ) → ¬ (wanted ≡ Var w))
 not_other problem partial full objects v wanted fills below is =
     no_other (get_or objects v 0) wanted (sym (object_at objects v (omega (arith, below, fills.count))) ∙ is)

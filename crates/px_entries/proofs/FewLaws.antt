@@ -84,20 +84,20 @@ module _ (problem : Problem) (adds : All (λ (schema : Schema). EachHasFew probl
       few_or_limited.proofs_with_gaps (setting_of problem facts) (atom ∷ []) 0 shapes
       (own.few facts ascends (atom ∷ []) (ap (λ (p : ℕ). p ∷ []) (sym added.4))) limited
 
-  one-unlimited : (needed : Obligation) → needed.vars ≡ 0 → IsAtomSet needed.facts → HasFew problem needed.formula
+  one-unlimited : (needed : Obligation) → needed.variable_count ≡ 0 → IsAtomSet needed.facts → HasFew problem needed.formula
       → (question : Question) (formula : List Atom) (shapes : List (List Tick))
       → (question ≡ Proving needed) ⊎ ((¬ HasAnswer problem needed) × (question ≡ FindingGaps needed))
       → ¬ MeetsLimit problem question formula shapes
-  one-unlimited needed vars ascends few question formula shapes asked met =
+  one-unlimited needed variable_count ascends few question formula shapes asked met =
       let s = setting_of problem needed.facts in
       let shapes-few = few.few needed.facts ascends needed.formula refl in
       elim asked [
         | inl is ↦ few_or_limited.proofs_with_gaps s needed.formula 0 shapes shapes-few
-            (subst (λ (n : ℕ). IsLimited s needed.formula n shapes) vars
+            (subst (λ (n : ℕ). IsLimited s needed.formula n shapes) variable_count
             (subst (λ (q : Question). MeetsLimit problem q formula shapes) is met).1)
         | inr is ↦
             let found : MeetsGapLimit s needed.formula 0 formula shapes =
-            subst (λ (n : ℕ). MeetsGapLimit s needed.formula n formula shapes) vars
+            subst (λ (n : ℕ). MeetsGapLimit s needed.formula n formula shapes) variable_count
             (subst (λ (q : Question). MeetsLimit problem q formula shapes) is.1 met) in
             elim found [
               | inl whole ↦ few_or_limited.gap_proofs s needed.formula 0 shapes shapes-few whole.1
@@ -111,7 +111,7 @@ module _ (problem : Problem) (adds : All (λ (schema : Schema). EachHasFew probl
       ]
 
   all-unlimited : (needs : List Obligation)
-      → ((needed : Obligation) → Contains needs needed → (needed.vars ≡ 0) × IsAtomSet needed.facts × HasFew problem needed.formula)
+      → ((needed : Obligation) → Contains needs needed → (needed.variable_count ≡ 0) × IsAtomSet needed.facts × HasFew problem needed.formula)
       → AreUnlimited problem needs
   all-unlimited needs each question formula shapes asks =
       let own = each asks.1 (asks.0, asks.2, asks.3) in
@@ -138,11 +138,11 @@ module _ (problem : Problem) (adds : All (λ (schema : Schema). EachHasFew probl
     rows-unlimited table prefix sigma m few facts ascends =
         let steps = take prefix (steps_under table sigma) in
         let needed_in : ℕ → Obligation =
-        λ row. record { formula = initial_atoms table sigma row; vars = 0; facts = left_after problem (take (row - 1) steps) facts } in
+        λ row. record { formula = initial_atoms table sigma row; variable_count = 0; facts = left_after problem (take (row - 1) steps) facts } in
         all-unlimited (row_needs problem table sigma facts steps) (λ needed has.
         let row = Contains-from_map needed_in (range_with_len 1 (length steps)) needed has in
         let early = subst (λ (n : ℕ). row.0 ≤ n) (steps-count table sigma prefix m.within) (row-early (length steps) row.0 row.1) in
-        subst (λ (o : Obligation). (o.vars ≡ 0) × IsAtomSet o.facts × HasFew problem o.formula) row.2 (
+        subst (λ (o : Obligation). (o.variable_count ≡ 0) × IsAtomSet o.facts × HasFew problem o.formula) row.2 (
           refl,
           left-is_set (take (row.0 - 1) steps) facts ascends,
           subst (HasFewShapes problem) (sym (marks-same sigma
@@ -154,7 +154,7 @@ module _ (problem : Problem) (adds : All (λ (schema : Schema). EachHasFew probl
     pub never-limited : (tables : List Table) → All (RowsHaveFew problem) tables → IsNeverLimited problem tables
     never-limited tables rows facts ascends (Op inst) is =
         all-unlimited (obligations_of problem tables facts (Op inst)) (λ needed has.
-        subst (λ (o : Obligation). (o.vars ≡ 0) × IsAtomSet o.facts × HasFew problem o.formula) (Contains-one _ needed has)
+        subst (λ (o : Obligation). (o.variable_count ≡ 0) × IsAtomSet o.facts × HasFew problem o.formula) (Contains-one _ needed has)
         (refl, ascends, precondition-few inst is.of))
     never-limited tables rows facts ascends (Macro number prefix sigma) (table, at, m) =
         subst (λ (t : Table). AreUnlimited problem (row_needs problem t sigma facts (take prefix (steps_under t sigma))))

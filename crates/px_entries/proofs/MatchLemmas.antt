@@ -72,22 +72,22 @@ closed-is values t wanted closed is = elim closed [
 ]
 
 -- what a step adds has the parameters for variables
-pub step-adds : (problem : Problem) (vars : ℕ) (step : OpInst) → IsValid problem → IsStepOf problem vars step
-    → All (IsPlain vars) (adds problem step)
-step-adds problem vars step valid of =
+pub step-adds : (problem : Problem) (variable_count : ℕ) (step : OpInst) → IsValid problem → IsStepOf problem variable_count step
+    → All (IsPlain variable_count) (adds problem step)
+step-adds problem variable_count step valid of =
     let add : All (IsAtomOf problem (length step.args)) (schema_of problem step).add =
     subst (λ (n : ℕ). All (IsAtomOf problem n) (schema_of problem step).add) (sym of.count) (valid.schemas step.op of.op).add in
-    let are : All (IsAtomOf problem vars) (adds problem step) =
-    All-map (IsAtomOf problem vars) (substitute_atom step.args) (schema_of problem step).add
-    (λ k d below. atom_in problem vars step.args of.terms _ (add k d below)) in
-    All-each (IsPlain vars) (adds problem step) (λ atom has. atom-plain problem vars atom
-    (All-at (IsAtomOf problem vars) (adds problem step) atom are has))
+    let are : All (IsAtomOf problem variable_count) (adds problem step) =
+    All-map (IsAtomOf problem variable_count) (substitute_atom step.args) (schema_of problem step).add
+    (λ k d below. atom_in problem variable_count step.args of.terms _ (add k d below)) in
+    All-each (IsPlain variable_count) (adds problem step) (λ atom has. atom-plain problem variable_count atom
+    (All-at (IsAtomOf problem variable_count) (adds problem step) atom are has))
 
 -- the add at a place is one of them
-pub add-plain : (problem : Problem) (vars : ℕ) (step : OpInst) (place : ℕ) (pattern : Atom) → IsValid problem → IsStepOf problem vars step
-    → slice_get (adds problem step) place ≡ Some pattern → IsPlain vars pattern
-add-plain problem vars step place pattern valid of at =
-    All-at (IsPlain vars) (adds problem step) pattern (step-adds problem vars step valid of)
+pub add-plain : (problem : Problem) (variable_count : ℕ) (step : OpInst) (place : ℕ) (pattern : Atom) → IsValid problem → IsStepOf problem variable_count step
+    → slice_get (adds problem step) place ≡ Some pattern → IsPlain variable_count pattern
+add-plain problem variable_count step place pattern valid of at =
+    All-at (IsPlain variable_count) (adds problem step) pattern (step-adds problem variable_count step valid of)
     (Contains-at (adds problem step) place pattern at)
 
 -- ---- one more add, step and wanted atom

@@ -21,7 +21,7 @@ use Rattle.px_gaps.proofs.GapLists.{list_by}
 use Rattle.px_base.specs.ListLaws.{Contains-first, Contains-none}
 
 abbrev pub needed_by : Problem → List Atom → OpInst → Obligation
-needed_by problem model inst = record { formula = precondition problem inst; vars = 0; facts = model }
+needed_by problem model inst = record { formula = precondition problem inst; variable_count = 0; facts = model }
 
 -- what the instance needs is open where it has an answer or a gap
 pub open_one : (problem : Problem) (model : List Atom) (inst : OpInst)
@@ -65,7 +65,7 @@ some-or-none (atom ∷ atoms) = inl (atom, Contains-first atom atoms)
 -- what is needed has an answer or a gap where it has a list of gap proofs, if it is known whether it has an answer
 pub gaps-open : (problem : Problem) (needed : Obligation) → HasAnswer problem needed ⊎ (¬ HasAnswer problem needed)
     → (objects : List ℕ) (ds : Derivations)
-    → IsList (gaps_in (setting_of problem needed.facts)) (setting_of problem needed.facts) needed.formula needed.vars objects ds
+    → IsList (gaps_in (setting_of problem needed.facts)) (setting_of problem needed.facts) needed.formula needed.variable_count objects ds
     → HasAnswer problem needed ⊎ ((gap : Atom) × HasGap problem needed gap)
 gaps-open problem needed known objects ds list = elim known [
   | inl answer ↦ inl answer
@@ -76,7 +76,7 @@ gaps-open problem needed known objects ds list = elim known [
         inl (
           objects,
           ds,
-          list_by s needed.formula needed.vars objects ds (gaps_in s) (proofs_in s)
+          list_by s needed.formula needed.variable_count objects ds (gaps_in s) (proofs_in s)
               (record { choices = λ t h. h; facts = λ leaf h. h; opens = λ h. h }) (λ atom has h. absurd (never atom has)) list,
         )
   ]
@@ -85,13 +85,13 @@ gaps-open problem needed known objects ds list = elim known [
 -- and what has an answer or a gap has such a list
 pub open-gaps : (problem : Problem) (needed : Obligation) → HasAnswer problem needed ⊎ ((gap : Atom) × HasGap problem needed gap)
     → (objects : List ℕ) × (ds : Derivations)
-    × IsList (gaps_in (setting_of problem needed.facts)) (setting_of problem needed.facts) needed.formula needed.vars objects ds
+    × IsList (gaps_in (setting_of problem needed.facts)) (setting_of problem needed.facts) needed.formula needed.variable_count objects ds
 open-gaps problem needed is_open = elim is_open [
   | inl answer ↦
       let s = setting_of problem needed.facts in (
         answer.0,
         answer.1,
-        list_by s needed.formula needed.vars answer.0 answer.1 (proofs_in s) (gaps_in s)
+        list_by s needed.formula needed.variable_count answer.0 answer.1 (proofs_in s) (gaps_in s)
             (record { choices = λ t h. h; facts = λ leaf h. h; opens = λ h. h }) (λ atom has h. absurd h) answer.2,
       )
   | inr gap ↦ (gap.1.1.0, gap.1.1.1, gap.1.1.2)

@@ -45,13 +45,13 @@ removed_again (y ∷ xs) (suc i) x within = ap (λ l. y ∷ l) (removed_again xs
 pub object_at : (objects : List ℕ) (k : ℕ) → k < length objects → slice_index_or (object_terms objects) k Any ≡ Obj (get_or objects k 0)
 object_at objects k below = get_or-map (λ n. Obj n) objects k 0 Any below
 
--- a term over objects and `vars` variables is an object where objects stand for the variables
-pub term_under : (problem : Problem) (vars : ℕ) (objects : List ℕ) → length objects ≡ vars → All (λ n. n < problem.objects) objects
-    → (t : Term) → IsTermOf problem vars t → IsTermOf problem 0 (substitute (object_terms objects) t)
-term_under problem vars objects count below (Obj n) of = of
-term_under problem vars objects count below (Var v) of =
+-- a term over objects and `variable_count` variables is an object where objects stand for the variables
+pub term_under : (problem : Problem) (variable_count : ℕ) (objects : List ℕ) → length objects ≡ variable_count → All (λ n. n < problem.objects) objects
+    → (t : Term) → IsTermOf problem variable_count t → IsTermOf problem 0 (substitute (object_terms objects) t)
+term_under problem variable_count objects count below (Obj n) of = of
+term_under problem variable_count objects count below (Var v) of =
     subst (IsTermOf problem 0) (sym (object_at objects v (omega (arith, of, count)))) (below v 0 (omega (arith, of, count)))
-term_under problem vars objects count below Any of = absurd of
+term_under problem variable_count objects count below Any of = absurd of
 
 closed_term : (problem : Problem) (t : Term) → IsTermOf problem 0 t → substitute [] t ≡ t
 closed_term problem (Obj n) of = refl
@@ -66,14 +66,14 @@ fills-instance problem partial full objects form fills = subst (IsInstanceOf pro
   count = length-map partial.inst.args (substitute (object_terms objects)) ∙ form.count;
   objects =
       All-map (IsTermOf problem 0) (substitute (object_terms objects)) partial.inst.args
-      (λ k d below. term_under problem partial.vars objects fills.count fills.below _ (form.terms k d below));
+      (λ k d below. term_under problem partial.variable_count objects fills.count fills.below _ (form.terms k d below));
 })
 
 -- ---- what it needs
 
 -- what a partial instance needs, under the objects, is what the full one needs
 module _ (problem : Problem) (valid : IsValid problem) (partial : PartialInstance) (form : IsPartialInstance problem partial)
-    (objects : List ℕ) (count : length objects ≡ partial.vars) (below : All (λ n. n < problem.objects) objects) where
+    (objects : List ℕ) (count : length objects ≡ partial.variable_count) (below : All (λ n. n < problem.objects) objects) where
   same_terms : (t : Term) → IsPlainBelow (length partial.inst.args) t
       → substitute (object_terms objects) (substitute partial.inst.args t)
       ≡ substitute [] (substitute (map (substitute (object_terms objects)) partial.inst.args) t)
@@ -81,7 +81,7 @@ module _ (problem : Problem) (valid : IsValid problem) (partial : PartialInstanc
   same_terms (Var v) plain =
       let there = get_or-map (substitute (object_terms objects)) partial.inst.args v Any Any plain in
       sym (ap (substitute []) there ∙ closed_term problem _
-      (term_under problem partial.vars objects count below _ (form.terms v Any plain)))
+      (term_under problem partial.variable_count objects count below _ (form.terms v Any plain)))
   same_terms Any plain = absurd plain
 
   same_literal : (atom : Atom) → All (IsPlainBelow (length partial.inst.args)) atom.args
@@ -106,29 +106,29 @@ module _ (problem : Problem) (valid : IsValid problem) (partial : PartialInstanc
 
 -- what a partial instance needs are atoms of the problem over its variables
 pub needs-are : (problem : Problem) (partial : PartialInstance) → IsValid problem → IsPartialInstance problem partial
-    → All (IsAtomOf problem partial.vars) (precondition problem partial.inst)
+    → All (IsAtomOf problem partial.variable_count) (precondition problem partial.inst)
 needs-are problem partial valid form =
     let pre : All (IsAtomOf problem (length partial.inst.args)) (schema_of problem partial.inst).pre =
     subst (λ (n : ℕ). All (IsAtomOf problem n) (schema_of problem partial.inst).pre) (sym form.count)
     (valid.schemas partial.inst.op form.op).pre in
-    All-map (IsAtomOf problem partial.vars) (substitute_atom partial.inst.args) (schema_of problem partial.inst).pre
-    (λ k d below. atom_in problem partial.vars partial.inst.args form.terms _ (pre k d below))
+    All-map (IsAtomOf problem partial.variable_count) (substitute_atom partial.inst.args) (schema_of problem partial.inst).pre
+    (λ k d below. atom_in problem partial.variable_count partial.inst.args form.terms _ (pre k d below))
 
 -- a partial instance without variables stands for itself alone
-pub stands-closed : (problem : Problem) (partial : PartialInstance) (full : OpInst) → IsPartialInstance problem partial → partial.vars ≡ 0
+pub stands-closed : (problem : Problem) (partial : PartialInstance) (full : OpInst) → IsPartialInstance problem partial → partial.variable_count ≡ 0
     → StandsFor problem partial full → partial.inst ≡ full
 stands-closed problem partial full form none stands = (λ i. record { op = partial.inst.op; args = closed_args i }) ∙ stands.1.same
   where
-    closed_at : (t : Term) → IsTermOf problem partial.vars t → t ≡ substitute (object_terms stands.0) t
+    closed_at : (t : Term) → IsTermOf problem partial.variable_count t → t ≡ substitute (object_terms stands.0) t
     closed_at (Obj n) of = refl
     closed_at (Var v) of = absurd (omega (arith, of, none))
     closed_at Any of = absurd of
 
-    closed_all : (ts : List Term) → All (IsTermOf problem partial.vars) ts → ts ≡ map (substitute (object_terms stands.0)) ts
+    closed_all : (ts : List Term) → All (IsTermOf problem partial.variable_count) ts → ts ≡ map (substitute (object_terms stands.0)) ts
     closed_all [] all = refl
     closed_all (t ∷ ts) all =
-        λ i. closed_at t (All-head (IsTermOf problem partial.vars) t ts all) i
-        ∷ closed_all ts (All-tail (IsTermOf problem partial.vars) t ts all) i
+        λ i. closed_at t (All-head (IsTermOf problem partial.variable_count) t ts all) i
+        ∷ closed_all ts (All-tail (IsTermOf problem partial.variable_count) t ts all) i
 
     closed_args : partial.inst.args ≡ map (substitute (object_terms stands.0)) partial.inst.args
     closed_args = closed_all partial.inst.args form.terms
@@ -139,16 +139,16 @@ three_ways : (k v : ℕ) → (k < v) ⊎ ((k ≡ v) ⊎ (v < k))
 three_ways k v = grind arith
 
 module _ (partial next : PartialInstance) (terms : List Term) (variable object : ℕ)
-    (inst : next.inst ≡ substitute_instance terms partial.inst) (vars : next.vars + 1 ≡ partial.vars) (within : variable < partial.vars)
-    (are : (k : ℕ) → k < partial.vars → IsRenamed variable object k (slice_index_or terms k Any)) where
-  renamed_of : (problem : Problem) → object < problem.objects → (t : Term) → IsTermOf problem partial.vars t
-      → IsTermOf problem next.vars (substitute terms t)
+    (inst : next.inst ≡ substitute_instance terms partial.inst) (variable_count : next.variable_count + 1 ≡ partial.variable_count) (within : variable < partial.variable_count)
+    (are : (k : ℕ) → k < partial.variable_count → IsRenamed variable object k (slice_index_or terms k Any)) where
+  renamed_of : (problem : Problem) → object < problem.objects → (t : Term) → IsTermOf problem partial.variable_count t
+      → IsTermOf problem next.variable_count (substitute terms t)
   renamed_of problem is_object (Obj n) of = of
   renamed_of problem is_object (Var k) of = elim (three_ways k variable) [
-    | inl lower ↦ subst (IsTermOf problem next.vars) (sym ((are k of).below lower)) (omega (arith, lower, within, vars))
+    | inl lower ↦ subst (IsTermOf problem next.variable_count) (sym ((are k of).below lower)) (omega (arith, lower, within, variable_count))
     | inr rest ↦ elim rest [
-      | inl same ↦ subst (IsTermOf problem next.vars) (sym ((are k of).here same)) is_object
-      | inr higher ↦ subst (IsTermOf problem next.vars) (sym ((are k of).above higher)) (omega (arith, of, higher, vars))
+      | inl same ↦ subst (IsTermOf problem next.variable_count) (sym ((are k of).here same)) is_object
+      | inr higher ↦ subst (IsTermOf problem next.variable_count) (sym ((are k of).above higher)) (omega (arith, of, higher, variable_count))
     ]
   ]
   renamed_of problem is_object Any of = absurd of
@@ -163,18 +163,18 @@ module _ (partial next : PartialInstance) (terms : List Term) (variable object :
             ap length args ∙ length-map partial.inst.args (substitute terms) ∙ form.count
             ∙ ap (λ (i : OpInst). (schema_of problem i).params) (sym inst);
         terms =
-            subst (All (IsTermOf problem next.vars)) (sym args)
-            (All-map (IsTermOf problem next.vars) (substitute terms) partial.inst.args
+            subst (All (IsTermOf problem next.variable_count)) (sym args)
+            (All-map (IsTermOf problem next.variable_count) (substitute terms) partial.inst.args
             (λ k d below. renamed_of problem is_object _ (form.terms k d below)));
-        few = omega (arith, form.few, vars);
+        few = omega (arith, form.few, variable_count);
         objects = λ some. omega (arith, is_object);
       }
 
-  module _ (objects : List ℕ) (count : length objects ≡ partial.vars) (is : slice_index objects variable ≡ object) where
+  module _ (objects : List ℕ) (count : length objects ≡ partial.variable_count) (is : slice_index objects variable ≡ object) where
     shorter : length (remove objects variable) + 1 ≡ length objects
     shorter = length-remove objects variable (omega (arith, within, count))
 
-    renamed_under : (k : ℕ) → k < partial.vars
+    renamed_under : (k : ℕ) → k < partial.variable_count
         → substitute (object_terms (remove objects variable)) (slice_index_or terms k Any) ≡ slice_index_or (object_terms objects) k Any
     renamed_under k below = elim (three_ways k variable) [
       | inl lower ↦
@@ -197,18 +197,18 @@ module _ (partial next : PartialInstance) (terms : List Term) (variable object :
       ]
     ]
 
-    under_bound : (t : Term) → IsVariableBelow partial.vars t
+    under_bound : (t : Term) → IsVariableBelow partial.variable_count t
         → substitute (object_terms (remove objects variable)) (substitute terms t) ≡ substitute (object_terms objects) t
     under_bound (Obj n) of = refl
     under_bound (Var k) of = renamed_under k of
     under_bound Any of = refl
 
-  pub bound-fills : All (IsVariableBelow partial.vars) partial.inst.args → (problem : Problem) (full : OpInst) (objects : List ℕ)
+  pub bound-fills : All (IsVariableBelow partial.variable_count) partial.inst.args → (problem : Problem) (full : OpInst) (objects : List ℕ)
       → Fills problem partial full objects → slice_index objects variable ≡ object → StandsFor problem next full
   bound-fills variables problem full objects fills is = (
     remove objects variable,
     record {
-      count = omega (arith, shorter objects fills.count is, fills.count, vars);
+      count = omega (arith, shorter objects fills.count is, fills.count, variable_count);
       below =
           All-append (λ n. n < problem.objects) _ _ (All-take (λ n. n < problem.objects) variable objects fills.below)
           (All-drop (λ n. n < problem.objects) (suc variable) objects fills.below);
@@ -216,25 +216,25 @@ module _ (partial next : PartialInstance) (terms : List Term) (variable object :
           ap (substitute_instance (object_terms (remove objects variable))) inst
           ∙ ap (λ (l : List Term). record { op = partial.inst.op; args = l })
           (same_maps (substitute (object_terms (remove objects variable))) (substitute terms) (substitute (object_terms objects))
-          (IsVariableBelow partial.vars) (under_bound objects fills.count is) partial.inst.args variables)
+          (IsVariableBelow partial.variable_count) (under_bound objects fills.count is) partial.inst.args variables)
           ∙ fills.same;
     },
   )
 
   -- what fills the next one fills this one with the object at the place of the variable
-  pub bound-only : All (IsVariableBelow partial.vars) partial.inst.args → (problem : Problem) (full : OpInst) (objects : List ℕ)
+  pub bound-only : All (IsVariableBelow partial.variable_count) partial.inst.args → (problem : Problem) (full : OpInst) (objects : List ℕ)
       → object < problem.objects → Fills problem next full objects
       → Fills problem partial full (insert objects variable object) × (slice_index (insert objects variable object) variable ≡ object)
   bound-only variables problem full objects is_object fills =
-      let within_objects : variable ≤ length objects = omega (arith, within, vars, fills.count) in
-      let whole : length (insert objects variable object) ≡ partial.vars =
-      omega (arith, length-insert objects variable object within_objects, vars, fills.count) in
+      let within_objects : variable ≤ length objects = omega (arith, within, variable_count, fills.count) in
+      let whole : length (insert objects variable object) ≡ partial.variable_count =
+      omega (arith, length-insert objects variable object within_objects, variable_count, fills.count) in
       let here : slice_index (insert objects variable object) variable ≡ object =
       get_or-insert_at objects variable object 0 within_objects in
       let under : map (substitute (object_terms (remove (insert objects variable object) variable)))
       (map (substitute terms) partial.inst.args) ≡ map (substitute (object_terms (insert objects variable object))) partial.inst.args
       = same_maps (substitute (object_terms (remove (insert objects variable object) variable))) (substitute terms)
-      (substitute (object_terms (insert objects variable object))) (IsVariableBelow partial.vars)
+      (substitute (object_terms (insert objects variable object))) (IsVariableBelow partial.variable_count)
       (under_bound (insert objects variable object) whole here) partial.inst.args variables in (
         record {
           count = whole;
@@ -278,7 +278,7 @@ object_again problem Any of = absurd of
 -- an instance over objects is the partial one with its objects
 pub unbound-fills : (problem : Problem) (inst full : OpInst) (params : ℕ) → inst.args ≡ take params eight → params ≤ 8 → full.op ≡ inst.op
     → length full.args ≡ params → All (IsTermOf problem 0) full.args
-    → Fills problem (record { inst = inst; vars = params }) full (map object_of full.args)
+    → Fills problem (record { inst = inst; variable_count = params }) full (map object_of full.args)
 unbound-fills problem inst full params args few op count objects = record {
   count = length-map full.args object_of ∙ count;
   below = All-map (λ n. n < problem.objects) object_of full.args (λ k d below. object_below problem _ (objects k d below));

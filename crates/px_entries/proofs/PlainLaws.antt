@@ -287,7 +287,7 @@ module _ (problem : Problem) (facts : List Atom) (apart : ¬ AxiomsMentionAddabl
 module _ (problem : Problem) (valid : IsValid problem) (facts formula : List Atom) (of : All (IsAtomOf problem 0) formula)
     (apart : ¬ AxiomsMentionAddable problem) where
   abbrev needed : Obligation
-  needed = record { formula = formula; vars = 0; facts = facts }
+  needed = record { formula = formula; variable_count = 0; facts = facts }
 
   abbrev here : Setting
   here = setting_of problem facts

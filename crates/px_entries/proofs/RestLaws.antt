@@ -277,29 +277,29 @@ module _ (problem : Problem) (facts : List Atom) (objects : List ℕ) where
 
 -- ---- the lists of a formula of the problem
 
-module _ (problem : Problem) (valid : IsValid problem) (facts formula : List Atom) (vars : ℕ) (of : All (IsAtomOf problem vars) formula)
+module _ (problem : Problem) (valid : IsValid problem) (facts formula : List Atom) (variable_count : ℕ) (of : All (IsAtomOf problem variable_count) formula)
     (rest : List Atom) (is : IsRest problem formula rest) where
   abbrev s : Setting
   s = setting_of problem facts
 
-  ground-under : (objects : List ℕ) → length objects ≡ vars → All (λ n. n < problem.objects) objects
+  ground-under : (objects : List ℕ) → length objects ≡ variable_count → All (λ n. n < problem.objects) objects
       → AreGround problem facts objects formula
   ground-under objects count below = All-each (λ (atom : Atom). IsGround (substitute_atom (object_terms objects) atom)) formula (λ atom has.
-      let own : IsAtomOf problem vars atom = All-at (IsAtomOf problem vars) formula atom of has in
+      let own : IsAtomOf problem variable_count atom = All-at (IsAtomOf problem variable_count) formula atom of has in
       atom_of-is_ground problem (substitute_atom (object_terms objects) atom)
       (atom-is_of problem (object_terms objects) (object_terms-are problem objects below) atom
-      (subst (λ (n : ℕ). IsAtomOf problem n atom) (sym (length-objects objects vars count)) own)))
+      (subst (λ (n : ℕ). IsAtomOf problem n atom) (sym (length-objects objects variable_count count)) own)))
 
-  pub list-more : (objects : List ℕ) (ds : Derivations) → IsList (gaps_in s) s rest vars objects ds
-      → (es : Derivations) × IsList (gaps_in s) s formula vars objects es
+  pub list-more : (objects : List ℕ) (ds : Derivations) → IsList (gaps_in s) s rest variable_count objects ds
+      → (es : Derivations) × IsList (gaps_in s) s formula variable_count objects es
   list-more objects ds list =
       let made =
       gaps-more problem facts objects formula rest is
       (ground-under objects list.count list.below) problem.height valid.height.0 ds list.proved list.low in
       (made.0, record { count = list.count; below = list.below; proved = made.1; low = made.2 })
 
-  pub list-less : (rules : Rules) (objects : List ℕ) (es : Derivations) → IsList rules s formula vars objects es
-      → (ds : Derivations) × IsList rules s rest vars objects ds
+  pub list-less : (rules : Rules) (objects : List ℕ) (es : Derivations) → IsList rules s formula variable_count objects es
+      → (ds : Derivations) × IsList rules s rest variable_count objects ds
       × ((atom : Atom) → Contains (all_gaps_of es) atom → IsFreeGround problem atom ⊎ Contains (all_gaps_of ds) atom)
   list-less rules objects es list =
       let less = dropped problem facts objects rules formula rest is (ground-under objects list.count list.below) es list.proved in
@@ -307,9 +307,9 @@ module _ (problem : Problem) (valid : IsValid problem) (facts formula : List Ato
 
   -- proofs of the rest make proofs of the whole, or it has none under these objects
   pub list-or-none : (objects : List ℕ)
-      → ((ds : Derivations) → IsList (proofs_in s) s rest vars objects ds
-      → (es : Derivations) × IsList (proofs_in s) s formula vars objects es)
-      ⊎ ((es : Derivations) → ¬ IsList (proofs_in s) s formula vars objects es)
+      → ((ds : Derivations) → IsList (proofs_in s) s rest variable_count objects ds
+      → (es : Derivations) × IsList (proofs_in s) s formula variable_count objects es)
+      ⊎ ((es : Derivations) → ¬ IsList (proofs_in s) s formula variable_count objects es)
   list-or-none objects = elim (more-or-none problem facts objects formula rest is problem.height valid.height.0) [
     | inl more ↦ inl (λ ds list. let made = more ds list.proved list.low in
         (made.0, record { count = list.count; below = list.below; proved = made.1; low = made.2 }))

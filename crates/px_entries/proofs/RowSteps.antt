@@ -146,7 +146,7 @@ module _ (problem : Problem) (table : Table) (sigma : List ℕ) (steps : List Op
   none-asked facts same = record { done = []; known_done = nothing-needed problem; whole = rw same refl }
 
   abbrev needed_at : ℕ → List Atom → Obligation
-  needed_at count facts = record { formula = initial_atoms table sigma (suc count); vars = 0; facts = facts }
+  needed_at count facts = record { formula = initial_atoms table sigma (suc count); variable_count = 0; facts = facts }
 
   abbrev left_by : OpInst → List Atom → List Atom
   left_by step facts = filter (λ atom. not (deletes problem step atom)) facts

@@ -17,7 +17,7 @@ use Rattle.px_gaps.specs.declared.question.Obligation.{Obligation}
 abbrev pub row_obligations : Problem → Table → List ℕ → List Atom → ℕ → List OpInst → List Obligation
 row_obligations problem table sigma facts row [] = []
 row_obligations problem table sigma facts row (step ∷ steps) =
-    record { formula = initial_atoms table sigma row; vars = 0; facts = facts }
+    record { formula = initial_atoms table sigma row; variable_count = 0; facts = facts }
     ∷ row_obligations problem table sigma (filter (λ atom. not (deletes problem step atom)) facts) (suc row) steps
 
 -- a filter by one test and then by another
@@ -48,7 +48,7 @@ module _ (problem : Problem) (table : Table) (sigma : List ℕ) (model : List At
       or-false false = refl
 
   abbrev needed : List OpInst → ℕ → Obligation
-  needed steps row = record { formula = initial_atoms table sigma row; vars = 0; facts = left_after problem (take (row - 1) steps) model }
+  needed steps row = record { formula = initial_atoms table sigma row; variable_count = 0; facts = left_after problem (take (row - 1) steps) model }
 
   -- the rows after some first steps
   rows-after : (first rest all : List OpInst) (row : ℕ) → first ++ rest ≡ all → row ≡ suc (length first)
@@ -58,15 +58,15 @@ module _ (problem : Problem) (table : Table) (sigma : List ℕ) (model : List At
       let count : row - 1 ≡ length first = omega (arith, at) in
       let before : take (row - 1) all ≡ first =
       ap (λ n. take n all) count ∙ ap (take (length first)) (sym is) ∙ take-append_seam first (step ∷ rest) in
-      let here : needed all row ≡ record { formula = initial_atoms table sigma row; vars = 0; facts = left_after problem first model } =
-      ap (λ (l : List OpInst). record { formula = initial_atoms table sigma row; vars = 0; facts = left_after problem l model }) before in
+      let here : needed all row ≡ record { formula = initial_atoms table sigma row; variable_count = 0; facts = left_after problem first model } =
+      ap (λ (l : List OpInst). record { formula = initial_atoms table sigma row; variable_count = 0; facts = left_after problem l model }) before in
       let later =
       rows-after (first ++ step ∷ []) rest all (suc row) (append_assoc first (step ∷ []) rest ∙ is)
       (omega (arith, at, length-append first (step ∷ []))) in
       let number : row + 1 ≡ suc row = omega arith in
       ap (λ (n : ℕ). needed all row ∷ map (needed all) (range_with_len n (length rest))) number
       ∙ ap (λ (o : Obligation). o ∷ map (needed all) (range_with_len (suc row) (length rest))) here
-      ∙ ap (λ (l : List Obligation). record { formula = initial_atoms table sigma row; vars = 0; facts = left_after problem first model }
+      ∙ ap (λ (l : List Obligation). record { formula = initial_atoms table sigma row; variable_count = 0; facts = left_after problem first model }
       ∷ l)
       (later ∙ ap (λ (facts : List Atom). row_obligations problem table sigma facts (suc row) rest) (left_after-next first step))
 

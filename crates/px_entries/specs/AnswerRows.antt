@@ -30,8 +30,8 @@ pub record AnswersSupport : Type 0 where
       → IsList (proofs_in (setting_of problem facts)) (setting_of problem facts) formula 0 objects (derivations ds)
       → AllZip HasOtherLeaves ds row
       → ProvesEachOf IsObject problem.axioms formula row × AreOfProblem problem (row ∷ [])
-  pub goal : (problem : Problem) (facts formula : List Atom) (vars : ℕ) (objects : List ℕ) (ds row : List Derivation) → IsValid problem
-      → All (IsAtomOf problem vars) formula
-      → IsList (proofs_in (setting_of problem facts)) (setting_of problem facts) formula vars objects (derivations ds)
+  pub goal : (problem : Problem) (facts formula : List Atom) (variable_count : ℕ) (objects : List ℕ) (ds row : List Derivation) → IsValid problem
+      → All (IsAtomOf problem variable_count) formula
+      → IsList (proofs_in (setting_of problem facts)) (setting_of problem facts) formula variable_count objects (derivations ds)
       → AllZip HasOtherLeaves ds row
-      → ProvesGoal IsObject problem.axioms 0 formula vars row × AreOfProblem problem (row ∷ [])
+      → ProvesGoal IsObject problem.axioms 0 formula variable_count row × AreOfProblem problem (row ∷ [])

@@ -42,13 +42,13 @@ left_after problem steps model = filter (λ atom. not (list_any (λ step. delete
 -- for each of the steps, counted from 1: the atoms of its row, from what the steps before it leave of the model
 abbrev pub row_needs : Problem → Table → List ℕ → List Atom → List OpInst → List Obligation
 row_needs problem table sigma model steps =
-    map (λ row. record { formula = initial_atoms table sigma row; vars = 0; facts = left_after problem (take (row - 1) steps) model })
+    map (λ row. record { formula = initial_atoms table sigma row; variable_count = 0; facts = left_after problem (take (row - 1) steps) model })
     (range_with_len 1 (length steps))
 
 -- what the entry needs: an operator its precondition, proved from the model; a MACROP for each of its steps the row's atoms, proved
 -- from what is left of the model
 abbrev pub obligations_of : Problem → List Table → List Atom → Entry → List Obligation
-obligations_of problem tables model (Op inst) = record { formula = precondition problem inst; vars = 0; facts = model } ∷ []
+obligations_of problem tables model (Op inst) = record { formula = precondition problem inst; variable_count = 0; facts = model } ∷ []
 obligations_of problem tables model (Macro number prefix sigma) =
     row_needs problem (table_at tables number) sigma model (effect_of tables (Macro number prefix sigma))
 

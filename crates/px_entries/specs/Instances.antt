@@ -16,13 +16,13 @@ use Rattle.px_entries.specs.declared.partial.PartialInstance.{PartialInstance}
 pub record IsPartialInstance (problem : Problem) (partial : PartialInstance) : Type 0 where
   pub op : partial.inst.op < length problem.schemas
   pub count : length partial.inst.args ≡ (schema_of problem partial.inst).params
-  pub terms : All (IsTermOf problem partial.vars) partial.inst.args
-  pub few : partial.vars ≤ most_parameters
-  pub objects : 0 < partial.vars → 0 < problem.objects
+  pub terms : All (IsTermOf problem partial.variable_count) partial.inst.args
+  pub few : partial.variable_count ≤ most_parameters
+  pub objects : 0 < partial.variable_count → 0 < problem.objects
 
 -- the objects are the problem's, one for each variable, and with them the partial instance is the other one
 pub record Fills (problem : Problem) (partial : PartialInstance) (full : OpInst) (objects : List ℕ) : Type 0 where
-  pub count : length objects ≡ partial.vars
+  pub count : length objects ≡ partial.variable_count
   pub below : All (λ n. n < problem.objects) objects
   pub same : substitute_instance (object_terms objects) partial.inst ≡ full
 

@@ -30,7 +30,7 @@ fn known_row(
 ) -> Result<Known, NoMemory>
     requires problem { IsValid problem.now }
     requires formula { All (IsAtomOf problem.now 0) formula.now }
-    ensures { IfOk result (IsKnownOf problem.now (record { formula = formula.now; vars = 0; facts = facts.now.atoms } ∷ [])) }
+    ensures { IfOk result (IsKnownOf problem.now (record { formula = formula.now; variable_count = 0; facts = facts.now.atoms } ∷ [])) }
 {
     match try_formula(alloc, problem, formula, 0, facts) {
         Ok(Tried::Answered) => Ok(Known::Applicable),

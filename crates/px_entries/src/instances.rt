@@ -38,7 +38,7 @@ pub fn unbound_instance(problem: &Problem, schema: &Schema) -> PartialInstance
     match OpInst::new(schema.op, &VARIABLES[..schema.params as usize]) {
         Some(inst) => PartialInstance {
             inst,
-            vars: schema.params,
+            variable_count: schema.params,
         },
         None => unreachable!(),
     }
@@ -60,10 +60,10 @@ fn renamed_term(variable: u32, object: u32, k: u32) -> Term
 /// Returns the instance with the object for the variable. The variables after it are numbered one less, so that no number is left
 /// out.
 pub fn bound_instance(partial: &PartialInstance, variable: u32, object: u32) -> PartialInstance
-    requires few { partial.now.vars ≤ most_parameters }
-    requires terms { All (IsVariableBelow partial.now.vars) partial.now.inst.args }
-    requires variable { variable < partial.now.vars }
-    ensures vars { result.vars + 1 ≡ partial.now.vars }
+    requires few { partial.now.variable_count ≤ most_parameters }
+    requires terms { All (IsVariableBelow partial.now.variable_count) partial.now.inst.args }
+    requires variable { variable < partial.now.variable_count }
+    ensures variable_count { result.variable_count + 1 ≡ partial.now.variable_count }
     ensures count { length result.inst.args ≡ length partial.now.inst.args }
     ensures form { (problem : Problem) → IsPartialInstance problem partial.now → object < problem.objects
         → IsPartialInstance problem result }
@@ -73,12 +73,12 @@ pub fn bound_instance(partial: &PartialInstance, variable: u32, object: u32) -> 
         × Fills problem partial.now full objects × (slice_index objects variable ≡ object) }
 {
     let mut terms = [Term::Any; MOST_PARAMETERS];
-    for k in 0..partial.vars {
+    for k in 0..partial.variable_count {
         terms[k as usize] = renamed_term(variable, object, k);
     }
     PartialInstance {
-        inst: apply_inst(&terms[..partial.vars as usize], &partial.inst),
-        vars: partial.vars - 1,
+        inst: apply_inst(&terms[..partial.variable_count as usize], &partial.inst),
+        variable_count: partial.variable_count - 1,
     }
 }
 

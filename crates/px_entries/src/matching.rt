@@ -25,7 +25,7 @@ fn with_object(
     wanted: Term,
 ) -> Option<PartialInstance>
     requires partial { IsPartialInstance problem.now partial.now }
-    requires variable { variable < partial.now.vars }
+    requires variable { variable < partial.now.variable_count }
     ensures form { IfSome result (IsPartialInstance problem.now) }
     ensures count { IfSome result (λ next. length next.inst.args ≡ length partial.now.inst.args) }
     ensures stands { (full : OpInst) (objects : List ℕ) → Fills problem.now partial.now full objects
@@ -54,7 +54,7 @@ fn with_known(
     wanted: Term,
 ) -> Option<PartialInstance>
     requires partial { IsPartialInstance problem.now partial.now }
-    requires known { IsVariableBelow partial.now.vars known }
+    requires known { IsVariableBelow partial.now.variable_count known }
     ensures form { IfSome result (IsPartialInstance problem.now) }
     ensures count { IfSome result (λ next. length next.inst.args ≡ length partial.now.inst.args) }
     ensures stands { (full : OpInst) (objects : List ℕ) → Fills problem.now partial.now full objects

@@ -7,5 +7,5 @@ pub struct PartialInstance {
     /// The instance, over objects and the variables.
     pub inst: OpInst,
     /// How many variables there are.
-    pub vars: u32,
+    pub variable_count: u32,
 }

@@ -145,8 +145,8 @@ fn known_settled(
     requires formula { All (IsAtomOf problem.now 0) formula.now }
     requires apart { ¬ AxiomsMentionAddable problem.now }
     requires settled { All (IsSettled problem.now model.now.atoms) formula.now }
-    requires unlimited { AreUnlimited problem.now (record { formula = formula.now; vars = 0; facts = model.now.atoms } ∷ []) }
-    ensures { IfOk result (IsKnownOf problem.now (record { formula = formula.now; vars = 0; facts = model.now.atoms } ∷ [])) }
+    requires unlimited { AreUnlimited problem.now (record { formula = formula.now; variable_count = 0; facts = model.now.atoms } ∷ []) }
+    ensures { IfOk result (IsKnownOf problem.now (record { formula = formula.now; variable_count = 0; facts = model.now.atoms } ∷ [])) }
 {
     let absent = absent_of(alloc, problem, formula, model)?;
     let gaps = absent.atoms();
@@ -166,9 +166,9 @@ fn known_plain(
     requires problem { IsValid problem.now }
     requires formula { All (IsAtomOf problem.now 0) formula.now }
     requires apart { ¬ AxiomsMentionAddable problem.now }
-    requires unlimited { AreUnlimited problem.now (record { formula = formula.now; vars = 0; facts = model.now.atoms } ∷ []) }
+    requires unlimited { AreUnlimited problem.now (record { formula = formula.now; variable_count = 0; facts = model.now.atoms } ∷ []) }
     ensures { IfOk result (λ found. IfSome found (IsKnownOf problem.now
-        (record { formula = formula.now; vars = 0; facts = model.now.atoms } ∷ []))) }
+        (record { formula = formula.now; variable_count = 0; facts = model.now.atoms } ∷ []))) }
 {
     match are_settled(alloc, problem, formula, model)? {
         Some(true) => Ok(Some(known_settled(alloc, problem, formula, model)?)),

@@ -9,8 +9,8 @@ use Rattle.px_gaps.specs.declared.question.Question.TheVariants.{FindingGaps, Pr
 
 pub unlimited-below : (problem : Problem) (needs : List Obligation) → AreUnlimited problem needs → AreBelow problem needs
 unlimited-below problem needs unlimited (Proving needed) asks =
-    questions-are_decided.below (setting_of problem needed.facts) needed.formula needed.vars
+    questions-are_decided.below (setting_of problem needed.facts) needed.formula needed.variable_count
     (λ shapes met. unlimited (Proving needed) needed.formula shapes asks (refl, met))
 unlimited-below problem needs unlimited (FindingGaps needed) asks =
-    questions-are_decided.gaps_below (setting_of problem needed.facts) needed.formula needed.vars
+    questions-are_decided.gaps_below (setting_of problem needed.facts) needed.formula needed.variable_count
     (λ kept shapes met. unlimited (FindingGaps needed) kept shapes asks met)

@@ -85,7 +85,7 @@ of_use-other table pred clause place lit within here differs = record {
 
 pub of_use-horn : (table : List (Option Bound)) (pred : ℕ) (clause : Clause) (place : ℕ) (lit : Lit) (bound : Bound)
     → place < length clause.lits → lit ≡ get_or clause.lits place lit
-    → ((v : ℕ) → v < clause.vars → Contains lit.atom.args (Var v)) → All (λ (l : Lit). l.positive ≡ false) (remove clause.lits place)
+    → ((v : ℕ) → v < clause.variable_count → Contains lit.atom.args (Var v)) → All (λ (l : Lit). l.positive ≡ false) (remove clause.lits place)
     → IsBoundBy table (preds_of (remove clause.lits place)) bound
     → IsBoundOfUse table pred clause place bound
 of_use-horn table pred clause place lit bound within here told denied of_parts = record {
@@ -96,11 +96,11 @@ of_use-horn table pred clause place lit bound within here told denied of_parts =
 
 -- ---- the places of an axiom, and the axioms
 
-pub clause-at : (axioms : List Clause) (number vars : ℕ) (lits : List Lit) (d : Clause) → number < length axioms
-    → vars ≡ (get_or axioms number d).vars → lits ≡ (get_or axioms number d).lits
-    → slice_get axioms number ≡ Some (record { vars = vars; lits = lits })
-clause-at axioms number vars lits d within many are =
-    let same : get_or axioms number d ≡ record { vars = vars; lits = lits } = λ i. record { vars = sym many i; lits = sym are i } in
+pub clause-at : (axioms : List Clause) (number variable_count : ℕ) (lits : List Lit) (d : Clause) → number < length axioms
+    → variable_count ≡ (get_or axioms number d).variable_count → lits ≡ (get_or axioms number d).lits
+    → slice_get axioms number ≡ Some (record { variable_count = variable_count; lits = lits })
+clause-at axioms number variable_count lits d within many are =
+    let same : get_or axioms number d ≡ record { variable_count = variable_count; lits = lits } = λ i. record { variable_count = sym many i; lits = sym are i } in
     slice_get-read axioms number d within ∙ ap (λ (c : Clause). Some c) same
 
 pub places-init : (problem : Problem) (table : List (Option Bound)) (pred number : ℕ)

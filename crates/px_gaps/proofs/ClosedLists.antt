@@ -14,25 +14,25 @@ use Rattle.px_terms.specs.declared.atom.Atom.{Atom}
 use Rattle.px_terms.specs.declared.term.Term.{Term}
 
 -- each list has the atoms of a gap list, and the atoms of each gap list are those of a list
-pub record AreClosedLists (s : Setting) (formula : List Atom) (vars : ℕ) (lists : List GapList) : Type 0 where
-  pub from : (list : GapList) → Contains lists list → (objects : List ℕ) × IsGapList s formula vars objects list.gaps
-  pub each : (objects : List ℕ) (gaps : List Atom) → IsGapList s formula vars objects gaps → IsAtomSet gaps
+pub record AreClosedLists (s : Setting) (formula : List Atom) (variable_count : ℕ) (lists : List GapList) : Type 0 where
+  pub from : (list : GapList) → Contains lists list → (objects : List ℕ) × IsGapList s formula variable_count objects list.gaps
+  pub each : (objects : List ℕ) (gaps : List Atom) → IsGapList s formula variable_count objects gaps → IsAtomSet gaps
       → (list : GapList) × Contains lists list × (list.gaps ≡ gaps)
 
-module _ (s : Setting) (formula : List Atom) (vars : ℕ) where
-  pub all-closed : (lists : List GapList) → AreGapLists s formula vars lists → AreClosedLists s formula vars lists
+module _ (s : Setting) (formula : List Atom) (variable_count : ℕ) where
+  pub all-closed : (lists : List GapList) → AreGapLists s formula variable_count lists → AreClosedLists s formula variable_count lists
   all-closed lists are = record {
     from = λ list has. (list.objects, ((are.members list).0 has).0);
     each = λ objects gaps is is_set.
         let list : GapList = record { objects = objects; gaps = gaps } in (list, (are.members list).1 (is, is_set), refl);
   }
 
-  pub patterns-closed : (patterns : List GapPattern) → AreGapPatterns s formula vars patterns
-      → AreClosedLists s formula vars (lists_of s.objects patterns)
-  patterns-closed patterns are = all-closed (lists_of s.objects patterns) (patterns-are s formula vars patterns are)
+  pub patterns-closed : (patterns : List GapPattern) → AreGapPatterns s formula variable_count patterns
+      → AreClosedLists s formula variable_count (lists_of s.objects patterns)
+  patterns-closed patterns are = all-closed (lists_of s.objects patterns) (patterns-are s formula variable_count patterns are)
 
-  pub closings-closed : (closings : List GapPattern) → AreGapClosings s formula vars closings
-      → AreClosedLists s formula vars (lists_of s.objects closings)
+  pub closings-closed : (closings : List GapPattern) → AreGapClosings s formula variable_count closings
+      → AreClosedLists s formula variable_count (lists_of s.objects closings)
   closings-closed closings are = record {
     from = λ list has.
         let one = lists-from s.objects closings list has in
@@ -50,7 +50,7 @@ module _ (s : Setting) (formula : List Atom) (vars : ℕ) where
             same = under-members pattern values;
           },
         ) in
-        (is.0, subst (λ (l : GapList). IsGapList s formula vars is.0 l.gaps) one.2.2 is.1);
+        (is.0, subst (λ (l : GapList). IsGapList s formula variable_count is.0 l.gaps) one.2.2 is.1);
     each = λ objects gaps is is_set.
         let offered = (are.exact gaps).0 (objects, is) in
         let list : GapList = record { objects = []; gaps = gaps } in (

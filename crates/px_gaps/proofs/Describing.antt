@@ -39,28 +39,28 @@ use Rattle.px_table.specs.KernelLaws.{Contains-from_map}
 
 -- ---- variables for which no object is chosen
 
-pub unbound-binding : (limit vars : ℕ) (terms : List Term) → AreUnbound vars terms → (0 < vars → 0 < limit) → IsBinding limit terms
-unbound-binding limit vars terms are some = record {
+pub unbound-binding : (limit variable_count : ℕ) (terms : List Term) → AreUnbound variable_count terms → (0 < variable_count → 0 < limit) → IsBinding limit terms
+unbound-binding limit variable_count terms are some = record {
   each = λ v t at. subst (IsSlot limit v) (sym (are.each v t at)) refl;
   some_object = λ one. some (omega (arith, one, are.count));
 }
 
-pub chosen-extends : (limit vars : ℕ) (terms : List Term) (values : List ℕ) → AreUnbound vars terms → AreChosen limit vars values
+pub chosen-extends : (limit variable_count : ℕ) (terms : List Term) (values : List ℕ) → AreUnbound variable_count terms → AreChosen limit variable_count values
     → ExtendsTerms limit terms values
-chosen-extends limit vars terms values are chosen = record {
+chosen-extends limit variable_count terms values are chosen = record {
   count = chosen.count ∙ sym are.count;
   below = chosen.below;
   same = λ v n at. absurd (let never : Obj n ≡ Var v = are.each v (Obj n) at in cc);
 }
 
 -- with none chosen, the values are any
-pub unbound-open : {X : Type 0} (limit vars : ℕ) (terms : List Term) (atoms taken : List Atom) (made : List ℕ → X) (x : X)
-    → AreUnbound vars terms → IsOpenAs limit terms atoms taken made x
-    ↔ ((values : List ℕ) × AreChosen limit vars values × (¬ Any (Contains taken) (map (substitute_atom (object_terms values)) atoms))
+pub unbound-open : {X : Type 0} (limit variable_count : ℕ) (terms : List Term) (atoms taken : List Atom) (made : List ℕ → X) (x : X)
+    → AreUnbound variable_count terms → IsOpenAs limit terms atoms taken made x
+    ↔ ((values : List ℕ) × AreChosen limit variable_count values × (¬ Any (Contains taken) (map (substitute_atom (object_terms values)) atoms))
     × (made values ≡ x))
-unbound-open limit vars terms atoms taken made x are = (
+unbound-open limit variable_count terms atoms taken made x are = (
   λ is. (is.0, record { count = is.1.extends.count ∙ are.count; below = is.1.extends.below }, is.1.avoids, is.2),
-  λ is. (is.0, record { extends = chosen-extends limit vars terms is.0 are is.1; avoids = is.2 }, is.3),
+  λ is. (is.0, record { extends = chosen-extends limit variable_count terms is.0 are is.1; avoids = is.2 }, is.3),
 )
 
 -- ---- the patterns' lists
@@ -83,7 +83,7 @@ closed-under pattern values target atom has same =
 -- and what is in a list comes from there
 closed-from : (limit : ℕ) (patterns : List GapPattern) (list : GapList) (atom : Atom) → Contains (lists_of limit patterns) list
     → Contains list.gaps atom
-    → (pattern : GapPattern) × (values : List ℕ) × (target : Atom) × Contains patterns pattern × AreChosen limit pattern.vars values
+    → (pattern : GapPattern) × (values : List ℕ) × (target : Atom) × Contains patterns pattern × AreChosen limit pattern.variable_count values
     × (list_under pattern values ≡ list) × Contains pattern.atoms target × (substitute_atom (object_terms values) target ≡ atom)
 closed-from limit patterns list atom listed closes =
     let from = lists-from limit patterns list listed in
@@ -174,51 +174,51 @@ abbrev pub AreForms : List GapPattern → List Atom → Type 0
 AreForms patterns forms =
     (form : Atom) → Contains forms form ↔ OneOf patterns (λ (pattern : GapPattern). OneOf pattern.atoms (λ atom. form_by atom ≡ form))
 
-pub answer-listed : (s : Setting) (formula : List Atom) (vars : ℕ) (patterns : List GapPattern) (provable : List Atom)
-    → IsGapAnswer s formula vars patterns provable → AreListed s formula vars (lists_of s.objects patterns)
-answer-listed s formula vars patterns provable is = record { all = patterns-are s formula vars patterns is.all; few = is.few }
+pub answer-listed : (s : Setting) (formula : List Atom) (variable_count : ℕ) (patterns : List GapPattern) (provable : List Atom)
+    → IsGapAnswer s formula variable_count patterns provable → AreListed s formula variable_count (lists_of s.objects patterns)
+answer-listed s formula variable_count patterns provable is = record { all = patterns-are s formula variable_count patterns is.all; few = is.few }
 
 zeros-below : (limit n : ℕ) → (0 < n → 0 < limit) → All (λ m. m < limit) (replicate n 0)
 zeros-below limit zero some k d within = absurd (omega (arith, within))
 zeros-below limit (suc n) some zero d within = some (omega arith)
 zeros-below limit (suc n) some (suc k) d within = zeros-below limit n (λ one. some (omega arith)) k d (omega (arith, within))
 
-term-of : (problem : Problem) (vars : ℕ) (values : List ℕ) (t : Term) → IsVariableBelow vars t
-    → IsTermOf problem 0 (substitute (object_terms values) t) → IsTermOf problem vars t
-term-of problem vars values (Obj n) below of = of
-term-of problem vars values (Var v) below of = below
-term-of problem vars values Wild below of = absurd of
+term-of : (problem : Problem) (variable_count : ℕ) (values : List ℕ) (t : Term) → IsVariableBelow variable_count t
+    → IsTermOf problem 0 (substitute (object_terms values) t) → IsTermOf problem variable_count t
+term-of problem variable_count values (Obj n) below of = of
+term-of problem variable_count values (Var v) below of = below
+term-of problem variable_count values Wild below of = absurd of
 
-terms-of : (problem : Problem) (vars : ℕ) (values : List ℕ) (ts : List Term) → All (IsVariableBelow vars) ts
-    → All (IsTermOf problem 0) (map (substitute (object_terms values)) ts) → All (IsTermOf problem vars) ts
-terms-of problem vars values [] below of k d within = absurd (omega (arith, within))
-terms-of problem vars values (t ∷ ts) below of zero d within =
-    term-of problem vars values t (below 0 t (omega arith)) (of 0 t (omega arith))
-terms-of problem vars values (t ∷ ts) below of (suc k) d within =
-    terms-of problem vars values ts (λ i e inside. below (suc i) e (omega (arith, inside)))
+terms-of : (problem : Problem) (variable_count : ℕ) (values : List ℕ) (ts : List Term) → All (IsVariableBelow variable_count) ts
+    → All (IsTermOf problem 0) (map (substitute (object_terms values)) ts) → All (IsTermOf problem variable_count) ts
+terms-of problem variable_count values [] below of k d within = absurd (omega (arith, within))
+terms-of problem variable_count values (t ∷ ts) below of zero d within =
+    term-of problem variable_count values t (below 0 t (omega arith)) (of 0 t (omega arith))
+terms-of problem variable_count values (t ∷ ts) below of (suc k) d within =
+    terms-of problem variable_count values ts (λ i e inside. below (suc i) e (omega (arith, inside)))
     (λ i e inside. of (suc i) e (omega (arith, inside))) k d (omega (arith, within))
 
-plain-of : (problem : Problem) (vars : ℕ) (t : Term) → IsTermOf problem vars t → IsPlainBelow vars t
-plain-of problem vars (Obj n) of = tt
-plain-of problem vars (Var v) of = of
-plain-of problem vars Wild of = absurd of
+plain-of : (problem : Problem) (variable_count : ℕ) (t : Term) → IsTermOf problem variable_count t → IsPlainBelow variable_count t
+plain-of problem variable_count (Obj n) of = tt
+plain-of problem variable_count (Var v) of = of
+plain-of problem variable_count Wild of = absurd of
 
-pub atom-plain : (problem : Problem) (vars : ℕ) (atom : Atom) → IsAtomOf problem vars atom → IsPlain vars atom
-atom-plain problem vars atom of k d within = plain-of problem vars _ (of.1 k d within)
+pub atom-plain : (problem : Problem) (variable_count : ℕ) (atom : Atom) → IsAtomOf problem variable_count atom → IsPlain variable_count atom
+atom-plain problem variable_count atom of k d within = plain-of problem variable_count _ (of.1 k d within)
 
 -- patterns with some terms of a formula of the problem close atoms of the problem
-module _ (problem : Problem) (valid : IsValid problem) (facts formula : List Atom) (vars : ℕ) (of : All (IsAtomOf problem vars) formula)
+module _ (problem : Problem) (valid : IsValid problem) (facts formula : List Atom) (variable_count : ℕ) (of : All (IsAtomOf problem variable_count) formula)
     (patterns : List GapPattern) (kept : ℕ) (made : All (IsPattern problem.objects kept) patterns)
-    (are : AreClosedLists (setting_of problem facts) formula vars (lists_of problem.objects patterns)) where
+    (are : AreClosedLists (setting_of problem facts) formula variable_count (lists_of problem.objects patterns)) where
   kept-of : (pattern : GapPattern) → Contains patterns pattern → (atom : Atom) → Contains pattern.atoms atom
-      → IsAtomOf problem pattern.vars atom
+      → IsAtomOf problem pattern.variable_count atom
   kept-of pattern has atom inside =
       let form : IsPattern problem.objects kept pattern = All-at (IsPattern problem.objects kept) patterns pattern made has in
-      let values = replicate pattern.vars 0 in
-      let chosen : AreChosen problem.objects pattern.vars values =
-      record { count = length-replicate {A = ℕ} pattern.vars 0; below = zeros-below problem.objects pattern.vars form.some_object } in
+      let values = replicate pattern.variable_count 0 in
+      let chosen : AreChosen problem.objects pattern.variable_count values =
+      record { count = length-replicate {A = ℕ} pattern.variable_count 0; below = zeros-below problem.objects pattern.variable_count form.some_object } in
       let known =
-      listed-are problem valid facts formula vars (lists_of problem.objects patterns) of are (list_under pattern values)
+      listed-are problem valid facts formula variable_count (lists_of problem.objects patterns) of are (list_under pattern values)
       (lists-have problem.objects patterns pattern values has chosen) in
       let there : Contains (list_under pattern values).gaps (substitute_atom (object_terms values) atom) =
       (under-members pattern values (substitute_atom (object_terms values) atom)).1
@@ -226,16 +226,16 @@ module _ (problem : Problem) (valid : IsValid problem) (facts formula : List Ato
       let here : IsAtomOf problem 0 (substitute_atom (object_terms values) atom) =
       All-at (IsAtomOf problem 0) (list_under pattern values).gaps (substitute_atom (object_terms values) atom) known there in (
         (here.0.0, sym (length-map atom.args (substitute (object_terms values))) ∙ here.0.1),
-        terms-of problem pattern.vars values atom.args
-            (All-at (λ (a : Atom). All (IsVariableBelow pattern.vars) a.args) pattern.atoms atom form.atoms_below inside) here.1,
+        terms-of problem pattern.variable_count values atom.args
+            (All-at (λ (a : Atom). All (IsVariableBelow pattern.variable_count) a.args) pattern.atoms atom form.atoms_below inside) here.1,
       )
 
   pub kept-plain : All (IsPlainPattern problem.objects) patterns
   kept-plain = All-each (IsPlainPattern problem.objects) patterns (λ pattern has.
       let form : IsPattern problem.objects kept pattern = All-at (IsPattern problem.objects kept) patterns pattern made has in record {
         atoms_plain =
-            All-each (IsPlain pattern.vars) pattern.atoms
-            (λ atom inside. atom-plain problem pattern.vars atom (kept-of pattern has atom inside));
+            All-each (IsPlain pattern.variable_count) pattern.atoms
+            (λ atom inside. atom-plain problem pattern.variable_count atom (kept-of pattern has atom inside));
         terms_below = form.terms_below;
         some_object = form.some_object;
       })
@@ -247,7 +247,7 @@ module _ (problem : Problem) (valid : IsValid problem) (facts formula : List Ato
         let one = (forms_are form).0 has in
         let pattern = one.0 in
         let is : IsPattern problem.objects kept pattern = All-at (IsPattern problem.objects kept) patterns pattern made one.1 in
-        subst (IsForm problem) one.2.2 (form-is problem pattern.vars one.2.0 (kept-of pattern one.1 one.2.0 one.2.1) is.some_object))
+        subst (IsForm problem) one.2.2 (form-is problem pattern.variable_count one.2.0 (kept-of pattern one.1 one.2.0 one.2.1) is.some_object))
 
     pub kept-closed : (q : Atom) → IsStoodFor problem.objects forms q ↔ IsClosedIn (lists_of problem.objects patterns) q
     kept-closed q = (
@@ -255,7 +255,7 @@ module _ (problem : Problem) (valid : IsValid problem) (facts formula : List Ato
           let one = (forms_are stood.0).0 stood.1 in
           let pattern = one.0 in
           let is : IsPattern problem.objects kept pattern = All-at (IsPattern problem.objects kept) patterns pattern made one.1 in
-          let same = form-same problem pattern.vars one.2.0 (kept-of pattern one.1 one.2.0 one.2.1) is.some_object q in
+          let same = form-same problem pattern.variable_count one.2.0 (kept-of pattern one.1 one.2.0 one.2.1) is.some_object q in
           (closed-by problem.objects patterns q).0 (
             pattern,
             one.1,
@@ -266,7 +266,7 @@ module _ (problem : Problem) (valid : IsValid problem) (facts formula : List Ato
           let pattern = one.0 in
           let atom = one.2.0 in
           let is : IsPattern problem.objects kept pattern = All-at (IsPattern problem.objects kept) patterns pattern made one.1 in
-          let same = form-same problem pattern.vars atom (kept-of pattern one.1 atom one.2.1) is.some_object q in
+          let same = form-same problem pattern.variable_count atom (kept-of pattern one.1 atom one.2.1) is.some_object q in
           (form_by atom, (forms_are (form_by atom)).1 (pattern, one.1, (atom, one.2.1, refl)), same.0 one.2.2),
     )
 
@@ -284,9 +284,9 @@ module _ (problem : Problem) (valid : IsValid problem) (facts formula : List Ato
 
     pub kept-limit : (shapes_kept : List Atom) (shapes : List (List Tick))
         → LimitsOne (setting_of problem facts) (IsStoodFor problem.objects forms) shapes_kept shapes
-        → MeetsGapLimit (setting_of problem facts) formula vars shapes_kept shapes
+        → MeetsGapLimit (setting_of problem facts) formula variable_count shapes_kept shapes
     kept-limit shapes_kept shapes one =
-        atom_limited (setting_of problem facts) formula vars (lists_of problem.objects patterns) are shapes_kept shapes
+        atom_limited (setting_of problem facts) formula variable_count (lists_of problem.objects patterns) are shapes_kept shapes
         (one.0, (kept-closed one.0).0 one.1, one.2, one.3)
 
   -- what is provable of what they close are ground atoms
@@ -295,79 +295,79 @@ module _ (problem : Problem) (valid : IsValid problem) (facts formula : List Ato
   kept-ground provable provable_are = All-each IsGround provable (λ atom has.
       let closed = ((provable_are atom).0 has).0 in
       atom_of-is_ground problem atom (All-at (IsAtomOf problem 0) closed.0.gaps atom
-      (listed-are problem valid facts formula vars (lists_of problem.objects patterns) of are closed.0 closed.1) closed.2))
+      (listed-are problem valid facts formula variable_count (lists_of problem.objects patterns) of are closed.0 closed.1) closed.2))
 
 -- the patterns of the formula
-module _ (problem : Problem) (valid : IsValid problem) (facts formula : List Atom) (vars : ℕ) (of : All (IsAtomOf problem vars) formula)
-    (patterns : List GapPattern) (are : AreGapPatterns (setting_of problem facts) formula vars patterns) where
-  closed : AreClosedLists (setting_of problem facts) formula vars (lists_of problem.objects patterns)
-  closed = patterns-closed (setting_of problem facts) formula vars patterns are
+module _ (problem : Problem) (valid : IsValid problem) (facts formula : List Atom) (variable_count : ℕ) (of : All (IsAtomOf problem variable_count) formula)
+    (patterns : List GapPattern) (are : AreGapPatterns (setting_of problem facts) formula variable_count patterns) where
+  closed : AreClosedLists (setting_of problem facts) formula variable_count (lists_of problem.objects patterns)
+  closed = patterns-closed (setting_of problem facts) formula variable_count patterns are
 
   pub patterns-plain : All (IsPlainPattern problem.objects) patterns
-  patterns-plain = kept-plain problem valid facts formula vars of patterns vars are.form closed
+  patterns-plain = kept-plain problem valid facts formula variable_count of patterns variable_count are.form closed
 
   module _ (forms : List Atom) (forms_are : AreForms patterns forms) where
     pub forms-are : All (IsForm problem) forms
-    forms-are = kept-forms problem valid facts formula vars of patterns vars are.form closed forms forms_are
+    forms-are = kept-forms problem valid facts formula variable_count of patterns variable_count are.form closed forms forms_are
 
     pub forms-closed : (q : Atom) → IsStoodFor problem.objects forms q ↔ IsClosedIn (lists_of problem.objects patterns) q
-    forms-closed = kept-closed problem valid facts formula vars of patterns vars are.form closed forms forms_are
+    forms-closed = kept-closed problem valid facts formula variable_count of patterns variable_count are.form closed forms forms_are
 
     -- what is found of the forms is the answer to the question of gaps
-    pub answer-of : AreFewGapShapes (setting_of problem facts) formula vars → (provable : List Atom)
+    pub answer-of : AreFewGapShapes (setting_of problem facts) formula variable_count → (provable : List Atom)
         → FindsProvable (setting_of problem facts) (IsStoodFor problem.objects forms) [] provable
-        → IsGapAnswer (setting_of problem facts) formula vars patterns provable
+        → IsGapAnswer (setting_of problem facts) formula variable_count patterns provable
     answer-of few provable finds = record {
       all = are;
       few = few;
-      provable_are = kept-provable problem valid facts formula vars of patterns vars are.form closed forms forms_are provable finds;
+      provable_are = kept-provable problem valid facts formula variable_count of patterns variable_count are.form closed forms forms_are provable finds;
       unlimited = λ atom shapes is_closed. finds.unlimited atom shapes ((forms-closed atom).1 is_closed);
     }
 
     pub limit-of : (kept : List Atom) (shapes : List (List Tick))
         → LimitsOne (setting_of problem facts) (IsStoodFor problem.objects forms) kept shapes
-        → MeetsGapLimit (setting_of problem facts) formula vars kept shapes
-    limit-of = kept-limit problem valid facts formula vars of patterns vars are.form closed forms forms_are
+        → MeetsGapLimit (setting_of problem facts) formula variable_count kept shapes
+    limit-of = kept-limit problem valid facts formula variable_count of patterns variable_count are.form closed forms forms_are
 
-pub provable-ground : (problem : Problem) (valid : IsValid problem) (facts formula : List Atom) (vars : ℕ)
-    (of : All (IsAtomOf problem vars) formula) (patterns : List GapPattern) (provable : List Atom)
-    → IsGapAnswer (setting_of problem facts) formula vars patterns provable → All IsGround provable
-provable-ground problem valid facts formula vars of patterns provable is =
-    kept-ground problem valid facts formula vars of patterns vars is.all.form
-    (patterns-closed (setting_of problem facts) formula vars patterns is.all) provable is.provable_are
+pub provable-ground : (problem : Problem) (valid : IsValid problem) (facts formula : List Atom) (variable_count : ℕ)
+    (of : All (IsAtomOf problem variable_count) formula) (patterns : List GapPattern) (provable : List Atom)
+    → IsGapAnswer (setting_of problem facts) formula variable_count patterns provable → All IsGround provable
+provable-ground problem valid facts formula variable_count of patterns provable is =
+    kept-ground problem valid facts formula variable_count of patterns variable_count is.all.form
+    (patterns-closed (setting_of problem facts) formula variable_count patterns is.all) provable is.provable_are
 
 -- what its gaps close together, whatever the objects
-module _ (problem : Problem) (valid : IsValid problem) (facts formula : List Atom) (vars : ℕ) (of : All (IsAtomOf problem vars) formula)
-    (closings : List GapPattern) (are : AreGapClosings (setting_of problem facts) formula vars closings) where
-  lists_are : AreClosedLists (setting_of problem facts) formula vars (lists_of problem.objects closings)
-  lists_are = closings-closed (setting_of problem facts) formula vars closings are
+module _ (problem : Problem) (valid : IsValid problem) (facts formula : List Atom) (variable_count : ℕ) (of : All (IsAtomOf problem variable_count) formula)
+    (closings : List GapPattern) (are : AreGapClosings (setting_of problem facts) formula variable_count closings) where
+  lists_are : AreClosedLists (setting_of problem facts) formula variable_count (lists_of problem.objects closings)
+  lists_are = closings-closed (setting_of problem facts) formula variable_count closings are
 
   pub closings-plain : All (IsPlainPattern problem.objects) closings
-  closings-plain = kept-plain problem valid facts formula vars of closings 0 are.form lists_are
+  closings-plain = kept-plain problem valid facts formula variable_count of closings 0 are.form lists_are
 
   module _ (forms : List Atom) (forms_are : AreForms closings forms) where
     pub closings-forms : All (IsForm problem) forms
-    closings-forms = kept-forms problem valid facts formula vars of closings 0 are.form lists_are forms forms_are
+    closings-forms = kept-forms problem valid facts formula variable_count of closings 0 are.form lists_are forms forms_are
 
-    pub closings-answer : AreFewGapShapes (setting_of problem facts) formula vars → (provable : List Atom)
+    pub closings-answer : AreFewGapShapes (setting_of problem facts) formula variable_count → (provable : List Atom)
         → FindsProvable (setting_of problem facts) (IsStoodFor problem.objects forms) [] provable
-        → IsClosingAnswer (setting_of problem facts) formula vars closings provable
+        → IsClosingAnswer (setting_of problem facts) formula variable_count closings provable
     closings-answer few provable finds = record {
       all = are;
       few = few;
-      provable_are = kept-provable problem valid facts formula vars of closings 0 are.form lists_are forms forms_are provable finds;
+      provable_are = kept-provable problem valid facts formula variable_count of closings 0 are.form lists_are forms forms_are provable finds;
       unlimited = λ atom shapes is_closed. finds.unlimited atom shapes
-          ((kept-closed problem valid facts formula vars of closings 0 are.form lists_are forms forms_are atom).1 is_closed);
+          ((kept-closed problem valid facts formula variable_count of closings 0 are.form lists_are forms forms_are atom).1 is_closed);
     }
 
     pub closings-limit : (kept : List Atom) (shapes : List (List Tick))
         → LimitsOne (setting_of problem facts) (IsStoodFor problem.objects forms) kept shapes
-        → MeetsGapLimit (setting_of problem facts) formula vars kept shapes
-    closings-limit = kept-limit problem valid facts formula vars of closings 0 are.form lists_are forms forms_are
+        → MeetsGapLimit (setting_of problem facts) formula variable_count kept shapes
+    closings-limit = kept-limit problem valid facts formula variable_count of closings 0 are.form lists_are forms forms_are
 
-  pub closings-ground : (provable : List Atom) → IsClosingAnswer (setting_of problem facts) formula vars closings provable
+  pub closings-ground : (provable : List Atom) → IsClosingAnswer (setting_of problem facts) formula variable_count closings provable
       → All IsGround provable
-  closings-ground provable is = kept-ground problem valid facts formula vars of closings 0 are.form lists_are provable is.provable_are
+  closings-ground provable is = kept-ground problem valid facts formula variable_count of closings 0 are.form lists_are provable is.provable_are
 
 -- ---- the loops
 
@@ -379,18 +379,18 @@ then-same new same = (
 
 -- the kinds of values that a target is reached by
 abbrev pub IsReached : ℕ → ℕ → List Atom → List Atom → Atom → Atom → Type 0
-IsReached limit vars atoms taken q target =
-    (values : List ℕ) × AreChosen limit vars values × (¬ Any (Contains taken) (map (substitute_atom (object_terms values)) atoms))
+IsReached limit variable_count atoms taken q target =
+    (values : List ℕ) × AreChosen limit variable_count values × (¬ Any (Contains taken) (map (substitute_atom (object_terms values)) atoms))
     × (substitute_atom (object_terms values) target ≡ q)
 
 -- one more of the pattern's atoms
-pub target-next : (limit vars : ℕ) (terms passed : List Term) (atoms taken targets : List Atom) (i : ℕ) (target q : Atom)
-    → AreUnbound vars terms → passed ≡ terms → i < length targets → target ≡ get_or targets i target → {Initial Old New : Type 0}
-    → Old ↔ (Initial ⊎ OneOf (take i targets) (IsReached limit vars atoms taken q)) → New
+pub target-next : (limit variable_count : ℕ) (terms passed : List Term) (atoms taken targets : List Atom) (i : ℕ) (target q : Atom)
+    → AreUnbound variable_count terms → passed ≡ terms → i < length targets → target ≡ get_or targets i target → {Initial Old New : Type 0}
+    → Old ↔ (Initial ⊎ OneOf (take i targets) (IsReached limit variable_count atoms taken q)) → New
     ↔ (Old ⊎ IsOpenInstance limit passed atoms taken target q)
-    → New ↔ (Initial ⊎ OneOf (take (i + 1) targets) (IsReached limit vars atoms taken q))
-target-next limit vars terms passed atoms taken targets i target q are is within read before here =
+    → New ↔ (Initial ⊎ OneOf (take (i + 1) targets) (IsReached limit variable_count atoms taken q))
+target-next limit variable_count terms passed atoms taken targets i target q are is within read before here =
     grown before
-    (then-same here (unbound-open limit vars passed atoms taken (λ values. substitute_atom (object_terms values) target) q
-    (subst (AreUnbound vars) (sym is) are)))
-    (grouped (one_next (IsReached limit vars atoms taken q) targets i target within read))
+    (then-same here (unbound-open limit variable_count passed atoms taken (λ values. substitute_atom (object_terms values) target) q
+    (subst (AreUnbound variable_count) (sym is) are)))
+    (grouped (one_next (IsReached limit variable_count atoms taken q) targets i target within read))

@@ -93,21 +93,21 @@ same-atom : (terms others : List Term) (atom : Atom)
 same-atom terms others atom same =
     let args = same-args terms others atom.args atom.args same in λ i. record { pred = atom.pred; args = args i }
 
-module _ (problem : Problem) (vars : ℕ) (atom : Atom) (of : IsAtomOf problem vars atom) where
-  arg-of : (t : Term) → Contains atom.args t → IsTermOf problem vars t
-  arg-of t has = subst (IsTermOf problem vars) has.2 (of.1 has.0 t has.1)
+module _ (problem : Problem) (variable_count : ℕ) (atom : Atom) (of : IsAtomOf problem variable_count atom) where
+  arg-of : (t : Term) → Contains atom.args t → IsTermOf problem variable_count t
+  arg-of t has = subst (IsTermOf problem variable_count) has.2 (of.1 has.0 t has.1)
 
   -- an atom with arguments is over objects
-  some-object : (0 < vars → 0 < problem.objects) → 0 < length atom.args → 0 < problem.objects
+  some-object : (0 < variable_count → 0 < problem.objects) → 0 < length atom.args → 0 < problem.objects
   some-object some long = go (get_or atom.args 0 Wild) (of.1 0 Wild long)
     where
-      go : (t : Term) → IsTermOf problem vars t → 0 < problem.objects
+      go : (t : Term) → IsTermOf problem variable_count t → 0 < problem.objects
       go (Obj n) is = omega (arith, is)
       go (Var v) is = some (omega (arith, is))
       go Wild is = absurd is
 
   -- the form is one of the problem
-  pub form-is : (0 < vars → 0 < problem.objects) → IsForm problem (form_by atom)
+  pub form-is : (0 < variable_count → 0 < problem.objects) → IsForm problem (form_by atom)
   form-is some = record {
     is_atom = (
       (of.0.0, long ∙ of.0.1),
@@ -145,37 +145,37 @@ module _ (problem : Problem) (vars : ℕ) (atom : Atom) (of : IsAtomOf problem v
   -- objects for the atom's variables, from those for the form's
   module _ (values : List ℕ) (chosen : AreChosen problem.objects (length (form_by atom).args) values) where
     abbrev back : List ℕ
-    back = chosen_from atom.args values 0 vars
+    back = chosen_from atom.args values 0 variable_count
 
     back-term : (t : Term) → Contains atom.args t
         → substitute (object_terms back) t ≡ substitute (object_terms values) (named_by atom.args t)
     back-term (Obj n) has = refl
     back-term (Var v) has =
-        let below : v < vars = arg-of (Var v) has in
+        let below : v < variable_count = arg-of (Var v) has in
         let within : place_in atom.args (Var v) < length values =
         omega (arith, place-within atom.args (Var v) has, chosen.count, length-map atom.args (named_by atom.args)) in
-        term-at back v (omega (arith, below, from-long atom.args values 0 vars))
-        ∙ ap (λ (n : ℕ). Obj n) (from-at atom.args values 0 vars v v below (omega arith))
+        term-at back v (omega (arith, below, from-long atom.args values 0 variable_count))
+        ∙ ap (λ (n : ℕ). Obj n) (from-at atom.args values 0 variable_count v v below (omega arith))
         ∙ sym (term-at values (place_in atom.args (Var v)) within)
     back-term Wild has = refl
 
     pub back-atom : substitute_atom (object_terms back) atom ≡ substitute_atom (object_terms values) (form_by atom)
     back-atom = same-atom (object_terms back) (object_terms values) atom back-term
 
-    pub back-chosen : (0 < vars → 0 < problem.objects) → AreChosen problem.objects vars back
-    back-chosen some = record { count = from-long atom.args values 0 vars; below = below vars refl }
+    pub back-chosen : (0 < variable_count → 0 < problem.objects) → AreChosen problem.objects variable_count back
+    back-chosen some = record { count = from-long atom.args values 0 variable_count; below = below variable_count refl }
       where
-        below : (n : ℕ) → n ≡ vars → All (λ m. m < problem.objects) (chosen_from atom.args values 0 n)
+        below : (n : ℕ) → n ≡ variable_count → All (λ m. m < problem.objects) (chosen_from atom.args values 0 n)
         below zero is k d within = absurd (omega (arith, within))
         below (suc n) is k d within =
             from-below problem.objects atom.args values 0 (suc n) (some (omega (arith, is))) chosen.below k d within
 
   -- objects for the form's variables, from those for the atom's
-  module _ (values : List ℕ) (chosen : AreChosen problem.objects vars values) where
+  module _ (values : List ℕ) (chosen : AreChosen problem.objects variable_count values) where
     abbrev forth : List ℕ
     forth = map (object_under values) atom.args
 
-    is_object : (t : Term) → IsTermOf problem vars t → substitute (object_terms values) t ≡ Obj (object_under values t)
+    is_object : (t : Term) → IsTermOf problem variable_count t → substitute (object_terms values) t ≡ Obj (object_under values t)
     is_object (Obj n) is = refl
     is_object (Var v) is = let at = term-at values v (omega (arith, is, chosen.count)) in at ∙ ap (λ (u : Term). Obj (object_of u)) (sym at)
     is_object Wild is = absurd is
@@ -195,7 +195,7 @@ module _ (problem : Problem) (vars : ℕ) (atom : Atom) (of : IsAtomOf problem v
     pub forth-atom : substitute_atom (object_terms values) atom ≡ substitute_atom (object_terms forth) (form_by atom)
     forth-atom = same-atom (object_terms values) (object_terms forth) atom forth-term
 
-    under-below : (t : Term) → IsTermOf problem vars t → object_under values t < problem.objects
+    under-below : (t : Term) → IsTermOf problem variable_count t → object_under values t < problem.objects
     under-below (Obj n) is = is
     under-below (Var v) is =
         subst (λ (n : ℕ). n < problem.objects) (sym
@@ -221,8 +221,8 @@ module _ (problem : Problem) (vars : ℕ) (atom : Atom) (of : IsAtomOf problem v
         below (t ∷ ts) inside (suc k) d within = below ts (λ u has. inside u (Contains-later t ts u has)) k d (omega (arith, within))
 
   -- an atom and its form have the same instances
-  pub form-same : (0 < vars → 0 < problem.objects) → (q : Atom)
-      → ((values : List ℕ) × AreChosen problem.objects vars values × (substitute_atom (object_terms values) atom ≡ q))
+  pub form-same : (0 < variable_count → 0 < problem.objects) → (q : Atom)
+      → ((values : List ℕ) × AreChosen problem.objects variable_count values × (substitute_atom (object_terms values) atom ≡ q))
       ↔ IsInstanceIn problem.objects (form_by atom) q
   form-same some q = (
     λ h. (forth h.0 h.1, forth-chosen h.0 h.1, sym (forth-atom h.0 h.1) ∙ h.2),

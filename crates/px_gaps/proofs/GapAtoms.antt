@@ -41,8 +41,8 @@ pub object_terms-are : (problem : Problem) (objects : List ℕ) → All (λ n. n
     → All (IsTermOf problem 0) (object_terms objects)
 object_terms-are problem objects below = All-map (IsTermOf problem 0) (λ n. Obj n) objects below
 
-pub length-objects : (objects : List ℕ) (vars : ℕ) → length objects ≡ vars → length (object_terms objects) ≡ vars
-length-objects objects vars count = length-map objects (λ n. Obj n) ∙ count
+pub length-objects : (objects : List ℕ) (variable_count : ℕ) → length objects ≡ variable_count → length (object_terms objects) ≡ variable_count
+length-objects objects variable_count count = length-map objects (λ n. Obj n) ∙ count
 
 module _ (problem : Problem) (valid : IsValid problem) (facts : List Atom) where
   parts-are : (path : List Lit) (lit : Lit) (number : ℕ) (theta : List Term) (place : ℕ) (clause : Clause)
@@ -83,21 +83,21 @@ module _ (problem : Problem) (valid : IsValid problem) (facts : List Atom) where
     gaps-are_of path [] (also d ds) atom each of has = absurd each
     gaps-are_of path (lit ∷ lits) none atom each of has = absurd each
 
-  pub literals-are : (formula : List Atom) (vars : ℕ) (objects : List ℕ) → All (IsAtomOf problem vars) formula → length objects ≡ vars
+  pub literals-are : (formula : List Atom) (variable_count : ℕ) (objects : List ℕ) → All (IsAtomOf problem variable_count) formula → length objects ≡ variable_count
       → All (λ n. n < problem.objects) objects → All (IsLiteralOf problem) (literals_of formula objects)
-  literals-are formula vars objects of count below =
-      let same : length (object_terms objects) ≡ vars = length-objects objects vars count in
+  literals-are formula variable_count objects of count below =
+      let same : length (object_terms objects) ≡ variable_count = length-objects objects variable_count count in
       All-map (IsLiteralOf problem) (λ atom. positive_of (substitute_atom (object_terms objects) atom)) formula
       (λ k d within. atom-is_of problem (object_terms objects) (object_terms-are problem objects below) _
       (subst (λ (n : ℕ). IsAtomOf problem n (slice_index_or formula k d)) (sym same) (of k d within)))
 
   -- what gaps of a formula of the problem close are atoms of the problem
-  pub listed-are : (formula : List Atom) (vars : ℕ) (lists : List GapList) → All (IsAtomOf problem vars) formula
-      → AreClosedLists (setting_of problem facts) formula vars lists
+  pub listed-are : (formula : List Atom) (variable_count : ℕ) (lists : List GapList) → All (IsAtomOf problem variable_count) formula
+      → AreClosedLists (setting_of problem facts) formula variable_count lists
       → (list : GapList) → Contains lists list → All (IsAtomOf problem 0) list.gaps
-  listed-are formula vars lists of are list has =
+  listed-are formula variable_count lists of are list has =
       let known = are.from list has in
       let proofs = known.1.1 in
       All-each (IsAtomOf problem 0) list.gaps (λ atom closed.
       gaps-are_of [] (literals_of formula known.0) known.1.0 atom proofs.proved
-      (literals-are formula vars known.0 of proofs.count proofs.below) ((known.1.2 atom).0 closed))
+      (literals-are formula variable_count known.0 of proofs.count proofs.below) ((known.1.2 atom).0 closed))

@@ -19,10 +19,10 @@ use Rattle.px_question.specs.Limits.{IsPartialShape}
 use Rattle.px_proof.specs.declared.shape.Tick.{Tick}
 
 -- lists of derivations by other rules
-pub list_by : (s : Setting) (formula : List Atom) (vars : ℕ) (objects : List ℕ) (ds : Derivations) (old new : Rules)
+pub list_by : (s : Setting) (formula : List Atom) (variable_count : ℕ) (objects : List ℕ) (ds : Derivations) (old new : Rules)
     → AllowsBesideGaps old new → ((atom : Atom) → Contains (all_gaps_of ds) atom → old.IsGap atom → new.IsGap atom)
-    → IsList old s formula vars objects ds → IsList new s formula vars objects ds
-list_by s formula vars objects ds old new allows gaps list = record {
+    → IsList old s formula variable_count objects ds → IsList new s formula variable_count objects ds
+list_by s formula variable_count objects ds old new allows gaps list = record {
   count = list.count;
   below = list.below;
   proved = each_by_own_gaps s.axioms old new allows [] (literals_of formula objects) ds gaps list.proved;
@@ -30,22 +30,22 @@ list_by s formula vars objects ds old new allows gaps list = record {
 }
 
 -- an unfinished list of proofs is one of loose gap proofs
-pub partial-loose : (s : Setting) (formula : List Atom) (vars : ℕ) (shape : List Tick) → IsPartialShape (proofs_in s) s formula vars shape
-    → IsPartialShape (loose_gaps_in s) s formula vars shape
-partial-loose s formula vars shape partial = (
+pub partial-loose : (s : Setting) (formula : List Atom) (variable_count : ℕ) (shape : List Tick) → IsPartialShape (proofs_in s) s formula variable_count shape
+    → IsPartialShape (loose_gaps_in s) s formula variable_count shape
+partial-loose s formula variable_count shape partial = (
   partial.0,
   (
     partial.1.0,
     partial.1.1,
-    list_by s formula vars partial.1.0 partial.1.1 (or_open (proofs_in s)) (or_open (loose_gaps_in s))
+    list_by s formula variable_count partial.1.0 partial.1.1 (or_open (proofs_in s)) (or_open (loose_gaps_in s))
         (record { choices = λ t h. h; facts = λ leaf h. h; opens = λ h. h }) (λ atom has h. absurd h) partial.1.2,
     partial.1.3,
   ),
 )
 
-pub gaps_allowed : (s : Setting) (formula : List Atom) (vars : ℕ) (objects : List ℕ) (ds : Derivations) (rules : Rules) (atom : Atom)
-    → IsList rules s formula vars objects ds → Contains (all_gaps_of ds) atom → rules.IsGap atom
-gaps_allowed s formula vars objects ds rules atom list has =
+pub gaps_allowed : (s : Setting) (formula : List Atom) (variable_count : ℕ) (objects : List ℕ) (ds : Derivations) (rules : Rules) (atom : Atom)
+    → IsList rules s formula variable_count objects ds → Contains (all_gaps_of ds) atom → rules.IsGap atom
+gaps_allowed s formula variable_count objects ds rules atom list has =
     each_gap_allowed rules s.axioms [] (literals_of formula objects) ds atom list.proved has
 
 no_members : (atoms : List Atom) → ((atom : Atom) → ¬ Contains atoms atom) → atoms ≡ []
@@ -63,20 +63,20 @@ pub list_of-members : (objects : List ℕ) (ds : Derivations) (atom : Atom) → 
     ↔ Contains (all_gaps_of ds) atom
 list_of-members objects ds atom = set_of-members atom_cmp atom_cmp-total atom_cmp-same (all_gaps_of ds) atom
 
-module _ (s : Setting) (formula : List Atom) (vars : ℕ) (lists : List GapList) (are : AreGapLists s formula vars lists) where
+module _ (s : Setting) (formula : List Atom) (variable_count : ℕ) (lists : List GapList) (are : AreGapLists s formula variable_count lists) where
   -- each list of loose gap proofs has its gap list among them
-  pub loose_listed : (objects : List ℕ) (ds : Derivations) → IsList (loose_gaps_in s) s formula vars objects ds
+  pub loose_listed : (objects : List ℕ) (ds : Derivations) → IsList (loose_gaps_in s) s formula variable_count objects ds
       → Contains lists (list_of objects ds)
   loose_listed objects ds list = (are.members (list_of objects ds)).1 ((ds, list, list_of-members objects ds), list_of-set objects ds)
 
   -- an answer is a list without gaps
-  pub answer_listed : (objects : List ℕ) (ds : Derivations) → IsList (proofs_in s) s formula vars objects ds
+  pub answer_listed : (objects : List ℕ) (ds : Derivations) → IsList (proofs_in s) s formula variable_count objects ds
       → (list : GapList) × Contains lists list × (list.objects ≡ objects) × (list.gaps ≡ [])
   answer_listed objects ds list =
       let none : (atom : Atom) → ¬ Contains (all_gaps_of ds) atom =
-      λ atom has. gaps_allowed s formula vars objects ds (proofs_in s) atom list has in (
+      λ atom has. gaps_allowed s formula variable_count objects ds (proofs_in s) atom list has in (
         list_of objects ds,
-        loose_listed objects ds (list_by s formula vars objects ds (proofs_in s) (loose_gaps_in s)
+        loose_listed objects ds (list_by s formula variable_count objects ds (proofs_in s) (loose_gaps_in s)
             (record { choices = λ t h. h; facts = λ leaf h. h; opens = λ h. h }) (λ atom has h. absurd h) list),
         refl,
         no_members (list_of objects ds).gaps (λ atom has. none atom ((list_of-members objects ds atom).0 has)),
@@ -84,33 +84,33 @@ module _ (s : Setting) (formula : List Atom) (vars : ℕ) (lists : List GapList)
 
   -- and a list without gaps is one of an answer
   pub listed_answer : (list : GapList) → Contains lists list → list.gaps ≡ []
-      → (ds : Derivations) × IsList (proofs_in s) s formula vars list.objects ds
+      → (ds : Derivations) × IsList (proofs_in s) s formula variable_count list.objects ds
   listed_answer list has empty =
       let known = ((are.members list).0 has).0 in (
         known.0,
-        list_by s formula vars list.objects known.0 (loose_gaps_in s) (proofs_in s)
+        list_by s formula variable_count list.objects known.0 (loose_gaps_in s) (proofs_in s)
             (record { choices = λ t h. h; facts = λ leaf h. h; opens = λ h. h })
             (λ atom closed _. absurd (Contains-none atom (subst (λ (l : List Atom). Contains l atom) empty ((known.2 atom).1 closed))))
             known.1,
       )
 
   -- a list of gap proofs has its gap list among them, and no atom of it is provable
-  pub gap_listed : (objects : List ℕ) (ds : Derivations) → IsList (gaps_in s) s formula vars objects ds
+  pub gap_listed : (objects : List ℕ) (ds : Derivations) → IsList (gaps_in s) s formula variable_count objects ds
       → Contains lists (list_of objects ds) × ((atom : Atom) → Contains (list_of objects ds).gaps atom → ¬ IsProvable s atom)
   gap_listed objects ds list = (
-    loose_listed objects ds (list_by s formula vars objects ds (gaps_in s) (loose_gaps_in s)
+    loose_listed objects ds (list_by s formula variable_count objects ds (gaps_in s) (loose_gaps_in s)
         (record { choices = λ t h. h; facts = λ leaf h. h; opens = λ h. h }) (λ atom has h. h.0) list),
-    λ atom has. (gaps_allowed s formula vars objects ds (gaps_in s) atom list ((list_of-members objects ds atom).0 has)).1,
+    λ atom has. (gaps_allowed s formula variable_count objects ds (gaps_in s) atom list ((list_of-members objects ds atom).0 has)).1,
   )
 
   -- and a gap list of which no atom is provable is one of gap proofs
   pub listed_gap : (list : GapList) → Contains lists list → ((atom : Atom) → Contains list.gaps atom → ¬ IsProvable s atom)
-      → (ds : Derivations) × IsList (gaps_in s) s formula vars list.objects ds
+      → (ds : Derivations) × IsList (gaps_in s) s formula variable_count list.objects ds
       × ((atom : Atom) → Contains list.gaps atom → Contains (all_gaps_of ds) atom)
   listed_gap list has none =
       let known = ((are.members list).0 has).0 in (
         known.0,
-        list_by s formula vars list.objects known.0 (loose_gaps_in s) (gaps_in s)
+        list_by s formula variable_count list.objects known.0 (loose_gaps_in s) (gaps_in s)
             (record { choices = λ t h. h; facts = λ leaf h. h; opens = λ h. h })
             (λ atom closed h. (h, none atom ((known.2 atom).1 closed))) known.1,
         λ atom. (known.2 atom).0,
@@ -118,9 +118,9 @@ module _ (s : Setting) (formula : List Atom) (vars : ℕ) (lists : List GapList)
 
 -- ---- lists whose objects don't matter
 
-module _ (s : Setting) (formula : List Atom) (vars : ℕ) (lists : List GapList) (are : AreClosedLists s formula vars lists) where
+module _ (s : Setting) (formula : List Atom) (variable_count : ℕ) (lists : List GapList) (are : AreClosedLists s formula variable_count lists) where
   -- the atoms of a list of loose gap proofs are those of a list
-  closed_listed : (objects : List ℕ) (ds : Derivations) → IsList (loose_gaps_in s) s formula vars objects ds
+  closed_listed : (objects : List ℕ) (ds : Derivations) → IsList (loose_gaps_in s) s formula variable_count objects ds
       → (list : GapList) × Contains lists list × ((atom : Atom) → Contains list.gaps atom ↔ Contains (all_gaps_of ds) atom)
   closed_listed objects ds list =
       let found = are.each objects (list_of objects ds).gaps (ds, list, list_of-members objects ds) (list_of-set objects ds) in (
@@ -131,19 +131,19 @@ module _ (s : Setting) (formula : List Atom) (vars : ℕ) (lists : List GapList)
       )
 
   -- where the formula has no answer, its gaps are the atoms of the lists of which no atom is provable
-  pub gap_is : (atom : Atom) → (¬ IsAnswer s formula vars) → IsGapOf s formula vars atom
+  pub gap_is : (atom : Atom) → (¬ IsAnswer s formula variable_count) → IsGapOf s formula variable_count atom
       ↔ ((list : GapList) × Contains lists list × Contains list.gaps atom
       × ((other : Atom) → Contains list.gaps other → ¬ IsProvable s other))
   gap_is atom no_answer = (
     λ (none, (objects, ds, proofs, has)).
         let found =
         closed_listed objects ds
-        (list_by s formula vars objects ds (gaps_in s) (loose_gaps_in s)
+        (list_by s formula variable_count objects ds (gaps_in s) (loose_gaps_in s)
         (record { choices = λ t h. h; facts = λ leaf h. h; opens = λ h. h }) (λ atom has h. h.0) proofs) in (
           found.0,
           found.1,
           (found.2 atom).1 has,
-          λ other there. (gaps_allowed s formula vars objects ds (gaps_in s) other proofs ((found.2 other).0 there)).1,
+          λ other there. (gaps_allowed s formula variable_count objects ds (gaps_in s) other proofs ((found.2 other).0 there)).1,
         ),
     λ (list, has, there, none).
         let known = are.from list has in
@@ -152,7 +152,7 @@ module _ (s : Setting) (formula : List Atom) (vars : ℕ) (lists : List GapList)
           (
             known.0,
             ds,
-            list_by s formula vars known.0 ds (loose_gaps_in s) (gaps_in s)
+            list_by s formula variable_count known.0 ds (loose_gaps_in s) (gaps_in s)
                 (record { choices = λ t h. h; facts = λ leaf h. h; opens = λ h. h })
                 (λ atom closed h. (h, none atom ((known.1.2 atom).1 closed))) known.1.1,
             (known.1.2 atom).0 there,
@@ -161,7 +161,7 @@ module _ (s : Setting) (formula : List Atom) (vars : ℕ) (lists : List GapList)
   )
 
   -- an atom that a loose gap proof closes stands in one of them
-  pub closed_is : (atom : Atom) → IsLooseGap s formula vars atom ↔ ((list : GapList) × Contains lists list × Contains list.gaps atom)
+  pub closed_is : (atom : Atom) → IsLooseGap s formula variable_count atom ↔ ((list : GapList) × Contains lists list × Contains list.gaps atom)
   closed_is atom = (
     λ (objects, ds, proofs, has).
         let found = closed_listed objects ds proofs in (found.0, found.1, (found.2 atom).1 has),
@@ -169,6 +169,6 @@ module _ (s : Setting) (formula : List Atom) (vars : ℕ) (lists : List GapList)
         let known = are.from list has in (known.0, known.1.0, known.1.1, (known.1.2 atom).0 there),
   )
 
-pub loose_is : (s : Setting) (formula : List Atom) (vars : ℕ) (lists : List GapList) → AreGapLists s formula vars lists → (atom : Atom)
-    → IsLooseGap s formula vars atom ↔ ((list : GapList) × Contains lists list × Contains list.gaps atom)
-loose_is s formula vars lists are = closed_is s formula vars lists (all-closed s formula vars lists are)
+pub loose_is : (s : Setting) (formula : List Atom) (variable_count : ℕ) (lists : List GapList) → AreGapLists s formula variable_count lists → (atom : Atom)
+    → IsLooseGap s formula variable_count atom ↔ ((list : GapList) × Contains lists list × Contains list.gaps atom)
+loose_is s formula variable_count lists are = closed_is s formula variable_count lists (all-closed s formula variable_count lists are)

@@ -42,7 +42,7 @@ known-applicable problem needed answered =
 
 -- where the question to prove it meets the limit, that is tried
 pub tried-limited : (problem : Problem) (needed : Obligation) (limit : MetLimit) → limit.question ≡ Proving needed
-    → limit.formula ≡ needed.formula → IsLimited (setting_of problem needed.facts) needed.formula needed.vars limit.shapes
+    → limit.formula ≡ needed.formula → IsLimited (setting_of problem needed.facts) needed.formula needed.variable_count limit.shapes
     → IsTriedOf problem needed (tried.Limited limit)
 tried-limited problem needed limit is same met =
     (is, subst (λ (q : Question). MeetsLimit problem q limit.formula limit.shapes) (sym is) (same, met))
@@ -70,19 +70,19 @@ module _ (problem : Problem) (needed : Obligation) (no_answer : ¬ HasAnswer pro
 
   -- finding its gaps meets the limit
   pub known-limited : (limit : MetLimit) → limit.question ≡ FindingGaps needed
-      → MeetsGapLimit s needed.formula needed.vars limit.formula limit.shapes → IsKnownOf problem (needed ∷ []) (Limited limit)
+      → MeetsGapLimit s needed.formula needed.variable_count limit.formula limit.shapes → IsKnownOf problem (needed ∷ []) (Limited limit)
   known-limited limit is met = record {
     asked = any_one (IsAskedOf limit.question) needed (inr (no_answer, is));
     met = subst (λ (q : Question). MeetsLimit problem q limit.formula limit.shapes) (sym is) met;
   }
 
   module _ (gaps : List Atom) (exact : (atom : Atom) → Contains gaps atom ↔ HasGap problem needed atom)
-      (unlimited : (kept : List Atom) (shapes : List (List Tick)) → ¬ MeetsGapLimit s needed.formula needed.vars kept shapes)
-      (below : StaysBelowGapLimit s needed.formula needed.vars) where
+      (unlimited : (kept : List Atom) (shapes : List (List Tick)) → ¬ MeetsGapLimit s needed.formula needed.variable_count kept shapes)
+      (below : StaysBelowGapLimit s needed.formula needed.variable_count) where
     unlimited-one : AreUnlimited problem (needed ∷ [])
     unlimited-one question formula shapes asks met =
         elim (one_any (IsAskedOf question) needed asks) [
-          | inl is ↦ few_or_limited.proofs_with_gaps s needed.formula needed.vars shapes below.shapes
+          | inl is ↦ few_or_limited.proofs_with_gaps s needed.formula needed.variable_count shapes below.shapes
               (subst (λ (q : Question). MeetsLimit problem q formula shapes) is met).1
           | inr is ↦ unlimited formula shapes (subst (λ (q : Question). MeetsLimit problem q formula shapes) is.1 met)
         ]

@@ -30,10 +30,10 @@ use Rattle.px_gaps.proofs.Substituting.{term_variable}
 
 -- ---- atoms of the problem under a binding
 
-pub slot-of : (problem : Problem) (vars v : ℕ) (t : Term) → v < vars → IsSlot problem.objects v t → IsTermOf problem vars t
-slot-of problem vars v (Obj n) below slot = slot
-slot-of problem vars v (Var w) below slot = subst (λ (k : ℕ). k < vars) slot below
-slot-of problem vars v Wild below slot = absurd slot
+pub slot-of : (problem : Problem) (variable_count v : ℕ) (t : Term) → v < variable_count → IsSlot problem.objects v t → IsTermOf problem variable_count t
+slot-of problem variable_count v (Obj n) below slot = slot
+slot-of problem variable_count v (Var w) below slot = subst (λ (k : ℕ). k < variable_count) slot below
+slot-of problem variable_count v Wild below slot = absurd slot
 
 module _ (problem : Problem) (terms : List Term) (binding : IsBinding problem.objects terms) where
   bound-of : (t : Term) → IsTermOf problem (length terms) t → IsTermOf problem (length terms) (substitute terms t)
@@ -60,23 +60,23 @@ module _ (problem : Problem) (terms : List Term) (binding : IsBinding problem.ob
   here-of form of = ((of.0.0, length-map form.args (substitute terms) ∙ of.0.1), bounds-of form.args of.1)
 
 -- a ground atom is one over no variables
-pub ground-of : (problem : Problem) (vars : ℕ) (atom : Atom) → IsAtomOf problem vars atom → IsGround atom → IsAtomOf problem 0 atom
-ground-of problem vars atom of closed = (of.0, terms-of atom.args of.1 closed)
+pub ground-of : (problem : Problem) (variable_count : ℕ) (atom : Atom) → IsAtomOf problem variable_count atom → IsGround atom → IsAtomOf problem 0 atom
+ground-of problem variable_count atom of closed = (of.0, terms-of atom.args of.1 closed)
   where
-    term-of : (t : Term) → IsTermOf problem vars t → IsObject t → IsTermOf problem 0 t
+    term-of : (t : Term) → IsTermOf problem variable_count t → IsObject t → IsTermOf problem 0 t
     term-of (Obj n) is object = is
     term-of (Var v) is object = absurd object
     term-of Wild is object = absurd object
 
-    terms-of : (ts : List Term) → All (IsTermOf problem vars) ts → All IsObject ts → All (IsTermOf problem 0) ts
+    terms-of : (ts : List Term) → All (IsTermOf problem variable_count) ts → All IsObject ts → All (IsTermOf problem 0) ts
     terms-of [] are objects k d within = absurd (omega (arith, within))
     terms-of (t ∷ ts) are objects zero d within = term-of t (are 0 t (omega arith)) (objects 0 t (omega arith))
     terms-of (t ∷ ts) are objects (suc k) d within =
         terms-of ts (λ i e inside. are (suc i) e (omega (arith, inside))) (λ i e inside. objects (suc i) e (omega (arith, inside))) k d
         (omega (arith, within))
 
-pub atom-variables : (problem : Problem) (vars : ℕ) (atom : Atom) → IsAtomOf problem vars atom → All (IsVariableBelow vars) atom.args
-atom-variables problem vars atom of k d within = term_variable problem vars _ (of.1 k d within)
+pub atom-variables : (problem : Problem) (variable_count : ℕ) (atom : Atom) → IsAtomOf problem variable_count atom → All (IsVariableBelow variable_count) atom.args
+atom-variables problem variable_count atom of k d within = term_variable problem variable_count _ (of.1 k d within)
 
 -- ---- an instance has the proofs that the atom has under its objects
 
@@ -87,7 +87,7 @@ closed-args (Obj n ∷ ts) objects =
 closed-args (Var v ∷ ts) objects = absurd (objects 0 (Var v) (omega arith))
 closed-args (Wild ∷ ts) objects = absurd (objects 0 Wild (omega arith))
 
-module _ (s : Setting) (atom q : Atom) (vars : ℕ) (values : List ℕ) (chosen : AreChosen s.objects vars values)
+module _ (s : Setting) (atom q : Atom) (variable_count : ℕ) (values : List ℕ) (chosen : AreChosen s.objects variable_count values)
     (is : substitute_atom (object_terms values) atom ≡ q) (closed : IsGround q) where
   literals-same : literals_of (atom ∷ []) values ≡ literals_of (q ∷ []) []
   literals-same =
@@ -96,7 +96,7 @@ module _ (s : Setting) (atom q : Atom) (vars : ℕ) (values : List ℕ) (chosen 
       ap (λ (a : Atom). positive_of a ∷ []) (is ∙ sym same)
 
   list-over : (rules : Rules) (none : List ℕ) (ds : Derivations) → IsList rules s (q ∷ []) 0 none ds
-      → IsList rules s (atom ∷ []) vars values ds
+      → IsList rules s (atom ∷ []) variable_count values ds
   list-over rules none ds list = record {
     count = chosen.count;
     below = chosen.below;
@@ -106,17 +106,17 @@ module _ (s : Setting) (atom q : Atom) (vars : ℕ) (values : List ℕ) (chosen 
     low = list.low;
   }
 
-  shape-over : (shape : List Tick) → IsPartialShape (proofs_in s) s (q ∷ []) 0 shape → IsPartialShape (proofs_in s) s (atom ∷ []) vars shape
+  shape-over : (shape : List Tick) → IsPartialShape (proofs_in s) s (q ∷ []) 0 shape → IsPartialShape (proofs_in s) s (atom ∷ []) variable_count shape
   shape-over shape partly = (partly.0, (values, partly.1.1, list-over (or_open (proofs_in s)) partly.1.0 partly.1.1 partly.1.2, partly.1.3))
 
   -- where the atom has no answer, the instance has no proof
-  pub none-provable : (¬ IsAnswer s (atom ∷ []) vars) → ¬ IsProvable s q
+  pub none-provable : (¬ IsAnswer s (atom ∷ []) variable_count) → ¬ IsProvable s q
   none-provable none proved = none (values, proved.1, list-over (proofs_in s) proved.0 proved.1 proved.2)
 
   -- where the atom has few shapes, the instance has
-  pub none-limited : AreFewShapes s (atom ∷ []) vars → (shapes : List (List Tick)) → ¬ IsLimited s (q ∷ []) 0 shapes
+  pub none-limited : AreFewShapes s (atom ∷ []) variable_count → (shapes : List (List Tick)) → ¬ IsLimited s (q ∷ []) 0 shapes
   none-limited few shapes limited =
-      few_firsts (IsPartialShape (proofs_in s) s (atom ∷ []) vars)
+      few_firsts (IsPartialShape (proofs_in s) s (atom ∷ []) variable_count)
       (IsPartialShape (proofs_in s) s (q ∷ []) 0) s.limit shapes few shape-over limited.count limited.kept
 
 -- an instance under a binding is a ground atom of the problem

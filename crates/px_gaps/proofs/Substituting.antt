@@ -11,22 +11,22 @@ use Rattle.px_terms.specs.Language.{IsVariableBelow, substitute}
 use Rattle.px_terms.specs.Substitution.{substitute_atom}
 use Rattle.px_terms.specs.Validity.{IsAtomOf, IsTermOf}
 
-pub term_variable : (problem : Problem) (vars : ℕ) (t : Term) → IsTermOf problem vars t → IsVariableBelow vars t
-term_variable problem vars (Obj n) of = tt
-term_variable problem vars (Var v) of = of
-term_variable problem vars Any of = tt
+pub term_variable : (problem : Problem) (variable_count : ℕ) (t : Term) → IsTermOf problem variable_count t → IsVariableBelow variable_count t
+term_variable problem variable_count (Obj n) of = tt
+term_variable problem variable_count (Var v) of = of
+term_variable problem variable_count Any of = tt
 
-pub term_in : (problem : Problem) (vars : ℕ) (args : List Term) → All (IsTermOf problem vars) args → (t : Term)
-    → IsTermOf problem (length args) t → IsTermOf problem vars (substitute args t)
-term_in problem vars args all (Obj n) of = of
-term_in problem vars args all (Var v) of = all v Any of
-term_in problem vars args all Any of = absurd of
+pub term_in : (problem : Problem) (variable_count : ℕ) (args : List Term) → All (IsTermOf problem variable_count) args → (t : Term)
+    → IsTermOf problem (length args) t → IsTermOf problem variable_count (substitute args t)
+term_in problem variable_count args all (Obj n) of = of
+term_in problem variable_count args all (Var v) of = all v Any of
+term_in problem variable_count args all Any of = absurd of
 
-pub atom_in : (problem : Problem) (vars : ℕ) (args : List Term) → All (IsTermOf problem vars) args → (atom : Atom)
-    → IsAtomOf problem (length args) atom → IsAtomOf problem vars (substitute_atom args atom)
-atom_in problem vars args all atom of = (
+pub atom_in : (problem : Problem) (variable_count : ℕ) (args : List Term) → All (IsTermOf problem variable_count) args → (atom : Atom)
+    → IsAtomOf problem (length args) atom → IsAtomOf problem variable_count (substitute_atom args atom)
+atom_in problem variable_count args all atom of = (
   (of.0.0, length-map atom.args (substitute args) ∙ of.0.1),
-  All-map (IsTermOf problem vars) (substitute args) atom.args (λ k d below. term_in problem vars args all _ (of.1 k d below)),
+  All-map (IsTermOf problem variable_count) (substitute args) atom.args (λ k d below. term_in problem variable_count args all _ (of.1 k d below)),
 )
 
 pub preds-same : (args : List Term) (atoms : List Atom)

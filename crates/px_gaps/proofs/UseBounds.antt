@@ -57,17 +57,17 @@ value-is theta (p ∷ ps) (t ∷ qs) v same has =
     ] refl
 
 pub values_at : List Term → List Term → ℕ → List Term
-values_at ps qs vars = map (value_at ps qs) (range_with_len 0 vars)
+values_at ps qs variable_count = map (value_at ps qs) (range_with_len 0 variable_count)
 
-values-are : (theta ps qs : List Term) (vars : ℕ) → length theta ≡ vars → map (substitute theta) ps ≡ qs
-    → ((v : ℕ) → v < vars → Contains ps (Var v)) → theta ≡ values_at ps qs vars
+values-are : (theta ps qs : List Term) (variable_count : ℕ) → length theta ≡ variable_count → map (substitute theta) ps ≡ qs
+    → ((v : ℕ) → v < variable_count → Contains ps (Var v)) → theta ≡ values_at ps qs variable_count
 unfolding values_at
-values-are theta ps qs vars long same told =
-    let other : length (map (value_at ps qs) (range_with_len 0 vars)) ≡ vars = length-map-range_with_len (value_at ps qs) 0 vars in
-    ext_get_or Wild theta (map (value_at ps qs) (range_with_len 0 vars)) (long ∙ sym other) (
+values-are theta ps qs variable_count long same told =
+    let other : length (map (value_at ps qs) (range_with_len 0 variable_count)) ≡ variable_count = length-map-range_with_len (value_at ps qs) 0 variable_count in
+    ext_get_or Wild theta (map (value_at ps qs) (range_with_len 0 variable_count)) (long ∙ sym other) (
     λ i below.
-    let within : i < vars = omega (arith, below, long) in
-    value-is theta ps qs i same (told i within) ∙ sym (get_or-map-range_with_len (value_at ps qs) 0 vars i i Wild within (omega arith))
+    let within : i < variable_count = omega (arith, below, long) in
+    value-is theta ps qs i same (told i within) ∙ sym (get_or-map-range_with_len (value_at ps qs) 0 variable_count i i Wild within (omega arith))
     )
 
 -- ---- the parts
@@ -104,13 +104,13 @@ parts-are theta lits place denied =
 -- the literal at the place is positive and has each variable, and the other ones are denials
 pub record IsHornAt (clause : Clause) (place : ℕ) (lit : Lit) : Type 0 where
   pub here : slice_get clause.lits place ≡ Some lit
-  pub told : (v : ℕ) → v < clause.vars → Contains lit.atom.args (Var v)
+  pub told : (v : ℕ) → v < clause.variable_count → Contains lit.atom.args (Var v)
   pub denied : All (λ (l : Lit). l.positive ≡ false) (remove clause.lits place)
 
 module _ (s : Setting) (low : ℕ) (path : List Lit) (q : Atom) (number place : ℕ) (clause : Clause) (lit : Lit)
     (at : slice_get s.axioms number ≡ Some clause) (horn : IsHornAt clause place lit) where
   abbrev values : List Term
-  values = values_at lit.atom.args q.args clause.vars
+  values = values_at lit.atom.args q.args clause.variable_count
 
   IsPartsShape : List Tick → Type 0
   IsPartsShape shape = IsListShape s low (positive_of q ∷ path) (atoms_under values (remove clause.lits place)) shape
@@ -122,7 +122,7 @@ module _ (s : Setting) (low : ℕ) (path : List Lit) (q : Atom) (number place : 
       (sym (slice_get-map (substitute_literal theta) clause.lits place lit horn.here) ∙ there)
 
   theta-is : (theta : List Term) → UsesClause (IsObjectBelow s.objects) s.axioms (positive_of q) number theta place clause → theta ≡ values
-  theta-is theta uses = values-are theta lit.atom.args q.args clause.vars uses.terms
+  theta-is theta uses = values-are theta lit.atom.args q.args clause.variable_count uses.terms
       (ap (λ (l : Lit). l.atom.args) (literal-is theta uses.literal_at)) horn.told
 
   use-parts : (theta : List Term) (parts : Derivations) (other : Clause)
@@ -168,7 +168,7 @@ pub use_bound-horn : (problem : Problem) (table : List (Option Bound)) (pred num
 use_bound-horn problem table pred number place clause lit bound at horn of_parts = record {
   holds = λ low bounds. record {
     holds = λ facts set path asserting q same.
-        let theta = values_at lit.atom.args q.args clause.vars in
+        let theta = values_at lit.atom.args q.args clause.variable_count in
         let atoms = atoms_under theta (remove clause.lits place) in
         used_bound (setting_of problem facts) low path q number place clause lit at horn bound (
         (of_parts.holds problem low bounds).holds facts set (positive_of q ∷ path)

@@ -11,10 +11,10 @@ use Rattle.px_prover.specs.Patterns.{object_under}
 
 -- the arguments are objects, or variables below the number
 abbrev pub IsPlain : ℕ → Atom → Type 0
-IsPlain vars atom = All (IsPlainBelow vars) atom.args
+IsPlain variable_count atom = All (IsPlainBelow variable_count) atom.args
 
 abbrev pub ArePlain : ℕ → List Atom → Type 0
-ArePlain vars atoms = All (IsPlain vars) atoms
+ArePlain variable_count atoms = All (IsPlain variable_count) atoms
 
 -- at the place of a variable stands an object of the problem, or the variable itself
 abbrev pub IsSlot : ℕ → ℕ → Term → Type 0
@@ -81,6 +81,6 @@ abbrev pub IsInstanceUnder : ℕ → List Term → Atom → Atom → Type 0
 IsInstanceUnder limit terms = IsOpenInstance limit terms [] []
 
 -- no object is chosen for any of them
-pub record AreUnbound (vars : ℕ) (terms : List Term) : Type 0 where
-  pub count : length terms ≡ vars
+pub record AreUnbound (variable_count : ℕ) (terms : List Term) : Type 0 where
+  pub count : length terms ≡ variable_count
   pub each : (v : ℕ) (t : Term) → slice_get terms v ≡ Some t → t ≡ Var v

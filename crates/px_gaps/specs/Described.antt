@@ -11,23 +11,23 @@ use Rattle.px_gaps.specs.Closings.{OneOf}
 
 -- the pattern's atoms have objects and its own variables, and so have its terms; it has a variable only where there is an object
 pub record IsPlainPattern (limit : ℕ) (pattern : GapPattern) : Type 0 where
-  pub atoms_plain : ArePlain pattern.vars pattern.atoms
-  pub terms_below : All (IsVariableBelow pattern.vars) pattern.terms
-  pub some_object : 0 < pattern.vars → 0 < limit
+  pub atoms_plain : ArePlain pattern.variable_count pattern.atoms
+  pub terms_below : All (IsVariableBelow pattern.variable_count) pattern.terms
+  pub some_object : 0 < pattern.variable_count → 0 < limit
 
 -- under some objects for the pattern's variables one of its atoms is this one
 abbrev pub IsClosedBy : ℕ → GapPattern → Atom → Type 0
-IsClosedBy limit pattern q = OneOf pattern.atoms (λ target. (values : List ℕ) × AreChosen limit pattern.vars values
+IsClosedBy limit pattern q = OneOf pattern.atoms (λ target. (values : List ℕ) × AreChosen limit pattern.variable_count values
     × (substitute_atom (object_terms values) target ≡ q))
 
 -- under some objects for the pattern's variables one of its atoms is this one, and none is in the set
 abbrev pub IsMissingBy : ℕ → List Atom → GapPattern → Atom → Type 0
 IsMissingBy limit set pattern q =
-    OneOf pattern.atoms (λ target. (values : List ℕ) × AreChosen limit pattern.vars values
+    OneOf pattern.atoms (λ target. (values : List ℕ) × AreChosen limit pattern.variable_count values
     × (¬ Any (Contains set) (atoms_under values pattern)) × (substitute_atom (object_terms values) target ≡ q))
 
 -- under some objects for the pattern's variables none of its atoms is in the set, and the formula's variables have these objects
 abbrev pub IsChosenBy : ℕ → List Atom → GapPattern → List ℕ → Type 0
 IsChosenBy limit set pattern objects =
-    (values : List ℕ) × AreChosen limit pattern.vars values × (¬ Any (Contains set) (atoms_under values pattern))
+    (values : List ℕ) × AreChosen limit pattern.variable_count values × (¬ Any (Contains set) (atoms_under values pattern))
     × (objects_under values pattern ≡ objects)

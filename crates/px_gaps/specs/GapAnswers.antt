@@ -14,24 +14,24 @@ use Rattle.px_gaps.specs.Closings.{IsClosedIn}
 
 -- All patterns of the formula, which has fewer unfinished gap proofs than the limit, by their shapes; and those atoms closed by them
 -- which are provable. Proving none of the atoms that they close meets the limit.
-pub record IsGapAnswer (s : Setting) (formula : List Atom) (vars : ℕ) (patterns : List GapPattern) (provable : List Atom) : Type 0 where
-  pub all : AreGapPatterns s formula vars patterns
-  pub few : AreFewGapShapes s formula vars
+pub record IsGapAnswer (s : Setting) (formula : List Atom) (variable_count : ℕ) (patterns : List GapPattern) (provable : List Atom) : Type 0 where
+  pub all : AreGapPatterns s formula variable_count patterns
+  pub few : AreFewGapShapes s formula variable_count
   pub provable_are : (atom : Atom) → Contains provable atom ↔ (IsClosedIn (lists_of s.objects patterns) atom × IsProvable s atom)
   pub unlimited : (atom : Atom) (shapes : List (List Tick)) → IsClosedIn (lists_of s.objects patterns) atom
       → ¬ IsLimited s (atom ∷ []) 0 shapes
 
 -- Alike: `IsGapAnswer`, of patterns with terms. What gaps of the formula, which has fewer unfinished gap proofs than the limit, close
 -- together, whatever the objects for its variables; and those of these atoms which are provable, none of which meets the limit.
-pub record IsClosingAnswer (s : Setting) (formula : List Atom) (vars : ℕ) (closings : List GapPattern) (provable : List Atom) : Type 0
+pub record IsClosingAnswer (s : Setting) (formula : List Atom) (variable_count : ℕ) (closings : List GapPattern) (provable : List Atom) : Type 0
   where
-    pub all : AreGapClosings s formula vars closings
-    pub few : AreFewGapShapes s formula vars
+    pub all : AreGapClosings s formula variable_count closings
+    pub few : AreFewGapShapes s formula variable_count
     pub provable_are : (atom : Atom) → Contains provable atom ↔ (IsClosedIn (lists_of s.objects closings) atom × IsProvable s atom)
     pub unlimited : (atom : Atom) (shapes : List (List Tick)) → IsClosedIn (lists_of s.objects closings) atom
         → ¬ IsLimited s (atom ∷ []) 0 shapes
 
 -- they are the patterns and provable atoms of some formula of the problem
 abbrev pub AnswersSome : Problem → List Atom → ℕ → List GapPattern → List Atom → Type 0
-AnswersSome problem facts vars patterns provable = (formula : List Atom) × All (IsAtomOf problem vars) formula
-    × IsGapAnswer (setting_of problem facts) formula vars patterns provable
+AnswersSome problem facts variable_count patterns provable = (formula : List Atom) × All (IsAtomOf problem variable_count) formula
+    × IsGapAnswer (setting_of problem facts) formula variable_count patterns provable

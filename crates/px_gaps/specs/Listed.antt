@@ -7,6 +7,6 @@ use Rattle.px_question.specs.Settings.{Setting}
 use Rattle.px_question.specs.Limits.{AreFewGapShapes}
 
 -- all gap lists of the formula, which has fewer unfinished gap proofs than the limit, by their shapes
-pub record AreListed (s : Setting) (formula : List Atom) (vars : ℕ) (lists : List GapList) : Type 0 where
-  pub all : AreGapLists s formula vars lists
-  pub few : AreFewGapShapes s formula vars
+pub record AreListed (s : Setting) (formula : List Atom) (variable_count : ℕ) (lists : List GapList) : Type 0 where
+  pub all : AreGapLists s formula variable_count lists
+  pub few : AreFewGapShapes s formula variable_count

@@ -9,11 +9,11 @@ use Rattle.px_gaps.specs.declared.question.Obligation.{Obligation}
 
 -- some objects for its variables make each of its atoms provable
 abbrev pub HasAnswer : Problem → Obligation → Type 0
-HasAnswer problem needed = IsAnswer (setting_of problem needed.facts) needed.formula needed.vars
+HasAnswer problem needed = IsAnswer (setting_of problem needed.facts) needed.formula needed.variable_count
 
 -- it has no answer, and the atom is what is missing in some list of gap proofs of it
 abbrev pub HasGap : Problem → Obligation → Atom → Type 0
-HasGap problem needed gap = IsGapOf (setting_of problem needed.facts) needed.formula needed.vars gap
+HasGap problem needed gap = IsGapOf (setting_of problem needed.facts) needed.formula needed.variable_count gap
 
 -- all that is needed has an answer
 abbrev pub IsApplicable : Problem → List Obligation → Type 0

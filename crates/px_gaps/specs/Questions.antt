@@ -20,8 +20,8 @@ AsksOf problem needs question = Any (λ needed. (question ≡ Proving needed)
 -- the question meets the limit at the formula, by its first shapes
 abbrev pub MeetsLimit : Problem → Question → List Atom → List (List Tick) → Type 0
 MeetsLimit problem (Proving needed) formula shapes = (formula ≡ needed.formula)
-    × IsLimited (setting_of problem needed.facts) needed.formula needed.vars shapes
-MeetsLimit problem (FindingGaps needed) formula shapes = MeetsGapLimit (setting_of problem needed.facts) needed.formula needed.vars formula
+    × IsLimited (setting_of problem needed.facts) needed.formula needed.variable_count shapes
+MeetsLimit problem (FindingGaps needed) formula shapes = MeetsGapLimit (setting_of problem needed.facts) needed.formula needed.variable_count formula
     shapes
 
 -- what is kept is such a question, with the formula and the shapes
@@ -36,8 +36,8 @@ AreUnlimited problem needs =
 
 -- the question stays below the limit
 abbrev pub StaysBelow : Problem → Question → Type 0
-StaysBelow problem (Proving needed) = StaysBelowLimit (setting_of problem needed.facts) needed.formula needed.vars
-StaysBelow problem (FindingGaps needed) = StaysBelowGapLimit (setting_of problem needed.facts) needed.formula needed.vars
+StaysBelow problem (Proving needed) = StaysBelowLimit (setting_of problem needed.facts) needed.formula needed.variable_count
+StaysBelow problem (FindingGaps needed) = StaysBelowGapLimit (setting_of problem needed.facts) needed.formula needed.variable_count
 
 -- each question about what is needed stays below the limit
 abbrev pub AreBelow : Problem → List Obligation → Type 0

@@ -44,21 +44,21 @@ impl Asker {
         &mut self,
         problem: &Problem,
         formula: &[Atom],
-        vars: u32,
+        variable_count: u32,
         model: &Model,
     ) -> Result<Vec<GapPattern>, GapErr>
         requires problem { IsValid problem.now }
-        requires formula { All (IsAtomOf problem.now vars) formula.now }
-        requires few_variables { vars ≤ most_gap_variables }
-        requires some_object { 0 < vars → 0 < problem.now.objects }
+        requires formula { All (IsAtomOf problem.now variable_count) formula.now }
+        requires few_variables { variable_count ≤ most_gap_variables }
+        requires some_object { 0 < variable_count → 0 < problem.now.objects }
         ensures counted { self.new.questions ≡ next_count self.old.questions }
-        ensures patterns { IfOk result (λ patterns. AreGapPatterns (setting_of problem.now model.now.atoms) formula.now vars
+        ensures patterns { IfOk result (λ patterns. AreGapPatterns (setting_of problem.now model.now.atoms) formula.now variable_count
             patterns.items) }
-        ensures few { IfOk result (λ patterns. AreFewGapShapes (setting_of problem.now model.now.atoms) formula.now vars) }
-        ensures limited { IfGapLimit result (IsGapLimited (setting_of problem.now model.now.atoms) formula.now vars) }
+        ensures few { IfOk result (λ patterns. AreFewGapShapes (setting_of problem.now model.now.atoms) formula.now variable_count) }
+        ensures limited { IfGapLimit result (IsGapLimited (setting_of problem.now model.now.atoms) formula.now variable_count) }
     {
         self.questions = self.questions.saturating_add(1);
-        gap_patterns(self.alloc, problem, formula, vars, model)
+        gap_patterns(self.alloc, problem, formula, variable_count, model)
     }
 
     /// Asks for the first proof of the formula: one question.
@@ -66,27 +66,27 @@ impl Asker {
         &mut self,
         problem: &Problem,
         formula: &[Atom],
-        vars: u32,
+        variable_count: u32,
         model: &Model,
     ) -> Result<Answer, ProveErr>
         requires problem { IsValid problem.now }
-        requires formula { All (IsAtomOf problem.now vars) formula.now }
-        requires few_variables { vars ≤ most_formula_variables }
-        requires objects { 0 < vars → 0 < problem.now.objects }
+        requires formula { All (IsAtomOf problem.now variable_count) formula.now }
+        requires few_variables { variable_count ≤ most_formula_variables }
+        requires objects { 0 < variable_count → 0 < problem.now.objects }
         ensures counted { self.new.questions ≡ next_count self.old.questions }
-        ensures first { IfOk result (λ answer. IsFirst (setting_of problem.now model.now.atoms) formula.now vars answer.objects
+        ensures first { IfOk result (λ answer. IsFirst (setting_of problem.now model.now.atoms) formula.now variable_count answer.objects
             (derivations (map_list derivation_of answer.proofs))) }
         ensures few { IfOk result (λ answer. (shapes : List (List Tick))
-            → ¬ IsLimited (setting_of problem.now model.now.atoms) formula.now vars shapes) }
-        ensures few_before { IfOk result (λ answer. AreFewBefore (setting_of problem.now model.now.atoms) formula.now vars
+            → ¬ IsLimited (setting_of problem.now model.now.atoms) formula.now variable_count shapes) }
+        ensures few_before { IfOk result (λ answer. AreFewBefore (setting_of problem.now model.now.atoms) formula.now variable_count
             (derivations (map_list derivation_of answer.proofs))) }
-        ensures none { result ≡ Err ProveErr.Unprovable → ¬ IsAnswer (setting_of problem.now model.now.atoms) formula.now vars }
+        ensures none { result ≡ Err ProveErr.Unprovable → ¬ IsAnswer (setting_of problem.now model.now.atoms) formula.now variable_count }
         ensures none_few { result ≡ Err ProveErr.Unprovable → (shapes : List (List Tick))
-            → ¬ IsLimited (setting_of problem.now model.now.atoms) formula.now vars shapes }
-        ensures few_shapes { result ≡ Err ProveErr.Unprovable → AreFewShapes (setting_of problem.now model.now.atoms) formula.now vars }
-        ensures limited { IfShapeLimit result (IsLimited (setting_of problem.now model.now.atoms) formula.now vars) }
+            → ¬ IsLimited (setting_of problem.now model.now.atoms) formula.now variable_count shapes }
+        ensures few_shapes { result ≡ Err ProveErr.Unprovable → AreFewShapes (setting_of problem.now model.now.atoms) formula.now variable_count }
+        ensures limited { IfShapeLimit result (IsLimited (setting_of problem.now model.now.atoms) formula.now variable_count) }
     {
         self.questions = self.questions.saturating_add(1);
-        prove(self.alloc, problem, formula, vars, model)
+        prove(self.alloc, problem, formula, variable_count, model)
     }
 }

@@ -82,16 +82,16 @@ fn has_none(
     problem: &Problem,
     model: &Model,
     atom: &Atom,
-    vars: u32,
+    variable_count: u32,
 ) -> Result<bool, NoMemory>
     requires problem { IsValid problem.now }
-    requires atom { IsAtomOf problem.now vars atom.now }
-    requires few_variables { vars ≤ most_arguments }
-    requires some_object { 0 < vars → 0 < problem.now.objects }
-    ensures none { IfOk result (λ none. IsTrue none → ¬ IsAnswer (setting_of problem.now model.now.atoms) (atom.now ∷ []) vars) }
-    ensures few { IfOk result (λ none. IsTrue none → AreFewShapes (setting_of problem.now model.now.atoms) (atom.now ∷ []) vars) }
+    requires atom { IsAtomOf problem.now variable_count atom.now }
+    requires few_variables { variable_count ≤ most_arguments }
+    requires some_object { 0 < variable_count → 0 < problem.now.objects }
+    ensures none { IfOk result (λ none. IsTrue none → ¬ IsAnswer (setting_of problem.now model.now.atoms) (atom.now ∷ []) variable_count) }
+    ensures few { IfOk result (λ none. IsTrue none → AreFewShapes (setting_of problem.now model.now.atoms) (atom.now ∷ []) variable_count) }
 {
-    match asker.prove(problem, &[*atom], vars, model) {
+    match asker.prove(problem, &[*atom], variable_count, model) {
         Err(ProveErr::Unprovable) => Ok(true),
         Ok(_) => Ok(false),
         Err(ProveErr::ShapeLimit(_)) => Ok(false),

@@ -22,15 +22,15 @@ pub struct Avoidance<'a> {
     pub set: &'a Model,
 }
 
-/// Returns a term for each of `vars` variables: the variable itself, since no object is chosen yet.
+/// Returns a term for each of `variable_count` variables: the variable itself, since no object is chosen yet.
 ///
 /// # Errors
 /// `NoMemory` if there isn't enough memory.
-pub fn unbound(alloc: Global, vars: u32) -> Result<Vec<Term>, NoMemory>
-    ensures { IfOk result (λ terms. AreUnbound vars terms.items) }
+pub fn unbound(alloc: Global, variable_count: u32) -> Result<Vec<Term>, NoMemory>
+    ensures { IfOk result (λ terms. AreUnbound variable_count terms.items) }
 {
     let mut terms = Vec::new(alloc);
-    for variable in 0..vars {
+    for variable in 0..variable_count {
         terms.push(Term::Var(variable))?;
     }
     Ok(terms)

@@ -147,14 +147,14 @@ fn bound_of_axiom(
     requires { number < length problem.now.axioms }
     ensures { IfSome result (IsUseBoundBy problem.now table.now pred (λ n p. n ≡ number)) }
 {
-    let vars = problem.axioms.vars(number);
+    let variable_count = problem.axioms.variable_count(number);
     let lits = problem.axioms.lits(number);
     let mut bound = Bound {
         unfinished: 0,
         finished: 0,
     };
     for place in 0..lits.len() {
-        let uses = bound_of_use(table, pred, vars, lits, place)?;
+        let uses = bound_of_use(table, pred, variable_count, lits, place)?;
         bound = either(bound, uses)?;
     }
     Some(bound)
@@ -172,12 +172,12 @@ fn asserts_predicate(lit: &Lit, pred: u32) -> bool
 fn bound_of_use(
     table: &[Option<Bound>],
     pred: u32,
-    vars: u32,
+    variable_count: u32,
     lits: &[Lit],
     place: usize,
 ) -> Option<Bound>
     requires { place < length lits.now }
-    ensures { IfSome result (IsBoundOfUse table.now pred (record { vars = vars; lits = lits.now }) place) }
+    ensures { IfSome result (IsBoundOfUse table.now pred (record { variable_count = variable_count; lits = lits.now }) place) }
 {
     let lit = &lits[place];
     if !asserts_predicate(lit, pred) {
@@ -186,7 +186,7 @@ fn bound_of_use(
             finished: 0,
         });
     }
-    if !has_each_variable(&lit.atom, vars) || !are_denials_beside(lits, place) {
+    if !has_each_variable(&lit.atom, variable_count) || !are_denials_beside(lits, place) {
         return None;
     }
     bound_of_parts(table, lits, place)
@@ -200,10 +200,10 @@ fn has_term(terms: &[Term], term: Term) -> bool
 }
 
 /// Returns whether each variable below the number stands in the atom.
-fn has_each_variable(atom: &Atom, vars: u32) -> bool
-    ensures { IsTrue result → (v : ℕ) → v < vars → Contains atom.now.args (Term.Var v) }
+fn has_each_variable(atom: &Atom, variable_count: u32) -> bool
+    ensures { IsTrue result → (v : ℕ) → v < variable_count → Contains atom.now.args (Term.Var v) }
 {
-    for v in 0..vars {
+    for v in 0..variable_count {
         if !has_term(atom.args(), Term::Var(v)) {
             return false;
         }

@@ -149,7 +149,7 @@ fn push_choices(
         ↔ (Contains found.old.items objects ⊎ (IsChosenBy limit provable.now.atoms pattern.now objects
         × ObjectsFit sorting.now.object_sorts.now sorting.now.wanted.now objects))) }
 {
-    let terms = unbound(alloc, pattern.vars)?;
+    let terms = unbound(alloc, pattern.variable_count)?;
     let targets = pattern.terms.as_slice();
     let atoms = pattern.atoms.as_slice();
     let avoidance = Avoidance {

@@ -28,24 +28,24 @@ pub fn gaps(
     alloc: Global,
     problem: &Problem,
     formula: &[Atom],
-    vars: u32,
+    variable_count: u32,
     model: &Model,
 ) -> Result<Vec<Atom>, AskErr>
     requires problem { IsValid problem.now }
-    requires formula { All (IsAtomOf problem.now vars) formula.now }
-    requires some_object { 0 < vars → 0 < problem.now.objects }
-    requires few_variables { vars ≤ most_formula_variables }
-    requires no_answer { ¬ IsAnswer (setting_of problem.now model.now.atoms) formula.now vars }
+    requires formula { All (IsAtomOf problem.now variable_count) formula.now }
+    requires some_object { 0 < variable_count → 0 < problem.now.objects }
+    requires few_variables { variable_count ≤ most_formula_variables }
+    requires no_answer { ¬ IsAnswer (setting_of problem.now model.now.atoms) formula.now variable_count }
     ensures order { IfOk result (λ gaps. IsAtomSet gaps.items) }
     ensures exact { IfOk result (λ gaps. (atom : Atom) → Contains gaps.items atom
-        ↔ IsGapOf (setting_of problem.now model.now.atoms) formula.now vars atom) }
+        ↔ IsGapOf (setting_of problem.now model.now.atoms) formula.now variable_count atom) }
     ensures unlimited { IfOk result (λ gaps. (kept : List Atom) (shapes : List (List Tick))
-        → ¬ MeetsGapLimit (setting_of problem.now model.now.atoms) formula.now vars kept shapes) }
-    ensures below { IfOk result (λ gaps. StaysBelowGapLimit (setting_of problem.now model.now.atoms) formula.now vars) }
-    ensures limited { IfLimit result (MeetsGapLimit (setting_of problem.now model.now.atoms) formula.now vars) }
+        → ¬ MeetsGapLimit (setting_of problem.now model.now.atoms) formula.now variable_count kept shapes) }
+    ensures below { IfOk result (λ gaps. StaysBelowGapLimit (setting_of problem.now model.now.atoms) formula.now variable_count) }
+    ensures limited { IfLimit result (MeetsGapLimit (setting_of problem.now model.now.atoms) formula.now variable_count) }
 {
     let mut asker = Asker::new(alloc);
-    let answer = ask_closings(&mut asker, problem, formula, vars, model)?;
+    let answer = ask_closings(&mut asker, problem, formula, variable_count, model)?;
     let missing = missing_by(alloc, problem.objects, &answer.patterns, &answer.provable)?;
     Ok(Sequence::from_slice(alloc, missing.atoms())?.into_vec())
 }

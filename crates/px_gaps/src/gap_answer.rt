@@ -32,18 +32,18 @@ fn patterns_of(
     asker: &mut Asker,
     problem: &Problem,
     formula: &[Atom],
-    vars: u32,
+    variable_count: u32,
     model: &Model,
 ) -> Result<Vec<GapPattern>, AskErr>
     requires problem { IsValid problem.now }
-    requires formula { All (IsAtomOf problem.now vars) formula.now }
-    requires few_variables { vars ≤ most_gap_variables }
-    requires some_object { 0 < vars → 0 < problem.now.objects }
-    ensures patterns { IfOk result (λ patterns. AreGapPatterns (setting_of problem.now model.now.atoms) formula.now vars patterns.items) }
-    ensures few { IfOk result (λ patterns. AreFewGapShapes (setting_of problem.now model.now.atoms) formula.now vars) }
-    ensures limited { IfLimit result (MeetsGapLimit (setting_of problem.now model.now.atoms) formula.now vars) }
+    requires formula { All (IsAtomOf problem.now variable_count) formula.now }
+    requires few_variables { variable_count ≤ most_gap_variables }
+    requires some_object { 0 < variable_count → 0 < problem.now.objects }
+    ensures patterns { IfOk result (λ patterns. AreGapPatterns (setting_of problem.now model.now.atoms) formula.now variable_count patterns.items) }
+    ensures few { IfOk result (λ patterns. AreFewGapShapes (setting_of problem.now model.now.atoms) formula.now variable_count) }
+    ensures limited { IfLimit result (MeetsGapLimit (setting_of problem.now model.now.atoms) formula.now variable_count) }
 {
-    match asker.gap_patterns(problem, formula, vars, model) {
+    match asker.gap_patterns(problem, formula, variable_count, model) {
         Ok(patterns) => Ok(patterns),
         Err(GapErr::ShapeLimit(shapes)) => {
             let formula = Sequence::from_slice(asker.alloc, formula)?;
@@ -63,18 +63,18 @@ pub fn ask_gaps(
     asker: &mut Asker,
     problem: &Problem,
     formula: &[Atom],
-    vars: u32,
+    variable_count: u32,
     model: &Model,
 ) -> Result<GapAnswer, AskErr>
     requires problem { IsValid problem.now }
-    requires formula { All (IsAtomOf problem.now vars) formula.now }
-    requires few_variables { vars ≤ most_gap_variables }
-    requires some_object { 0 < vars → 0 < problem.now.objects }
-    ensures answer { IfOk result (λ answer. IsGapAnswer (setting_of problem.now model.now.atoms) formula.now vars answer.patterns.items
+    requires formula { All (IsAtomOf problem.now variable_count) formula.now }
+    requires few_variables { variable_count ≤ most_gap_variables }
+    requires some_object { 0 < variable_count → 0 < problem.now.objects }
+    ensures answer { IfOk result (λ answer. IsGapAnswer (setting_of problem.now model.now.atoms) formula.now variable_count answer.patterns.items
         answer.provable.atoms) }
-    ensures limited { IfLimit result (MeetsGapLimit (setting_of problem.now model.now.atoms) formula.now vars) }
+    ensures limited { IfLimit result (MeetsGapLimit (setting_of problem.now model.now.atoms) formula.now variable_count) }
 {
-    let patterns = patterns_of(asker, problem, formula, vars, model)?;
+    let patterns = patterns_of(asker, problem, formula, variable_count, model)?;
     let forms = forms_of(asker.alloc, &patterns)?;
     let provable = provable_of(asker, problem, model, &forms)?;
     Ok(GapAnswer { patterns, provable })
@@ -86,18 +86,18 @@ fn closings_of(
     asker: &mut Asker,
     problem: &Problem,
     formula: &[Atom],
-    vars: u32,
+    variable_count: u32,
     model: &Model,
 ) -> Result<Vec<GapPattern>, AskErr>
     requires problem { IsValid problem.now }
-    requires formula { All (IsAtomOf problem.now vars) formula.now }
-    requires few_variables { vars ≤ most_gap_variables }
-    requires some_object { 0 < vars → 0 < problem.now.objects }
-    ensures closings { IfOk result (λ closings. AreGapClosings (setting_of problem.now model.now.atoms) formula.now vars closings.items) }
-    ensures few { IfOk result (λ closings. AreFewGapShapes (setting_of problem.now model.now.atoms) formula.now vars) }
-    ensures limited { IfLimit result (MeetsGapLimit (setting_of problem.now model.now.atoms) formula.now vars) }
+    requires formula { All (IsAtomOf problem.now variable_count) formula.now }
+    requires few_variables { variable_count ≤ most_gap_variables }
+    requires some_object { 0 < variable_count → 0 < problem.now.objects }
+    ensures closings { IfOk result (λ closings. AreGapClosings (setting_of problem.now model.now.atoms) formula.now variable_count closings.items) }
+    ensures few { IfOk result (λ closings. AreFewGapShapes (setting_of problem.now model.now.atoms) formula.now variable_count) }
+    ensures limited { IfLimit result (MeetsGapLimit (setting_of problem.now model.now.atoms) formula.now variable_count) }
 {
-    match gap_closings(asker.alloc, problem, formula, vars, model) {
+    match gap_closings(asker.alloc, problem, formula, variable_count, model) {
         Ok(closings) => Ok(closings),
         Err(GapErr::ShapeLimit(shapes)) => {
             let formula = Sequence::from_slice(asker.alloc, formula)?;
@@ -118,18 +118,18 @@ pub(crate) fn ask_closings(
     asker: &mut Asker,
     problem: &Problem,
     formula: &[Atom],
-    vars: u32,
+    variable_count: u32,
     model: &Model,
 ) -> Result<GapAnswer, AskErr>
     requires problem { IsValid problem.now }
-    requires formula { All (IsAtomOf problem.now vars) formula.now }
-    requires few_variables { vars ≤ most_gap_variables }
-    requires some_object { 0 < vars → 0 < problem.now.objects }
-    ensures answer { IfOk result (λ answer. IsClosingAnswer (setting_of problem.now model.now.atoms) formula.now vars
+    requires formula { All (IsAtomOf problem.now variable_count) formula.now }
+    requires few_variables { variable_count ≤ most_gap_variables }
+    requires some_object { 0 < variable_count → 0 < problem.now.objects }
+    ensures answer { IfOk result (λ answer. IsClosingAnswer (setting_of problem.now model.now.atoms) formula.now variable_count
         answer.patterns.items answer.provable.atoms) }
-    ensures limited { IfLimit result (MeetsGapLimit (setting_of problem.now model.now.atoms) formula.now vars) }
+    ensures limited { IfLimit result (MeetsGapLimit (setting_of problem.now model.now.atoms) formula.now variable_count) }
 {
-    let patterns = closings_of(asker, problem, formula, vars, model)?;
+    let patterns = closings_of(asker, problem, formula, variable_count, model)?;
     let forms = forms_of(asker.alloc, &patterns)?;
     let provable = provable_of(asker, problem, model, &forms)?;
     Ok(GapAnswer { patterns, provable })

@@ -15,14 +15,19 @@ use px_terms::{Atom, NoMemory, Problem, Sequence};
 use std::alloc::Global;
 
 /// Returns what is needed: the formula, from the facts of the model.
-fn needed(alloc: Global, formula: &[Atom], vars: u32, model: &Model) -> Result<Obligation, NoMemory>
-    ensures { IfOk result (λ needed'. needed' ≡ record { formula = formula.now; vars = vars; facts = model.now.atoms }) }
+fn needed(
+    alloc: Global,
+    formula: &[Atom],
+    variable_count: u32,
+    model: &Model,
+) -> Result<Obligation, NoMemory>
+    ensures { IfOk result (λ needed'. needed' ≡ record { formula = formula.now; variable_count = variable_count; facts = model.now.atoms }) }
 {
     let formula = Sequence::from_slice(alloc, formula)?;
     let facts = Sequence::from_slice(alloc, model.atoms())?;
     Ok(Obligation {
         formula,
-        vars,
+        variable_count,
         facts,
     })
 }
@@ -36,20 +41,20 @@ pub fn try_formula(
     alloc: Global,
     problem: &Problem,
     formula: &[Atom],
-    vars: u32,
+    variable_count: u32,
     model: &Model,
 ) -> Result<Tried, NoMemory>
     requires problem { IsValid problem.now }
-    requires formula { All (IsAtomOf problem.now vars) formula.now }
-    requires few_variables { vars ≤ most_formula_variables }
-    requires some_object { 0 < vars → 0 < problem.now.objects }
-    ensures { IfOk result (IsTriedOf problem.now (record { formula = formula.now; vars = vars; facts = model.now.atoms })) }
+    requires formula { All (IsAtomOf problem.now variable_count) formula.now }
+    requires few_variables { variable_count ≤ most_formula_variables }
+    requires some_object { 0 < variable_count → 0 < problem.now.objects }
+    ensures { IfOk result (IsTriedOf problem.now (record { formula = formula.now; variable_count = variable_count; facts = model.now.atoms })) }
 {
-    match prove(alloc, problem, formula, vars, model) {
+    match prove(alloc, problem, formula, variable_count, model) {
         Ok(_) => Ok(Tried::Answered),
         Err(ProveErr::Unprovable) => Ok(Tried::Unanswered),
         Err(ProveErr::ShapeLimit(shapes)) => {
-            let asked = needed(alloc, formula, vars, model)?;
+            let asked = needed(alloc, formula, variable_count, model)?;
             let formula = Sequence::from_slice(alloc, formula)?;
             let shapes = Sequence::from_vec(shapes);
             let question = Question::Proving(asked);
@@ -73,17 +78,17 @@ pub fn known_formula(
     alloc: Global,
     problem: &Problem,
     formula: &[Atom],
-    vars: u32,
+    variable_count: u32,
     model: &Model,
 ) -> Result<Known, NoMemory>
     requires problem { IsValid problem.now }
-    requires formula { All (IsAtomOf problem.now vars) formula.now }
-    requires few_variables { vars ≤ most_formula_variables }
-    requires some_object { 0 < vars → 0 < problem.now.objects }
-    requires no_answer { ¬ HasAnswer problem.now (record { formula = formula.now; vars = vars; facts = model.now.atoms }) }
-    ensures { IfOk result (IsKnownOf problem.now (record { formula = formula.now; vars = vars; facts = model.now.atoms } ∷ [])) }
+    requires formula { All (IsAtomOf problem.now variable_count) formula.now }
+    requires few_variables { variable_count ≤ most_formula_variables }
+    requires some_object { 0 < variable_count → 0 < problem.now.objects }
+    requires no_answer { ¬ HasAnswer problem.now (record { formula = formula.now; variable_count = variable_count; facts = model.now.atoms }) }
+    ensures { IfOk result (IsKnownOf problem.now (record { formula = formula.now; variable_count = variable_count; facts = model.now.atoms } ∷ [])) }
 {
-    match gaps(alloc, problem, formula, vars, model) {
+    match gaps(alloc, problem, formula, variable_count, model) {
         Ok(found) => {
             if found.is_empty() {
                 return Ok(Known::Closed);
@@ -96,7 +101,7 @@ pub fn known_formula(
                 shapes,
             },
         ) => {
-            let asked = needed(alloc, formula, vars, model)?;
+            let asked = needed(alloc, formula, variable_count, model)?;
             let question = Question::FindingGaps(asked);
             let limit = MetLimit {
                 question,

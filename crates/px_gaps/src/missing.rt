@@ -82,7 +82,7 @@ fn insert_missing(
     ensures { OnOk result ((q : AtomValue) → Contains found.new.atoms q
         ↔ (Contains found.old.atoms q ⊎ IsMissingBy limit provable.now.atoms pattern.now q)) }
 {
-    let terms = unbound(alloc, pattern.vars)?;
+    let terms = unbound(alloc, pattern.variable_count)?;
     let atoms = pattern.atoms.as_slice();
     let avoidance = Avoidance {
         alloc,

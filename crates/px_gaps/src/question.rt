@@ -9,7 +9,7 @@ pub struct Obligation {
     /// The formula.
     pub formula: Sequence<Atom>,
     /// How many variables it has.
-    pub vars: u32,
+    pub variable_count: u32,
     /// From which it is to be proved.
     pub facts: Sequence<Atom>,
 }

@@ -25,13 +25,13 @@ use Rattle.px_table.specs.UnderLaws.{adds-under, from_map, precondition-under}
 use Rattle.px_table.specs.RowLaws.{first_row}
 use Rattle.px_general.specs.General.{shape_of_table}
 use Rattle.px_replay.specs.Opened.{add_at, atom_in, opened_steps, opened_goal, opened_row, opened_rows, row_pairs, rows_pairs, step_variables, goal_objects, first_own, first_of_rows, steps_opened, rows_opened, replay_pairs}
-use Rattle.px_general.proofs.Opening.{HasFrom, HasFrom-front, HasFrom-back, IsNamedAdd, variables-are}
+use Rattle.px_general.proofs.Opening.{HasFrom, HasFrom-prefix, HasFrom-back, IsNamedAdd, variables-are}
 use Rattle.px_general.proofs.Solving.{HasItsArguments, atom_without, goal-counted, goal-solved, goal_opened-alike, goal_terms, goals-alike, op_of, own_of, own_of_goal, own_of_row, own_of_rows, own_of_steps, preconditions-alike, row-solved, steps-fresh, steps-solved}
 use Rattle.px_general.proofs.Reading.{cons_same}
 
 module _ (One Other : Term → Type 0) (problem : Problem) (named : ℕ → ℕ → Atom) (terms : List Term) (goal others : List Atom)
-    (goal_vars goal_first own : ℕ)
-    (same_goal : map atom_without others ≡ map atom_without goal) (goal_are : All (IsAtomOf problem goal_vars) goal)
+    (goal_variable_count goal_first own : ℕ)
+    (same_goal : map atom_without others ≡ map atom_without goal) (goal_are : All (IsAtomOf problem goal_variable_count) goal)
     (has_goal : HasFrom terms goal_first (own_of_goal others)) where
   -- the mark's atom is the add that it names, under the terms
   abbrev pub NamesAdd : Mark → Type 0
@@ -48,10 +48,10 @@ module _ (One Other : Term → Type 0) (problem : Problem) (named : ℕ → ℕ 
       All-each (IsNamedAdd named terms) (row_leaves row) (λ leaf has. each (mark_of r leaf) (first_row r row rows leaf has))
 
   pub rows-solved : (r f first : ℕ) (steps steps' : List OpInst) (rows rows' : List (List Derivation))
-      → RowsProve One problem 0 steps goal goal_vars rows → (q : RowsProve Other problem 0 steps' others goal_vars rows')
+      → RowsProve One problem 0 steps goal goal_variable_count rows → (q : RowsProve Other problem 0 steps' others goal_variable_count rows')
       → map op_of steps' ≡ map op_of steps → map (substitute_instance terms) (opened_steps f steps) ≡ steps'
       → map (map skeleton) rows' ≡ map (map skeleton) rows
-      → HasFrom terms first (own_of_rows rows') → HasFrom terms own (goal_terms Other problem 0 steps' others goal_vars rows' q)
+      → HasFrom terms first (own_of_rows rows') → HasFrom terms own (goal_terms Other problem 0 steps' others goal_variable_count rows' q)
       → ((mark : Mark) → Contains (marks_from r rows') mark → NamesAdd mark)
       → AreSolved f first steps rows rows'
   rows-solved r f first [] [] [] rows' p q ops is same has has_own names = absurd p
@@ -62,8 +62,8 @@ module _ (One Other : Term → Type 0) (problem : Problem) (named : ℕ → ℕ 
       row-solved One Other problem named terms first (map (substitute_atom p.0) goal) (opened_goal goal_first own goal)
       (map (substitute_atom q.0) others) row row' p.2 q.2 both.0
       (goals-alike p.0 q.0 goal others same_goal) (goal_opened-alike goal_first own p.0 goal)
-      (goal-solved problem goal_vars terms own q.0 (omega (arith, q.1)) has_own goal_first goal others same_goal goal_are has_goal)
-      (HasFrom-front terms first (own_of_row row') [] has) (row_named r row' [] names) in
+      (goal-solved problem goal_variable_count terms own q.0 (omega (arith, q.1)) has_own goal_first goal others same_goal goal_are has_goal)
+      (HasFrom-prefix terms first (own_of_row row') [] has) (row_named r row' [] names) in
       record { are = λ i. one.is i ∷ []; equal = one.equal }
   rows-solved r f first [] [] (row ∷ []) (row' ∷ second ∷ rows') p q ops is same has has_own names = absurd q
   rows-solved r f first [] [] (row ∷ second ∷ rows) rows' p q ops is same has has_own names = absurd p
@@ -84,7 +84,7 @@ module _ (One Other : Term → Type 0) (problem : Problem) (named : ℕ → ℕ 
       row-solved One Other problem named terms first (precondition problem s) (precondition problem opens)
       (precondition problem o) row row' p.0 q.0 both.0
       (preconditions-alike problem s o (sym same_op.0)) (preconditions-alike problem s opens refl) needs
-      (HasFrom-front terms first (own_of_row row') (own_of_rows rows') has) (row_named r row' rows' names) in
+      (HasFrom-prefix terms first (own_of_row row') (own_of_rows rows') has) (row_named r row' rows' names) in
       let rest = rows-solved (suc r) (f + length s.args) (first + _) steps steps' rows rows' p.1 q.1 same_op.1 here.1 both.1
       (HasFrom-back terms first (first + _) (own_of_row row') (own_of_rows rows') (omega (arith, one.counted)) has) has_own
       (λ mark inside. names mark (Contains-append_right (row_marks r row') (marks_from (suc r) rows') mark inside)) in
@@ -123,15 +123,15 @@ names-add problem terms opens steps is mark named later =
 
 -- ---- the whole plan
 
-pub goal_terms-length : (Is : Term → Type 0) (problem : Problem) (params : ℕ) (steps : List OpInst) (goal : List Atom) (goal_vars : ℕ)
-    (rows : List (List Derivation)) (h : RowsProve Is problem params steps goal goal_vars rows)
-    → length (goal_terms Is problem params steps goal goal_vars rows h) ≡ goal_vars
-goal_terms-length Is problem params [] goal goal_vars [] h = absurd h
-goal_terms-length Is problem params [] goal goal_vars (row ∷ []) h = h.1
-goal_terms-length Is problem params [] goal goal_vars (row ∷ second ∷ rows) h = absurd h
-goal_terms-length Is problem params (inst ∷ steps) goal goal_vars [] h = absurd h
-goal_terms-length Is problem params (inst ∷ steps) goal goal_vars (row ∷ rows) h =
-    goal_terms-length Is problem params steps goal goal_vars rows h.1
+pub goal_terms-length : (Is : Term → Type 0) (problem : Problem) (params : ℕ) (steps : List OpInst) (goal : List Atom) (goal_variable_count : ℕ)
+    (rows : List (List Derivation)) (h : RowsProve Is problem params steps goal goal_variable_count rows)
+    → length (goal_terms Is problem params steps goal goal_variable_count rows h) ≡ goal_variable_count
+goal_terms-length Is problem params [] goal goal_variable_count [] h = absurd h
+goal_terms-length Is problem params [] goal goal_variable_count (row ∷ []) h = h.1
+goal_terms-length Is problem params [] goal goal_variable_count (row ∷ second ∷ rows) h = absurd h
+goal_terms-length Is problem params (inst ∷ steps) goal goal_variable_count [] h = absurd h
+goal_terms-length Is problem params (inst ∷ steps) goal goal_variable_count (row ∷ rows) h =
+    goal_terms-length Is problem params steps goal goal_variable_count rows h.1
 
 -- the terms make the opened plan these steps, this goal's objects and these proofs, and make the atoms of each pair equal
 pub record IsSolution (problem : Problem) (plan : Table) (steps : List OpInst) (goal : List Atom) (rows : List (List Derivation))
@@ -144,16 +144,16 @@ pub record IsSolution (problem : Problem) (plan : Table) (steps : List OpInst) (
 
 module _ (problem : Problem) (plan : Table) (is_table : IsTable problem plan) (no_params : plan.params ≡ 0) (Is : Term → Type 0)
     (steps : List OpInst) (goal : List Atom) (rows : List (List Derivation))
-    (prove : RowsProve Is problem 0 steps goal plan.goal_vars rows) (arguments : All (HasItsArguments problem) steps)
+    (prove : RowsProve Is problem 0 steps goal plan.goal_variable_count rows) (arguments : All (HasItsArguments problem) steps)
     (named : All (IsNamed problem steps) (marks_from 1 rows))
     (shape : shape_of_support steps goal rows ≡ shape_of_table plan) where
   abbrev pub solution_terms : List Term
-  solution_terms = own_of steps goal (goal_terms Is problem 0 steps goal plan.goal_vars rows prove) rows
+  solution_terms = own_of steps goal (goal_terms Is problem 0 steps goal plan.goal_variable_count rows prove) rows
 
   pub own_terms-solve : IsSolution problem plan steps goal rows solution_terms
   own_terms-solve =
       let terms : List Term = solution_terms in
-      let chosen : List Term = goal_terms Is problem 0 steps goal plan.goal_vars rows prove in
+      let chosen : List Term = goal_terms Is problem 0 steps goal plan.goal_variable_count rows prove in
       let ops : map op_of steps ≡ map op_of plan.steps = ap (λ (s : SupportShape). s.operators) shape in
       let same_goal : map atom_without goal ≡ map atom_without plan.goal = ap (λ (s : SupportShape). s.goal) shape in
       let same_rows : map (map skeleton) rows ≡ map (map skeleton) (rows_of plan.proofs) = ap (λ (s : SupportShape). s.rows) shape in
@@ -162,7 +162,7 @@ module _ (problem : Problem) (plan : Table) (is_table : IsTable problem plan) (n
       let s_count : step_variables plan.steps ≡ length (own_of_steps steps) =
       steps-fresh problem plan.steps steps ops plan_arguments arguments in
       let g_count : goal_objects plan.goal ≡ length (own_of_goal goal) = goal-counted plan.goal goal same_goal in
-      let c_count : length chosen ≡ plan.goal_vars = goal_terms-length Is problem 0 steps goal plan.goal_vars rows prove in
+      let c_count : length chosen ≡ plan.goal_variable_count = goal_terms-length Is problem 0 steps goal plan.goal_variable_count rows prove in
       let has_goal_on =
       HasFrom-back terms 0 (step_variables plan.steps) (own_of_steps steps) (own_of_goal goal ++ (chosen ++ own_of_rows rows))
       (omega (arith, s_count)) has in
@@ -171,20 +171,20 @@ module _ (problem : Problem) (plan : Table) (is_table : IsTable problem plan) (n
       (omega (arith, g_count)) has_goal_on in
       let has_rows =
       HasFrom-back terms (first_own plan) (first_of_rows plan) chosen (own_of_rows rows) (omega (arith, c_count)) has_chosen_on in
-      let has_goal = HasFrom-front terms (step_variables plan.steps) (own_of_goal goal) (chosen ++ own_of_rows rows) has_goal_on in
-      let has_chosen = HasFrom-front terms (first_own plan) chosen (own_of_rows rows) has_chosen_on in
+      let has_goal = HasFrom-prefix terms (step_variables plan.steps) (own_of_goal goal) (chosen ++ own_of_rows rows) has_goal_on in
+      let has_chosen = HasFrom-prefix terms (first_own plan) chosen (own_of_rows rows) has_chosen_on in
       let steps_are =
       steps-solved problem terms 0 plan.steps steps ops plan_arguments arguments
-      (HasFrom-front terms 0 (own_of_steps steps) (own_of_goal goal ++ (chosen ++ own_of_rows rows)) has) in
-      let goal_are : All (IsAtomOf problem plan.goal_vars) plan.goal =
+      (HasFrom-prefix terms 0 (own_of_steps steps) (own_of_goal goal ++ (chosen ++ own_of_rows rows)) has) in
+      let goal_are : All (IsAtomOf problem plan.goal_variable_count) plan.goal =
       subst (λ (n : ℕ). All (IsAtomOf problem n) plan.goal) (omega (arith, no_params)) is_table.in_range.goal in
       let plan_prove =
-      subst (λ (n : ℕ). RowsProve (IsObjectOrParameter problem.objects n) problem n plan.steps plan.goal plan.goal_vars
+      subst (λ (n : ℕ). RowsProve (IsObjectOrParameter problem.objects n) problem n plan.steps plan.goal plan.goal_variable_count
       (rows_of plan.proofs))
       no_params is_table.prove in
       let all =
       rows-solved (IsObjectOrParameter problem.objects 0) Is problem
-      (add_at problem (steps_opened plan)) terms plan.goal goal plan.goal_vars
+      (add_at problem (steps_opened plan)) terms plan.goal goal plan.goal_variable_count
       (step_variables plan.steps) (first_own plan) same_goal goal_are has_goal
       1 0 (first_of_rows plan) plan.steps steps (rows_of plan.proofs) rows plan_prove prove ops steps_are same_rows has_rows has_chosen
       (λ mark inside. names-add problem terms (steps_opened plan) steps steps_are mark

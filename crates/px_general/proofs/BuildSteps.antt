@@ -6,7 +6,7 @@ use Rattle.px_base.proofs.Loops.{take_next, whole_taken}
 use Rattle.px_terms.specs.declared.term.Term.{Term}
 use Rattle.px_proof.specs.declared.proof.Proof.{Proof}
 use Rattle.px_proof.specs.Derivation.{Derivation}
-use Rattle.px_proof.specs.PlaceLaws.{All-front, All-back}
+use Rattle.px_proof.specs.PlaceLaws.{All-prefix, All-back}
 use Rattle.px_proof.specs.ProofTerm.{derivation_of}
 use Rattle.px_proof.specs.Substitution.{derivation_under}
 
@@ -46,13 +46,13 @@ row_under names row = map (derivation_under names) (map derivation_of row)
 pub part-within : {X A : Type 0} (f : X → List A) (P : A → Type 0) (xs : List X) (k : ℕ) (x : X) → k < length xs → x ≡ get_or xs k x
     → All P (flat_map f xs) → All P (f x)
 part-within f P [] k x below is all = absurd (omega (arith, below))
-part-within f P (y ∷ ys) zero x below is all = subst (λ z. All P (f z)) (sym is) (All-front P (f y) (flat_map f ys) all)
+part-within f P (y ∷ ys) zero x below is all = subst (λ z. All P (f z)) (sym is) (All-prefix P (f y) (flat_map f ys) all)
 part-within f P (y ∷ ys) (suc k) x below is all = part-within f P ys k x (omega (arith, below)) is (All-back P (f y) (flat_map f ys) all)
 
 pub part-within_map : {X Y A : Type 0} (g : X → Y) (f : Y → List A) (P : A → Type 0) (xs : List X) (k : ℕ) (x : X) → k < length xs
     → x ≡ get_or xs k x → All P (flat_map f (map g xs)) → All P (f (g x))
 part-within_map g f P [] k x below is all = absurd (omega (arith, below))
 part-within_map g f P (y ∷ ys) zero x below is all =
-    subst (λ z. All P (f (g z))) (sym is) (All-front P (f (g y)) (flat_map f (map g ys)) all)
+    subst (λ z. All P (f (g z))) (sym is) (All-prefix P (f (g y)) (flat_map f (map g ys)) all)
 part-within_map g f P (y ∷ ys) (suc k) x below is all =
     part-within_map g f P ys k x (omega (arith, below)) is (All-back P (f (g y)) (flat_map f (map g ys)) all)

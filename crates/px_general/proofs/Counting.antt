@@ -74,22 +74,22 @@ steps_terms-below problem n (s ∷ steps) all =
     All-append (IsPlainBelow n) s.args _ (All-head (IsPlainStep problem n) s steps all).below
     (steps_terms-below problem n steps (All-tail (IsPlainStep problem n) s steps all))
 
-term-plain : (problem : Problem) (vars : ℕ) (t : Term) → IsTermOf problem vars t → IsPlainBelow vars t
-term-plain problem vars (Obj m) is = tt
-term-plain problem vars (Var v) is = is
-term-plain problem vars WildCard is = absurd is
+term-plain : (problem : Problem) (variable_count : ℕ) (t : Term) → IsTermOf problem variable_count t → IsPlainBelow variable_count t
+term-plain problem variable_count (Obj m) is = tt
+term-plain problem variable_count (Var v) is = is
+term-plain problem variable_count WildCard is = absurd is
 
 -- an atom of an operator under plain terms is plain
-atoms-plain : (problem : Problem) (n : ℕ) (theta : List Term) (vars : ℕ) → length theta ≡ vars → All (IsPlainBelow n) theta
-    → (atoms : List Atom) → All (IsAtomOf problem vars) atoms → ArePlainAtoms n (map (substitute_atom theta) atoms)
-atoms-plain problem n theta vars long below [] are = All-nil (λ (a : Atom). All (IsPlainBelow n) a.args)
-atoms-plain problem n theta vars long below (a ∷ atoms) are =
-    let here = All-head (IsAtomOf problem vars) a atoms are in
+atoms-plain : (problem : Problem) (n : ℕ) (theta : List Term) (variable_count : ℕ) → length theta ≡ variable_count → All (IsPlainBelow n) theta
+    → (atoms : List Atom) → All (IsAtomOf problem variable_count) atoms → ArePlainAtoms n (map (substitute_atom theta) atoms)
+atoms-plain problem n theta variable_count long below [] are = All-nil (λ (a : Atom). All (IsPlainBelow n) a.args)
+atoms-plain problem n theta variable_count long below (a ∷ atoms) are =
+    let here = All-head (IsAtomOf problem variable_count) a atoms are in
     All-cons (λ (a : Atom). All (IsPlainBelow n) a.args) _ _
     (All-map (IsPlainBelow n) (substitute theta) a.args
     (λ k d inside. below_under n theta below _ (subst (λ (m : ℕ). IsPlainBelow m (slice_index_or a.args k d)) (sym long)
-    (term-plain problem vars _ (here.1 k d inside)))))
-    (atoms-plain problem n theta vars long below atoms (All-tail (IsAtomOf problem vars) a atoms are))
+    (term-plain problem variable_count _ (here.1 k d inside)))))
+    (atoms-plain problem n theta variable_count long below atoms (All-tail (IsAtomOf problem variable_count) a atoms are))
 
 precondition-plain : (problem : Problem) → IsValid problem → (n : ℕ) (inst : OpInst) → IsPlainStep problem n inst
     → ArePlainAtoms n (precondition problem inst)
@@ -132,31 +132,31 @@ add_at-plain problem valid n steps all column index = by_step (step_at steps col
 
 -- ---- the goal
 
-goal-args-below : (problem : Problem) (n vars own first : ℕ) → own + vars ≤ n → (ts : List Term) → All (IsTermOf problem vars) ts
+goal-args-below : (problem : Problem) (n variable_count own first : ℕ) → own + variable_count ≤ n → (ts : List Term) → All (IsTermOf problem variable_count) ts
     → first + count_by is_object ts ≤ n → All (IsPlainBelow n) (opened_args first own ts)
-goal-args-below problem n vars own first enough [] are within = All-nil (IsPlainBelow n)
-goal-args-below problem n vars own first enough (Obj m ∷ ts) are within =
+goal-args-below problem n variable_count own first enough [] are within = All-nil (IsPlainBelow n)
+goal-args-below problem n variable_count own first enough (Obj m ∷ ts) are within =
     let counted = count-object m ts in
     All-cons (IsPlainBelow n) (Var first) _ (omega (arith, within, counted))
-    (goal-args-below problem n vars own (first + 1) enough ts (All-tail (IsTermOf problem vars) (Obj m) ts are)
+    (goal-args-below problem n variable_count own (first + 1) enough ts (All-tail (IsTermOf problem variable_count) (Obj m) ts are)
     (omega (arith, within, counted)))
-goal-args-below problem n vars own first enough (Var v ∷ ts) are within =
-    let below : v < vars = All-head (IsTermOf problem vars) (Var v) ts are in
+goal-args-below problem n variable_count own first enough (Var v ∷ ts) are within =
+    let below : v < variable_count = All-head (IsTermOf problem variable_count) (Var v) ts are in
     let counted = count-variable v ts in
     All-cons (IsPlainBelow n) (Var (own + v)) _ (omega (arith, enough, below))
-    (goal-args-below problem n vars own first enough ts (All-tail (IsTermOf problem vars) (Var v) ts are)
+    (goal-args-below problem n variable_count own first enough ts (All-tail (IsTermOf problem variable_count) (Var v) ts are)
     (omega (arith, within, counted)))
-goal-args-below problem n vars own first enough (WildCard ∷ ts) are within = absurd (All-head (IsTermOf problem vars) WildCard ts are)
+goal-args-below problem n variable_count own first enough (WildCard ∷ ts) are within = absurd (All-head (IsTermOf problem variable_count) WildCard ts are)
 
-goal-below : (problem : Problem) (n vars own first : ℕ) → own + vars ≤ n → (goal : List Atom) → All (IsAtomOf problem vars) goal
+goal-below : (problem : Problem) (n variable_count own first : ℕ) → own + variable_count ≤ n → (goal : List Atom) → All (IsAtomOf problem variable_count) goal
     → first + goal_objects goal ≤ n → ArePlainAtoms n (opened_goal first own goal)
-goal-below problem n vars own first enough [] are within = All-nil (λ (a : Atom). All (IsPlainBelow n) a.args)
-goal-below problem n vars own first enough (a ∷ goal) are within =
+goal-below problem n variable_count own first enough [] are within = All-nil (λ (a : Atom). All (IsPlainBelow n) a.args)
+goal-below problem n variable_count own first enough (a ∷ goal) are within =
     let counted = sum_by-cons (λ (atom : Atom). count_by is_object atom.args) a goal in
     All-cons (λ (a : Atom). All (IsPlainBelow n) a.args) _ _
-    (goal-args-below problem n vars own first enough a.args (All-head (IsAtomOf problem vars) a goal are).1
+    (goal-args-below problem n variable_count own first enough a.args (All-head (IsAtomOf problem variable_count) a goal are).1
     (omega (arith, within, counted)))
-    (goal-below problem n vars own (first + count_by is_object a.args) enough goal (All-tail (IsAtomOf problem vars) a goal are)
+    (goal-below problem n variable_count own (first + count_by is_object a.args) enough goal (All-tail (IsAtomOf problem variable_count) a goal are)
     (omega (arith, within, counted)))
 
 -- ---- the rows
@@ -215,35 +215,35 @@ module _ (n : ℕ) (named : ℕ → ℕ → Atom) (named_below : (column index :
       row-forms (first + fresh_in d) atoms opens row p.1 alike.1,
     )
 
-    rows-below : (first : ℕ) (steps : List OpInst) (goal : List Atom) (goal_vars : ℕ) (rows : List (List Derivation))
-        → RowsProve Is problem 0 steps goal goal_vars rows → first + sum_by (sum_by fresh_in) rows ≤ n
+    rows-below : (first : ℕ) (steps : List OpInst) (goal : List Atom) (goal_variable_count : ℕ) (rows : List (List Derivation))
+        → RowsProve Is problem 0 steps goal goal_variable_count rows → first + sum_by (sum_by fresh_in) rows ≤ n
         → All (IsPlainBelow n) (flat_map (flat_map terms_of) (opened_rows named first rows))
-    rows-below first [] goal goal_vars [] p within = absurd p
-    rows-below first [] goal goal_vars (row ∷ []) p within =
+    rows-below first [] goal goal_variable_count [] p within = absurd p
+    rows-below first [] goal goal_variable_count (row ∷ []) p within =
         let counted = sum_by-cons (sum_by fresh_in) row [] in
         All-append (IsPlainBelow n) (flat_map terms_of (opened_row named first row)) []
         (row-below first _ row p.2 (omega (arith, within, counted))) (All-nil (IsPlainBelow n))
-    rows-below first [] goal goal_vars (row ∷ second ∷ rows) p within = absurd p
-    rows-below first (s ∷ steps) goal goal_vars [] p within = absurd p
-    rows-below first (s ∷ steps) goal goal_vars (row ∷ rows) p within =
+    rows-below first [] goal goal_variable_count (row ∷ second ∷ rows) p within = absurd p
+    rows-below first (s ∷ steps) goal goal_variable_count [] p within = absurd p
+    rows-below first (s ∷ steps) goal goal_variable_count (row ∷ rows) p within =
         let counted = sum_by-cons (sum_by fresh_in) row rows in
         All-append (IsPlainBelow n) (flat_map terms_of (opened_row named first row)) _
         (row-below first _ row p.0 (omega (arith, within, counted)))
-        (rows-below (first + sum_by fresh_in row) steps goal goal_vars rows p.1 (omega (arith, within, counted)))
+        (rows-below (first + sum_by fresh_in row) steps goal goal_variable_count rows p.1 (omega (arith, within, counted)))
 
-    rows-forms : (f first goal_first own : ℕ) (steps : List OpInst) (goal : List Atom) (goal_vars : ℕ) (rows : List (List Derivation))
-        → RowsProve Is problem 0 steps goal goal_vars rows
+    rows-forms : (f first goal_first own : ℕ) (steps : List OpInst) (goal : List Atom) (goal_variable_count : ℕ) (rows : List (List Derivation))
+        → RowsProve Is problem 0 steps goal goal_variable_count rows
         → PlanForms problem (opened_steps f steps) (opened_goal goal_first own goal) (opened_rows named first rows)
-    rows-forms f first goal_first own [] goal goal_vars [] p = absurd p
-    rows-forms f first goal_first own [] goal goal_vars (row ∷ []) p =
+    rows-forms f first goal_first own [] goal goal_variable_count [] p = absurd p
+    rows-forms f first goal_first own [] goal goal_variable_count (row ∷ []) p =
         row-forms first (map (substitute_atom p.0) goal) (opened_goal goal_first own goal) row p.2
         (goal_opened-alike goal_first own p.0 goal)
-    rows-forms f first goal_first own [] goal goal_vars (row ∷ second ∷ rows) p = absurd p
-    rows-forms f first goal_first own (s ∷ steps) goal goal_vars [] p = absurd p
-    rows-forms f first goal_first own (s ∷ steps) goal goal_vars (row ∷ rows) p =
+    rows-forms f first goal_first own [] goal goal_variable_count (row ∷ second ∷ rows) p = absurd p
+    rows-forms f first goal_first own (s ∷ steps) goal goal_variable_count [] p = absurd p
+    rows-forms f first goal_first own (s ∷ steps) goal goal_variable_count (row ∷ rows) p =
         let opens : OpInst = record { op = s.op; args = variables_from f (length s.args) } in (
           row-forms first (precondition problem s) (precondition problem opens) row p.0 (preconditions-alike problem s opens refl),
-          rows-forms (f + length s.args) (first + sum_by fresh_in row) goal_first own steps goal goal_vars rows p.1,
+          rows-forms (f + length s.args) (first + sum_by fresh_in row) goal_first own steps goal goal_variable_count rows p.1,
         )
 
 -- ---- the whole plan
@@ -257,19 +257,19 @@ can_replay problem plan changes valid is_table no_params changes_are solvable =
     let many : n ≡ fresh_variables plan =
     ap variables_of changes_are ∙ variables-fresh [] (fresh_variables plan) ∙ plus_none (fresh_variables plan) in
     let plan_prove =
-    subst (λ (k : ℕ). RowsProve (IsObjectOrParameter problem.objects k) problem k plan.steps plan.goal plan.goal_vars (rows_of plan.proofs))
+    subst (λ (k : ℕ). RowsProve (IsObjectOrParameter problem.objects k) problem k plan.steps plan.goal plan.goal_variable_count (rows_of plan.proofs))
     no_params is_table.prove in
     let steps =
     steps-plain problem n 0 plan.steps (subst (λ (k : ℕ). All (IsStepOf problem k) plan.steps) no_params is_table.in_range.steps)
     (omega (arith, many)) in
-    let goal_are : All (IsAtomOf problem plan.goal_vars) plan.goal =
+    let goal_are : All (IsAtomOf problem plan.goal_variable_count) plan.goal =
     subst (λ (k : ℕ). All (IsAtomOf problem k) plan.goal) (omega (arith, no_params)) is_table.in_range.goal in
     let goal =
-    goal-below problem n plan.goal_vars (first_own plan) (step_variables plan.steps) (omega (arith, many)) plan.goal goal_are
+    goal-below problem n plan.goal_variable_count (first_own plan) (step_variables plan.steps) (omega (arith, many)) plan.goal goal_are
     (omega (arith, many)) in
     let rows =
     rows-below n (add_at problem (steps_opened plan)) (add_at-plain problem valid n (steps_opened plan) steps)
-    (IsObjectOrParameter problem.objects 0) problem (first_of_rows plan) plan.steps plan.goal plan.goal_vars
+    (IsObjectOrParameter problem.objects 0) problem (first_of_rows plan) plan.steps plan.goal plan.goal_variable_count
     (rows_of plan.proofs) plan_prove
     (omega (arith, many)) in
     let own = plan-own problem plan is_table no_params in
@@ -278,7 +278,7 @@ can_replay problem plan changes valid is_table no_params changes_are solvable =
         forms =
             rows-forms n (add_at problem (steps_opened plan)) (add_at-plain problem valid n (steps_opened plan) steps)
             (IsObjectOrParameter problem.objects 0) problem 0 (first_of_rows plan) (step_variables plan.steps)
-            (first_own plan) plan.steps plan.goal plan.goal_vars (rows_of plan.proofs) plan_prove;
+            (first_own plan) plan.steps plan.goal plan.goal_variable_count (rows_of plan.proofs) plan_prove;
         needs_below = needs (steps_opened plan) steps;
         goal_below = goal;
         terms_below = rows;

@@ -73,15 +73,15 @@ module _ (problem : Problem) (valid : IsValid problem) (params : ℕ) (others : 
   term-moves WildCard is = absurd is
 
   -- also in a pattern, of which the step gives the terms
-  pattern-moves : (args : List Term) → ((t : Term) → Contains args t → IsTermOf problem params t) → (vars : ℕ) (p : Term)
-      → IsPatternTermOf problem vars p
+  pattern-moves : (args : List Term) → ((t : Term) → Contains args t → IsTermOf problem params t) → (variable_count : ℕ) (p : Term)
+      → IsPatternTermOf problem variable_count p
       → other_for (substitute (map (substitute (map Obj new_objects)) args) p) ≡ substitute (map (substitute (map Obj others)) args) p
-  pattern-moves args are vars (Obj n) is = ap Obj (below-stays problem.objects others n is)
-  pattern-moves args are vars (Var v) is =
+  pattern-moves args are variable_count (Obj n) is = ap Obj (below-stays problem.objects others n is)
+  pattern-moves args are variable_count (Var v) is =
       read-by other_for refl (map (substitute (map Obj new_objects)) args) v
       ∙ ap (λ l. slice_index_or l v WildCard) (args-by other_for (substitute (map Obj new_objects)) (substitute (map Obj others)) args
       (λ t has. term-moves t (are t has)))
-  pattern-moves args are vars WildCard is = refl
+  pattern-moves args are variable_count WildCard is = refl
 
   deletion-moves : (s : OpInst) → IsStepOf problem params s → (atom : Atom)
       → ((t : Term) → Contains atom.args t → IsTermOf problem params t)

@@ -57,13 +57,13 @@ module _ (problem : Problem) (plan : Table) (valid : IsValid problem) (is_table 
   abbrev general : Table
   general =
       table_of_rows labels.next (sorts_by_places problem steps labels.next) steps
-      (named_goal names labels.next (step_variables plan.steps) plan.goal) plan.goal_vars (map (map proof_of) rows)
+      (named_goal names labels.next (step_variables plan.steps) plan.goal) plan.goal_variable_count (map (map proof_of) rows)
 
   built : IsBuilt problem plan general names
   built = record {
     steps_are = refl;
     goal_is = refl;
-    goal_vars = refl;
+    goal_variable_count = refl;
     rows_are = rows-back names problem (steps_opened plan) (goal_opened plan) (rows_opened problem plan) can.forms;
     marks_are = refl;
     sorts_are = refl;

@@ -16,7 +16,7 @@ use Rattle.px_unify.specs.declared.change.Change.{Change}
 use Rattle.px_unify.specs.declared.change.Change.TheVariants.{Fresh}
 use Rattle.px_unify.specs.Changes.{Fits, HasSolutions, IsRoot, IsUnbound, Meets, slots_of, variables_of}
 use Rattle.px_unify.specs.ChangeLaws.{variables-fresh}
-use Rattle.px_proof.specs.PlaceLaws.{All-back, All-front, slice_get-within}
+use Rattle.px_proof.specs.PlaceLaws.{All-back, All-prefix, slice_get-within}
 use Rattle.px_proof.specs.declared.proof.Proof.{Proof}
 use Rattle.px_proof.specs.Derivation.{Derivation}
 use Rattle.px_proof.specs.ProofTerm.{derivation_of}
@@ -112,11 +112,11 @@ first-labels resolved count = record {
 
 -- what is written back of a borrowed list is the whole
 pub written_back : (len : ℕ) (made old : List Term) → len ≡ length made → take len (made ++ drop (length made) old) ≡ made
-written_back len made old same = ap (λ (n : ℕ). take n (made ++ drop (length made) old)) same ∙ front made (drop (length made) old)
+written_back len made old same = ap (λ (n : ℕ). take n (made ++ drop (length made) old)) same ∙ prefix made (drop (length made) old)
   where
-    front : (xs ys : List Term) → take (length xs) (xs ++ ys) ≡ xs
-    front [] ys = refl
-    front (x ∷ xs) ys = ap (λ (l : List Term). x ∷ l) (front xs ys)
+    prefix : (xs ys : List Term) → take (length xs) (xs ++ ys) ≡ xs
+    prefix [] ys = refl
+    prefix (x ∷ xs) ys = ap (λ (l : List Term). x ∷ l) (prefix xs ys)
 
 -- ---- the opened plan
 
@@ -145,7 +145,7 @@ module _ (problem : Problem) (plan : Table) (valid : IsValid problem) (is_table 
   rows_below = All-back (IsPlainBelow count) (variables_from (step_variables plan.steps) (goal_objects plan.goal)) _ later_below
 
   pub steps_below : All (IsPlainBelow count) (step_terms (steps_opened plan))
-  steps_below = All-front (IsPlainBelow count) (step_terms (steps_opened plan)) _ terms_below
+  steps_below = All-prefix (IsPlainBelow count) (step_terms (steps_opened plan)) _ terms_below
 
   pub walked_below : All (IsVariableBelow count) (walked_terms problem plan)
   walked_below =

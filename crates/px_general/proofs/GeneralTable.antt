@@ -19,7 +19,7 @@ use Rattle.px_unify.specs.Changes.{MakesPairEqual, MakesEachEqual}
 use Rattle.px_proof.specs.declared.proof.Leaf.{Leaf}
 use Rattle.px_proof.specs.Derivation.{Derivation, Derivations, fact, ancestor, step, gap, open_place, none, also, leaves_of, all_leaves_of, leaf_atoms, terms_of}
 use Rattle.px_proof.specs.Literals.{positive_of}
-use Rattle.px_proof.specs.PlaceLaws.{All-front, All-back, Contains-mapped, slice_get-map}
+use Rattle.px_proof.specs.PlaceLaws.{All-prefix, All-back, Contains-mapped, slice_get-map}
 use Rattle.px_proof.specs.Proves.{IsObjectOrParameter}
 use Rattle.px_proof.specs.Substitution.{derivation_under}
 use Rattle.px_proof.specs.SubstitutionLaws.{leaf_atoms-under}
@@ -201,9 +201,9 @@ module _ (One : Term → Type 0) (problem : Problem) (valid : IsValid problem) (
       let proves =
       proves-from_pairs (IsObjectOrParameter problem.objects params) problem.axioms (leaf_atoms (leaves_of new_d)) names []
       (positive_of b) open_d form
-      (All-front (MakesPairEqual names) (pairs_of problem.axioms [] (positive_of b) open_d)
+      (All-prefix (MakesPairEqual names) (pairs_of problem.axioms [] (positive_of b) open_d)
       (row_pairs problem.axioms opens (opened_row named (first + fresh_in d) row)) equal)
-      (All-front IsNameUnder (terms_of open_d) (flat_map terms_of (opened_row named (first + fresh_in d) row)) are)
+      (All-prefix IsNameUnder (terms_of open_d) (flat_map terms_of (opened_row named (first + fresh_in d) row)) are)
       (λ leaf has. subst (λ (l : List Atom). Contains l (substitute_atom names leaf.atom)) (sym (leaf_atoms-under names open_d))
       (Contains-mapped (substitute_atom names) (leaf_atoms (leaves_of open_d)) leaf.atom
       (Contains-mapped (λ (l : Leaf). l.atom) (leaves_of open_d) leaf has))) in (
@@ -217,12 +217,12 @@ module _ (One : Term → Type 0) (problem : Problem) (valid : IsValid problem) (
             (row_pairs problem.axioms opens (opened_row named (first + fresh_in d) row)) equal),
       )
 
-  module _ (goal_vars own : ℕ) where
+  module _ (goal_variable_count own : ℕ) where
     -- what is chosen for the goal's own variables
     abbrev pub chosen_names : List Term
-    chosen_names = map (substitute names) (variables_from own goal_vars)
+    chosen_names = map (substitute names) (variables_from own goal_variable_count)
 
-    named_args-chosen : (first : ℕ) (ts : List Term) → All (IsTermOf problem goal_vars) ts
+    named_args-chosen : (first : ℕ) (ts : List Term) → All (IsTermOf problem goal_variable_count) ts
         → ((v : ℕ) → first ≤ v → v < first + count_by is_object ts → IsNameUnder (Var v))
         → map (substitute (variables params ++ chosen_names)) (named_args names params first ts)
         ≡ map (substitute names) (opened_args first own ts)
@@ -232,7 +232,7 @@ module _ (One : Term → Type 0) (problem : Problem) (valid : IsValid problem) (
         let here = at first (omega arith) (omega (arith, counted)) in
         let head = stays (substitute names (Var first)) here in
         let rest =
-        named_args-chosen (first + 1) ts (All-tail (IsTermOf problem goal_vars) (Obj n) ts are)
+        named_args-chosen (first + 1) ts (All-tail (IsTermOf problem goal_variable_count) (Obj n) ts are)
         (λ v low high. at v (omega (arith, low)) (omega (arith, high, counted))) in
         λ i. head i ∷ rest i
       where
@@ -243,19 +243,19 @@ module _ (One : Term → Type 0) (problem : Problem) (valid : IsValid problem) (
             ∙ ap Var (omega arith)
         stays WildCard is = absurd is
     named_args-chosen first (Var v ∷ ts) are at =
-        let below : v < goal_vars = All-head (IsTermOf problem goal_vars) (Var v) ts are in
+        let below : v < goal_variable_count = All-head (IsTermOf problem goal_variable_count) (Var v) ts are in
         let counted = count-variable v ts in
         let head : substitute (variables params ++ chosen_names) (Var (params + v)) ≡ substitute names (Var (own + v)) =
         read-right (variables params) chosen_names params v (sym (length-variables 0 params))
-        ∙ read-map (substitute names) (variables_from own goal_vars) v (omega (arith, below, length-variables own goal_vars))
-        ∙ ap (substitute names) (read-variable own goal_vars v below) in
+        ∙ read-map (substitute names) (variables_from own goal_variable_count) v (omega (arith, below, length-variables own goal_variable_count))
+        ∙ ap (substitute names) (read-variable own goal_variable_count v below) in
         let rest =
-        named_args-chosen first ts (All-tail (IsTermOf problem goal_vars) (Var v) ts are)
+        named_args-chosen first ts (All-tail (IsTermOf problem goal_variable_count) (Var v) ts are)
         (λ x low high. at x low (omega (arith, high, counted))) in
         λ i. head i ∷ rest i
-    named_args-chosen first (WildCard ∷ ts) are at = absurd (All-head (IsTermOf problem goal_vars) WildCard ts are)
+    named_args-chosen first (WildCard ∷ ts) are at = absurd (All-head (IsTermOf problem goal_variable_count) WildCard ts are)
 
-    named_goal-chosen : (first : ℕ) (goal : List Atom) → All (IsAtomOf problem goal_vars) goal
+    named_goal-chosen : (first : ℕ) (goal : List Atom) → All (IsAtomOf problem goal_variable_count) goal
         → ((v : ℕ) → first ≤ v → v < first + goal_objects goal → IsNameUnder (Var v))
         → map (substitute_atom names) (opened_goal first own goal)
         ≡ map (substitute_atom (variables params ++ chosen_names)) (named_goal names params first goal)
@@ -263,30 +263,30 @@ module _ (One : Term → Type 0) (problem : Problem) (valid : IsValid problem) (
     named_goal-chosen first (a ∷ goal) are at =
         let counted = sum_by-cons (λ (atom : Atom). count_by is_object atom.args) a goal in
         let args =
-        named_args-chosen first a.args (All-head (IsAtomOf problem goal_vars) a goal are).1
+        named_args-chosen first a.args (All-head (IsAtomOf problem goal_variable_count) a goal are).1
         (λ v low high. at v low (omega (arith, high, counted))) in
         let rest =
-        named_goal-chosen (first + count_by is_object a.args) goal (All-tail (IsAtomOf problem goal_vars) a goal are)
+        named_goal-chosen (first + count_by is_object a.args) goal (All-tail (IsAtomOf problem goal_variable_count) a goal are)
         (λ v low high. at v (omega (arith, low)) (omega (arith, high, counted))) in
         λ i. record { pred = a.pred; args = sym args i } ∷ rest i
 
-    module _ (goal : List Atom) (goal_first : ℕ) (goal_are : All (IsAtomOf problem goal_vars) goal)
+    module _ (goal : List Atom) (goal_first : ℕ) (goal_are : All (IsAtomOf problem goal_variable_count) goal)
         (slots : (v : ℕ) → goal_first ≤ v → v < goal_first + goal_objects goal → IsNameUnder (Var v)) where
-      rows-proved : (f first : ℕ) (steps : List OpInst) (rows : List (List Derivation)) → RowsProve One problem 0 steps goal goal_vars rows
+      rows-proved : (f first : ℕ) (steps : List OpInst) (rows : List (List Derivation)) → RowsProve One problem 0 steps goal goal_variable_count rows
           → All IsNameUnder (flat_map (flat_map terms_of) (opened_rows named first rows))
           → MakesEachEqual (rows_pairs problem (opened_steps f steps) (opened_goal goal_first own goal) (opened_rows named first rows))
           names
           → RowsProve (IsObjectOrParameter problem.objects params) problem params (map (substitute_instance names) (opened_steps f steps))
-          (named_goal names params goal_first goal) goal_vars (map (map (derivation_under names)) (opened_rows named first rows))
+          (named_goal names params goal_first goal) goal_variable_count (map (map (derivation_under names)) (opened_rows named first rows))
       rows-proved f first [] [] p are equal = absurd p
       rows-proved f first [] (row ∷ []) p are equal = (
         chosen_names,
-        length-map (variables_from own goal_vars) (substitute names) ∙ length-variables own goal_vars,
+        length-map (variables_from own goal_variable_count) (substitute names) ∙ length-variables own goal_variable_count,
         subst (λ (l : List Atom). ProvesEachOf (IsObjectOrParameter problem.objects params) problem.axioms l
             (map (derivation_under names) (opened_row named first row))) (named_goal-chosen goal_first goal goal_are slots)
             (row-proved first (map (substitute_atom p.0) goal) (opened_goal goal_first own goal) row p.2
             (goal_opened-alike goal_first own p.0 goal)
-            (All-front IsNameUnder (flat_map terms_of (opened_row named first row)) [] are) equal),
+            (All-prefix IsNameUnder (flat_map terms_of (opened_row named first row)) [] are) equal),
       )
       rows-proved f first [] (row ∷ second ∷ rows) p are equal = absurd p
       rows-proved f first (s ∷ steps) [] p are equal = absurd p
@@ -295,8 +295,8 @@ module _ (One : Term → Type 0) (problem : Problem) (valid : IsValid problem) (
             subst (λ (l : List Atom). ProvesEachOf (IsObjectOrParameter problem.objects params) problem.axioms l
                 (map (derivation_under names) (opened_row named first row))) (sym (precondition-under problem names opens))
                 (row-proved first (precondition problem s) (precondition problem opens) row p.0 (preconditions-alike problem s opens refl)
-                (All-front IsNameUnder (flat_map terms_of (opened_row named first row)) _ are)
-                (All-front (MakesPairEqual names) (row_pairs problem.axioms (precondition problem opens) (opened_row named first row)) _
+                (All-prefix IsNameUnder (flat_map terms_of (opened_row named first row)) _ are)
+                (All-prefix (MakesPairEqual names) (row_pairs problem.axioms (precondition problem opens) (opened_row named first row)) _
                 equal)),
             rows-proved (f + length s.args) (first + _) steps rows p.1
                 (All-back IsNameUnder (flat_map terms_of (opened_row named first row)) _ are)
@@ -318,7 +318,7 @@ steps-are_of problem params first names [] are terms = λ k d below. absurd (ome
 steps-are_of problem params first names (s ∷ steps) are terms =
     let here = All-head (IsStepOf problem 0) s steps are in
     let own =
-    All-front (λ t. IsObjectOrParameter problem.objects params (substitute names t)) (variables_from first (length s.args)) _ terms in
+    All-prefix (λ t. IsObjectOrParameter problem.objects params (substitute names t)) (variables_from first (length s.args)) _ terms in
     All-cons (IsStepOf problem params) _ _
     record {
       op = here.op;
@@ -336,38 +336,38 @@ name-term_of_more problem params more (Obj n) is = is
 name-term_of_more problem params more (Var v) is = omega (arith, is)
 name-term_of_more problem params more WildCard is = is
 
-module _ (problem : Problem) (params vars : ℕ) (names : List Term) where
-  args-are_of : (first : ℕ) (ts : List Term) → All (IsTermOf problem vars) ts
+module _ (problem : Problem) (params variable_count : ℕ) (names : List Term) where
+  args-are_of : (first : ℕ) (ts : List Term) → All (IsTermOf problem variable_count) ts
       → ((v : ℕ) → first ≤ v → v < first + count_by is_object ts → IsObjectOrParameter problem.objects params (substitute names (Var v)))
-      → All (IsTermOf problem (params + vars)) (named_args names params first ts) × (length (named_args names params first ts) ≡ length ts)
+      → All (IsTermOf problem (params + variable_count)) (named_args names params first ts) × (length (named_args names params first ts) ≡ length ts)
   args-are_of first [] are at = ((λ k d below. absurd (omega (arith, below))), refl)
   args-are_of first (Obj n ∷ ts) are at =
       let counted = count-object n ts in
       let here = at first (omega arith) (omega (arith, counted)) in
       let rest =
-      args-are_of (first + 1) ts (All-tail (IsTermOf problem vars) (Obj n) ts are)
+      args-are_of (first + 1) ts (All-tail (IsTermOf problem variable_count) (Obj n) ts are)
       (λ v low high. at v (omega (arith, low)) (omega (arith, high, counted))) in (
-        All-cons (IsTermOf problem (params + vars)) _ _ (name-term_of_more problem params vars (substitute names (Var first)) here) rest.0,
+        All-cons (IsTermOf problem (params + variable_count)) _ _ (name-term_of_more problem params variable_count (substitute names (Var first)) here) rest.0,
         ap suc rest.1,
       )
   args-are_of first (Var v ∷ ts) are at =
-      let below : v < vars = All-head (IsTermOf problem vars) (Var v) ts are in
+      let below : v < variable_count = All-head (IsTermOf problem variable_count) (Var v) ts are in
       let counted = count-variable v ts in
       let rest =
-      args-are_of first ts (All-tail (IsTermOf problem vars) (Var v) ts are) (λ x low high. at x low (omega (arith, high, counted))) in
-      (All-cons (IsTermOf problem (params + vars)) (Var (params + v)) _ (omega (arith, below)) rest.0, ap suc rest.1)
-  args-are_of first (WildCard ∷ ts) are at = absurd (All-head (IsTermOf problem vars) WildCard ts are)
+      args-are_of first ts (All-tail (IsTermOf problem variable_count) (Var v) ts are) (λ x low high. at x low (omega (arith, high, counted))) in
+      (All-cons (IsTermOf problem (params + variable_count)) (Var (params + v)) _ (omega (arith, below)) rest.0, ap suc rest.1)
+  args-are_of first (WildCard ∷ ts) are at = absurd (All-head (IsTermOf problem variable_count) WildCard ts are)
 
-  goal-is_of : (first : ℕ) (goal : List Atom) → All (IsAtomOf problem vars) goal
+  goal-is_of : (first : ℕ) (goal : List Atom) → All (IsAtomOf problem variable_count) goal
       → ((v : ℕ) → first ≤ v → v < first + goal_objects goal → IsObjectOrParameter problem.objects params (substitute names (Var v)))
-      → All (IsAtomOf problem (params + vars)) (named_goal names params first goal)
+      → All (IsAtomOf problem (params + variable_count)) (named_goal names params first goal)
   goal-is_of first [] are at = λ k d below. absurd (omega (arith, below))
   goal-is_of first (a ∷ goal) are at =
       let counted = sum_by-cons (λ (atom : Atom). count_by is_object atom.args) a goal in
-      let here = All-head (IsAtomOf problem vars) a goal are in
+      let here = All-head (IsAtomOf problem variable_count) a goal are in
       let args = args-are_of first a.args here.1 (λ v low high. at v low (omega (arith, high, counted))) in
-      All-cons (IsAtomOf problem (params + vars)) _ _ ((here.0.0, args.1 ∙ here.0.1), args.0)
-      (goal-is_of (first + count_by is_object a.args) goal (All-tail (IsAtomOf problem vars) a goal are)
+      All-cons (IsAtomOf problem (params + variable_count)) _ _ ((here.0.0, args.1 ∙ here.0.1), args.0)
+      (goal-is_of (first + count_by is_object a.args) goal (All-tail (IsAtomOf problem variable_count) a goal are)
       (λ v low high. at v (omega (arith, low)) (omega (arith, high, counted))))
 
 arity-alike : (problem : Problem) (atom other : Atom) → atom.pred ≡ other.pred → length atom.args ≡ length other.args
@@ -384,14 +384,14 @@ module _ (problem : Problem) (valid : IsValid problem) (plan general : Table) (n
   IsHere t = IsObjectOrParameter problem.objects general.params (substitute names t)
 
   step_terms-are : All IsHere (flat_map (λ (inst : OpInst). inst.args) (steps_opened plan))
-  step_terms-are = All-front IsHere (flat_map (λ (inst : OpInst). inst.args) (steps_opened plan)) _ replayed.are_names
+  step_terms-are = All-prefix IsHere (flat_map (λ (inst : OpInst). inst.args) (steps_opened plan)) _ replayed.are_names
 
   row_terms-are : All IsHere (flat_map (flat_map terms_of) (rows_opened problem plan))
   row_terms-are =
       All-back IsHere (variables_from (step_variables plan.steps) (goal_objects plan.goal)) _
       (All-back IsHere (flat_map (λ (inst : OpInst). inst.args) (steps_opened plan)) _ replayed.are_names)
 
-  plan_goal-are : All (IsAtomOf problem plan.goal_vars) plan.goal
+  plan_goal-are : All (IsAtomOf problem plan.goal_variable_count) plan.goal
   plan_goal-are = subst (λ (n : ℕ). All (IsAtomOf problem n) plan.goal) (omega (arith, no_params)) is_table.in_range.goal
 
   in-range : IsTableInRange problem general
@@ -407,34 +407,34 @@ module _ (problem : Problem) (valid : IsValid problem) (plan general : Table) (n
     steps = subst (All (IsStepOf problem general.params)) (sym replayed.steps)
         (steps-are_of problem general.params 0 names plan.steps
         (subst (λ (n : ℕ). All (IsStepOf problem n) plan.steps) no_params is_table.in_range.steps) step_terms-are);
-    goal = subst (λ (g : List Atom). All (IsAtomOf problem (general.params + general.goal_vars)) g) (sym replayed.goal)
+    goal = subst (λ (g : List Atom). All (IsAtomOf problem (general.params + general.goal_variable_count)) g) (sym replayed.goal)
         (subst (λ (n : ℕ). All (IsAtomOf problem (general.params + n))
-        (named_goal names general.params (step_variables plan.steps) plan.goal)) (sym replayed.goal_vars)
-        (goal-is_of problem general.params plan.goal_vars names (step_variables plan.steps) plan.goal plan_goal-are
+        (named_goal names general.params (step_variables plan.steps) plan.goal)) (sym replayed.goal_variable_count)
+        (goal-is_of problem general.params plan.goal_variable_count names (step_variables plan.steps) plan.goal plan_goal-are
         (slot-name problem plan general names roots replayed)));
   }
 
   proved : RowsProve (IsObjectOrParameter problem.objects general.params) problem general.params general.steps general.goal
-      general.goal_vars
+      general.goal_variable_count
       (rows_of general.proofs)
   proved =
       let plan_prove =
-      subst (λ (n : ℕ). RowsProve (IsObjectOrParameter problem.objects n) problem n plan.steps plan.goal plan.goal_vars
+      subst (λ (n : ℕ). RowsProve (IsObjectOrParameter problem.objects n) problem n plan.steps plan.goal plan.goal_variable_count
       (rows_of plan.proofs))
       no_params is_table.prove in
       subst (λ (s : List OpInst). RowsProve (IsObjectOrParameter problem.objects general.params) problem general.params s general.goal
-      general.goal_vars
+      general.goal_variable_count
       (rows_of general.proofs)) (sym replayed.steps)
       (subst (λ (g : List Atom). RowsProve (IsObjectOrParameter problem.objects general.params) problem general.params
-      (map (substitute_instance names) (steps_opened plan)) g general.goal_vars (rows_of general.proofs)) (sym replayed.goal)
+      (map (substitute_instance names) (steps_opened plan)) g general.goal_variable_count (rows_of general.proofs)) (sym replayed.goal)
       (subst (λ (n : ℕ). RowsProve (IsObjectOrParameter problem.objects general.params) problem general.params
       (map (substitute_instance names) (steps_opened plan)) (named_goal names general.params (step_variables plan.steps) plan.goal) n
-      (rows_of general.proofs)) (sym replayed.goal_vars)
+      (rows_of general.proofs)) (sym replayed.goal_variable_count)
       (subst (λ (r : List (List Derivation)). RowsProve (IsObjectOrParameter problem.objects general.params) problem general.params
       (map (substitute_instance names) (steps_opened plan))
-      (named_goal names general.params (step_variables plan.steps) plan.goal) plan.goal_vars r)
+      (named_goal names general.params (step_variables plan.steps) plan.goal) plan.goal_variable_count r)
       (sym replayed.rows)
-      (rows-proved (IsObjectOrParameter problem.objects 0) problem valid general.params named_here names plan.goal_vars
+      (rows-proved (IsObjectOrParameter problem.objects 0) problem valid general.params named_here names plan.goal_variable_count
       (first_own plan) plan.goal
       (step_variables plan.steps) plan_goal-are (slot-name problem plan general names roots replayed)
       0 (first_of_rows plan) plan.steps (rows_of plan.proofs) plan_prove row_terms-are replayed.most_general.unifies))))

@@ -69,26 +69,26 @@ module _ (problem : Problem) (sigma : List ℕ) (params : ℕ) (count : length s
   row-under (a ∷ atoms) (d ∷ row) p = (proof-under a d p.0, row-under atoms row p.1)
 
   -- the goal's variables get the instances of what was chosen for them
-  chosen-under : (goal_vars : ℕ) (chosen : List Term) → length chosen ≡ goal_vars → (t : Term)
+  chosen-under : (goal_variable_count : ℕ) (chosen : List Term) → length chosen ≡ goal_variable_count → (t : Term)
       → substitute terms (substitute (variables params ++ chosen) t)
-      ≡ substitute (map (substitute terms) chosen) (substitute (terms ++ variables goal_vars) t)
-  chosen-under goal_vars chosen long (Obj n) = refl
-  chosen-under goal_vars chosen long WildCard = refl
-  chosen-under goal_vars chosen long (Var v) = elim (less_or_not v params) [
+      ≡ substitute (map (substitute terms) chosen) (substitute (terms ++ variables goal_variable_count) t)
+  chosen-under goal_variable_count chosen long (Obj n) = refl
+  chosen-under goal_variable_count chosen long WildCard = refl
+  chosen-under goal_variable_count chosen long (Var v) = elim (less_or_not v params) [
     | inl inside ↦
         let left : slice_index_or (variables params ++ chosen) v WildCard ≡ Var v =
         read-left (variables params) chosen v (omega (arith, inside, length-variables 0 params)) ∙ read-variable 0 params v inside
         ∙ ap Var (omega arith) in
-        let right = read-left terms (variables goal_vars) v (omega (arith, inside, terms-count)) in
+        let right = read-left terms (variables goal_variable_count) v (omega (arith, inside, terms-count)) in
         rw left (rw right (stays sigma v (map (substitute terms) chosen)))
     | inr outside ↦
         let back : params + (v - params) ≡ v = omega (arith, outside) in
         let left : slice_index_or (variables params ++ chosen) v WildCard ≡ slice_index_or chosen (v - params) WildCard =
         ap (λ k. slice_index_or (variables params ++ chosen) k WildCard) (sym back)
         ∙ read-right (variables params) chosen params (v - params) (sym (length-variables 0 params)) in
-        let right : slice_index_or (terms ++ variables goal_vars) v WildCard ≡ slice_index_or (variables goal_vars) (v - params) WildCard =
-        ap (λ k. slice_index_or (terms ++ variables goal_vars) k WildCard) (sym back)
-        ∙ read-right terms (variables goal_vars) params (v - params) (sym terms-count) in
+        let right : slice_index_or (terms ++ variables goal_variable_count) v WildCard ≡ slice_index_or (variables goal_variable_count) (v - params) WildCard =
+        ap (λ k. slice_index_or (terms ++ variables goal_variable_count) k WildCard) (sym back)
+        ∙ read-right terms (variables goal_variable_count) params (v - params) (sym terms-count) in
         rw left (rw right (behind (v - params)))
   ]
     where
@@ -99,55 +99,55 @@ module _ (problem : Problem) (sigma : List ℕ) (params : ℕ) (count : length s
       stays (n ∷ ns) (suc v) others = stays ns v others
 
       behind : (k : ℕ) → substitute terms (slice_index_or chosen k WildCard)
-          ≡ substitute (map (substitute terms) chosen) (slice_index_or (variables goal_vars) k WildCard)
-      behind k = elim (less_or_not k goal_vars) [
+          ≡ substitute (map (substitute terms) chosen) (slice_index_or (variables goal_variable_count) k WildCard)
+      behind k = elim (less_or_not k goal_variable_count) [
         | inl inside ↦
             sym (read-map (substitute terms) chosen k (omega (arith, inside, long)))
-            ∙ ap (substitute (map (substitute terms) chosen)) (sym (read-variable 0 goal_vars k inside ∙ ap Var (omega arith)))
+            ∙ ap (substitute (map (substitute terms) chosen)) (sym (read-variable 0 goal_variable_count k inside ∙ ap Var (omega arith)))
         | inr outside ↦
             ap (substitute terms) (read-past chosen k (omega (arith, outside, long)))
             ∙ ap (substitute (map (substitute terms) chosen))
-            (sym (read-past (variables goal_vars) k (omega (arith, outside, length-variables 0 goal_vars))))
+            (sym (read-past (variables goal_variable_count) k (omega (arith, outside, length-variables 0 goal_variable_count))))
       ]
 
-  args-chosen : (goal_vars : ℕ) (chosen : List Term) → length chosen ≡ goal_vars → (ts : List Term)
+  args-chosen : (goal_variable_count : ℕ) (chosen : List Term) → length chosen ≡ goal_variable_count → (ts : List Term)
       → map (substitute terms) (map (substitute (variables params ++ chosen)) ts)
-      ≡ map (substitute (map (substitute terms) chosen)) (map (substitute (terms ++ variables goal_vars)) ts)
-  args-chosen goal_vars chosen long [] = refl
-  args-chosen goal_vars chosen long (t ∷ ts) = cc (chosen-under goal_vars chosen long t, args-chosen goal_vars chosen long ts)
+      ≡ map (substitute (map (substitute terms) chosen)) (map (substitute (terms ++ variables goal_variable_count)) ts)
+  args-chosen goal_variable_count chosen long [] = refl
+  args-chosen goal_variable_count chosen long (t ∷ ts) = cc (chosen-under goal_variable_count chosen long t, args-chosen goal_variable_count chosen long ts)
 
-  goal-chosen : (goal_vars : ℕ) (chosen : List Term) → length chosen ≡ goal_vars → (goal : List Atom)
+  goal-chosen : (goal_variable_count : ℕ) (chosen : List Term) → length chosen ≡ goal_variable_count → (goal : List Atom)
       → map (substitute_atom terms) (map (substitute_atom (variables params ++ chosen)) goal)
-      ≡ map (substitute_atom (map (substitute terms) chosen)) (map (substitute_atom (terms ++ variables goal_vars)) goal)
-  goal-chosen goal_vars chosen long [] = refl
-  goal-chosen goal_vars chosen long (a ∷ goal) =
-      let args = args-chosen goal_vars chosen long a.args in
-      let rest = goal-chosen goal_vars chosen long goal in
+      ≡ map (substitute_atom (map (substitute terms) chosen)) (map (substitute_atom (terms ++ variables goal_variable_count)) goal)
+  goal-chosen goal_variable_count chosen long [] = refl
+  goal-chosen goal_variable_count chosen long (a ∷ goal) =
+      let args = args-chosen goal_variable_count chosen long a.args in
+      let rest = goal-chosen goal_variable_count chosen long goal in
       λ i. record { pred = a.pred; args = args i } ∷ rest i
 
-  rows_prove-under : (goal : List Atom) (goal_vars : ℕ) (steps : List OpInst) (rows : List (List Derivation))
-      → RowsProve (IsObjectOrParameter problem.objects params) problem params steps goal goal_vars rows
+  rows_prove-under : (goal : List Atom) (goal_variable_count : ℕ) (steps : List OpInst) (rows : List (List Derivation))
+      → RowsProve (IsObjectOrParameter problem.objects params) problem params steps goal goal_variable_count rows
       → RowsProve IsObject problem 0 (map (instance_under sigma) steps)
-      (map (substitute_atom (terms ++ variables goal_vars)) goal) goal_vars (map (map (derivation_under terms)) rows)
-  rows_prove-under goal goal_vars [] [] p = absurd p
-  rows_prove-under goal goal_vars [] (row ∷ []) p = (
+      (map (substitute_atom (terms ++ variables goal_variable_count)) goal) goal_variable_count (map (map (derivation_under terms)) rows)
+  rows_prove-under goal goal_variable_count [] [] p = absurd p
+  rows_prove-under goal goal_variable_count [] (row ∷ []) p = (
     map (substitute terms) p.0,
     length-map p.0 (substitute terms) ∙ p.1,
     subst (λ (l : List Atom). ProvesEachOf IsObject problem.axioms l (map (derivation_under terms) row))
-        (goal-chosen goal_vars p.0 p.1 goal) (row-under (map (substitute_atom (variables params ++ p.0)) goal) row p.2),
+        (goal-chosen goal_variable_count p.0 p.1 goal) (row-under (map (substitute_atom (variables params ++ p.0)) goal) row p.2),
   )
-  rows_prove-under goal goal_vars [] (row ∷ second ∷ rows) p = absurd p
-  rows_prove-under goal goal_vars (s ∷ steps) [] p = absurd p
-  rows_prove-under goal goal_vars (s ∷ steps) (row ∷ rows) p = (
+  rows_prove-under goal goal_variable_count [] (row ∷ second ∷ rows) p = absurd p
+  rows_prove-under goal goal_variable_count (s ∷ steps) [] p = absurd p
+  rows_prove-under goal goal_variable_count (s ∷ steps) (row ∷ rows) p = (
     subst (λ (l : List Atom). ProvesEachOf IsObject problem.axioms l (map (derivation_under terms) row))
         (sym (precondition-under problem terms s)) (row-under (precondition problem s) row p.0),
-    rows_prove-under goal goal_vars steps rows p.1,
+    rows_prove-under goal goal_variable_count steps rows p.1,
   )
 
 pub instance_supports : (problem : Problem) (table : Table) → IsTable problem table → (objects : List ℕ) → length objects ≡ table.params
     → IsProper problem table objects 1
     → (atoms : List Atom) → All (Contains atoms) (kernel_under table objects 1)
-    → Supports problem atoms (steps_under table objects) (goal_under table objects) table.goal_vars (rows_under table objects)
+    → Supports problem atoms (steps_under table objects) (goal_under table objects) table.goal_variable_count (rows_under table objects)
 instance_supports problem table is_table objects count proper atoms kernel = record {
   instances = All-map (IsGroundInstanceOf problem) (instance_under objects) table.steps (λ k d below.
       let step = is_table.in_range.steps k d below in
@@ -158,7 +158,7 @@ instance_supports problem table is_table objects count proper atoms kernel = rec
             All-map IsObject (substitute (map Obj objects)) _
             (λ j e under. object-there problem objects table.params count _ (name_of_term problem table.params _ (step.terms j e under)));
       });
-  prove = rows_prove-under problem objects table.params count table.goal table.goal_vars table.steps (rows_of table.proofs) is_table.prove;
+  prove = rows_prove-under problem objects table.params count table.goal table.goal_variable_count table.steps (rows_of table.proofs) is_table.prove;
   named = All-each (IsNamed problem (steps_under table objects)) (marks_from 1 (rows_under table objects)) (λ mark has.
       let from = mark_of_table mark has in
       subst (IsNamed problem (steps_under table objects)) from.2

@@ -22,25 +22,25 @@ use Rattle.px_general.proofs.InstanceSupports.{instance_supports}
 use Rattle.px_general.proofs.WellSortedGeneral.{own_steps-fit}
 
 module _ (problem : Problem) (plan : Table) (is_table : IsTable problem plan) (no_params : plan.params ≡ 0) where
-  term-same : (t : Term) → IsTermOf problem plan.goal_vars t → without_object (substitute (variables plan.goal_vars) t) ≡ without_object t
+  term-same : (t : Term) → IsTermOf problem plan.goal_variable_count t → without_object (substitute (variables plan.goal_variable_count) t) ≡ without_object t
   term-same (Obj n) is = refl
-  term-same (Var v) is = ap without_object (read-variable 0 plan.goal_vars v is ∙ ap Var (omega arith))
+  term-same (Var v) is = ap without_object (read-variable 0 plan.goal_variable_count v is ∙ ap Var (omega arith))
   term-same WildCard is = refl
 
-  args-same : (ts : List Term) → All (IsTermOf problem plan.goal_vars) ts
-      → map without_object (map (substitute (variables plan.goal_vars)) ts) ≡ map without_object ts
+  args-same : (ts : List Term) → All (IsTermOf problem plan.goal_variable_count) ts
+      → map without_object (map (substitute (variables plan.goal_variable_count)) ts) ≡ map without_object ts
   args-same [] all = refl
   args-same (t ∷ ts) all =
-      let head = term-same t (All-head (IsTermOf problem plan.goal_vars) t ts all) in
-      let rest = args-same ts (All-tail (IsTermOf problem plan.goal_vars) t ts all) in
+      let head = term-same t (All-head (IsTermOf problem plan.goal_variable_count) t ts all) in
+      let rest = args-same ts (All-tail (IsTermOf problem plan.goal_variable_count) t ts all) in
       λ i. head i ∷ rest i
 
-  goal-same : (goal : List Atom) → All (IsAtomOf problem plan.goal_vars) goal
-      → map atom_without (map (substitute_atom (variables plan.goal_vars)) goal) ≡ map atom_without goal
+  goal-same : (goal : List Atom) → All (IsAtomOf problem plan.goal_variable_count) goal
+      → map atom_without (map (substitute_atom (variables plan.goal_variable_count)) goal) ≡ map atom_without goal
   goal-same [] all = refl
   goal-same (a ∷ goal) all =
-      let args = args-same a.args (All-head (IsAtomOf problem plan.goal_vars) a goal all).1 in
-      let rest = goal-same goal (All-tail (IsAtomOf problem plan.goal_vars) a goal all) in
+      let args = args-same a.args (All-head (IsAtomOf problem plan.goal_variable_count) a goal all).1 in
+      let rest = goal-same goal (All-tail (IsAtomOf problem plan.goal_variable_count) a goal all) in
       λ i. record { pred = a.pred; args = args i } ∷ rest i
 
   own-shape : shape_of_support (steps_under plan []) (goal_under plan []) (rows_under plan []) ≡ shape_of_table plan

@@ -270,7 +270,7 @@ module _ (problem : Problem) (plan general : Table) (changes : List Change) (res
     count = are.count;
     steps = built.steps_are;
     goal = built.goal_is;
-    goal_vars = built.goal_vars;
+    goal_variable_count = built.goal_variable_count;
     rows = built.rows_are;
     marks = built.marks_are;
     sorts = built.sorts_are;

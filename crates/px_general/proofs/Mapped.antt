@@ -70,8 +70,8 @@ module _ (f g h : Term → Term) where
   abbrev pub Agree : List Term → Type 0
   Agree ts = (t : Term) → Contains ts t → f (g t) ≡ h t
 
-  front : (xs ys : List Term) → Agree (xs ++ ys) → Agree xs
-  front xs ys each = λ t has. each t (Contains-append_left xs ys t has)
+  prefix : (xs ys : List Term) → Agree (xs ++ ys) → Agree xs
+  prefix xs ys each = λ t has. each t (Contains-append_left xs ys t has)
 
   behind : (xs ys : List Term) → Agree (xs ++ ys) → Agree ys
   behind xs ys each = λ t has. each t (Contains-append_right xs ys t has)
@@ -93,7 +93,7 @@ module _ (f g h : Term → Term) where
         })) (args-by leaf.atom.args each)
     derivation-by (ancestor i) each = refl
     derivation-by (step number theta place parts) each =
-        let own = args-by theta (front theta (all_terms_of parts) each) in
+        let own = args-by theta (prefix theta (all_terms_of parts) each) in
         let rest = derivations-by parts (behind theta (all_terms_of parts) each) in
         λ i. step number (own i) place (rest i)
     derivation-by (gap atom) each = ap (λ (args : List Term). gap (record { pred = atom.pred; args = args })) (args-by atom.args each)
@@ -102,7 +102,7 @@ module _ (f g h : Term → Term) where
     derivations-by : (ds : Derivations) → Agree (all_terms_of ds) → derivations_by f (derivations_by g ds) ≡ derivations_by h ds
     derivations-by none each = refl
     derivations-by (also d ds) each =
-        let one = derivation-by d (front (terms_of d) (all_terms_of ds) each) in
+        let one = derivation-by d (prefix (terms_of d) (all_terms_of ds) each) in
         let rest = derivations-by ds (behind (terms_of d) (all_terms_of ds) each) in
         λ i. also (one i) (rest i)
 
@@ -110,14 +110,14 @@ module _ (f g h : Term → Term) where
       → map (derivation_by f) (map (derivation_by g) row) ≡ map (derivation_by h) row
   row-by [] each = refl
   row-by (d ∷ row) each =
-      let one = derivation-by d (front (terms_of d) (flat_map terms_of row) each) in
+      let one = derivation-by d (prefix (terms_of d) (flat_map terms_of row) each) in
       let rest = row-by row (behind (terms_of d) (flat_map terms_of row) each) in
       λ i. one i ∷ rest i
 
   pub rows-by : (rows : List (List Derivation)) → Agree (row_terms rows) → rows_by f (rows_by g rows) ≡ rows_by h rows
   rows-by [] each = refl
   rows-by (row ∷ rows) each =
-      let one = row-by row (front (flat_map terms_of row) (row_terms rows) each) in
+      let one = row-by row (prefix (flat_map terms_of row) (row_terms rows) each) in
       let rest = rows-by rows (behind (flat_map terms_of row) (row_terms rows) each) in
       λ i. one i ∷ rest i
 
@@ -125,14 +125,14 @@ module _ (f g h : Term → Term) where
       → map (instance_by f) (map (instance_by g) steps) ≡ map (instance_by h) steps
   steps-by [] each = refl
   steps-by (s ∷ steps) each =
-      let args = args-by s.args (front s.args (step_terms steps) each) in
+      let args = args-by s.args (prefix s.args (step_terms steps) each) in
       let rest = steps-by steps (behind s.args (step_terms steps) each) in
       λ i. record { op = s.op; args = args i } ∷ rest i
 
   pub goal-by : (goal : List Atom) → Agree (goal_terms goal) → map (atom_by f) (map (atom_by g) goal) ≡ map (atom_by h) goal
   goal-by [] each = refl
   goal-by (a ∷ goal) each =
-      let args = args-by a.args (front a.args (goal_terms goal) each) in
+      let args = args-by a.args (prefix a.args (goal_terms goal) each) in
       let rest = goal-by goal (behind a.args (goal_terms goal) each) in
       λ i. record { pred = a.pred; args = args i } ∷ rest i
 

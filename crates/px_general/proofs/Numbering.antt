@@ -184,8 +184,8 @@ variables_from-more first (suc m) n =
     ap (variables_from first) a ∙ ap (λ l. Var first ∷ l)
     (variables_from-more (suc first) m n ∙ ap (λ k. variables_from (suc first) m ++ variables_from k n) b)
 
-module _ (problem : Problem) (vars params : ℕ) (names : List Term) where
-  args-parameters : (first : ℕ) (ts : List Term) → All (IsTermOf problem vars) ts
+module _ (problem : Problem) (variable_count params : ℕ) (names : List Term) where
+  args-parameters : (first : ℕ) (ts : List Term) → All (IsTermOf problem variable_count) ts
       → filter (is_parameter params) (named_args names params first ts)
       ≡ filter (is_parameter params) (map (substitute names) (variables_from first (count_by is_object ts)))
   args-parameters first [] are = refl
@@ -194,7 +194,7 @@ module _ (problem : Problem) (vars params : ℕ) (names : List Term) where
       omega (arith, sum_by-cons (λ t. cond (is_object t) 1 0) (Obj n) ts) in
       let next : first + 1 ≡ suc first = omega arith in
       let rest =
-      args-parameters (first + 1) ts (All-tail (IsTermOf problem vars) (Obj n) ts are)
+      args-parameters (first + 1) ts (All-tail (IsTermOf problem variable_count) (Obj n) ts are)
       ∙ ap (λ k. filter (is_parameter params) (map (substitute names) (variables_from k (count_by is_object ts)))) next in
       ap (λ l. cond (is_parameter params (substitute names (Var first))) (substitute names (Var first) ∷ l) l) rest
       ∙ ap (λ k. filter (is_parameter params) (map (substitute names) (variables_from first k))) (sym counted)
@@ -203,11 +203,11 @@ module _ (problem : Problem) (vars params : ℕ) (names : List Term) where
       omega (arith, sum_by-cons (λ t. cond (is_object t) 1 0) (Var v) ts) in
       ap (λ b. cond b (Var (params + v) ∷ filter (is_parameter params) (named_args names params first ts))
       (filter (is_parameter params) (named_args names params first ts))) (not_below params v)
-      ∙ args-parameters first ts (All-tail (IsTermOf problem vars) (Var v) ts are)
+      ∙ args-parameters first ts (All-tail (IsTermOf problem variable_count) (Var v) ts are)
       ∙ ap (λ k. filter (is_parameter params) (map (substitute names) (variables_from first k))) (sym counted)
-  args-parameters first (WildCard ∷ ts) are = absurd (All-head (IsTermOf problem vars) WildCard ts are)
+  args-parameters first (WildCard ∷ ts) are = absurd (All-head (IsTermOf problem variable_count) WildCard ts are)
 
-  goal-parameters : (first : ℕ) (goal : List Atom) → All (IsAtomOf problem vars) goal
+  goal-parameters : (first : ℕ) (goal : List Atom) → All (IsAtomOf problem variable_count) goal
       → filter (is_parameter params) (flat_map (λ (atom : Atom). atom.args) (named_goal names params first goal))
       ≡ filter (is_parameter params) (map (substitute names) (variables_from first (goal_objects goal)))
   goal-parameters first [] are = refl
@@ -215,8 +215,8 @@ module _ (problem : Problem) (vars params : ℕ) (names : List Term) where
       let counted : goal_objects (a ∷ goal) ≡ count_by is_object a.args + goal_objects goal =
       sum_by-cons (λ (atom : Atom). count_by is_object atom.args) a goal in
       let own = count_by is_object a.args in
-      let here = args-parameters first a.args (All-head (IsAtomOf problem vars) a goal are).1 in
-      let rest = goal-parameters (first + own) goal (All-tail (IsAtomOf problem vars) a goal are) in
+      let here = args-parameters first a.args (All-head (IsAtomOf problem variable_count) a goal are).1 in
+      let rest = goal-parameters (first + own) goal (All-tail (IsAtomOf problem variable_count) a goal are) in
       filter-append (is_parameter params) (named_args names params first a.args)
       (flat_map (λ (atom : Atom). atom.args) (named_goal names params (first + own) goal))
       ∙ ap (λ l. l ++ filter (is_parameter params) (flat_map (λ (atom : Atom). atom.args) (named_goal names params (first + own) goal)))
@@ -283,10 +283,10 @@ module _ (problem : Problem) (plan general : Table) (names roots : List Term) (i
 
   goal-same : chosen goal_part ≡ chosen (map (substitute names) goal_walk)
   goal-same =
-      let goal_are : All (IsAtomOf problem plan.goal_vars) plan.goal =
+      let goal_are : All (IsAtomOf problem plan.goal_variable_count) plan.goal =
       subst (λ (n : ℕ). All (IsAtomOf problem n) plan.goal) (omega (arith, no_params)) is_table.in_range.goal in
       ap (λ (g : List Atom). chosen (flat_map (λ (atom : Atom). atom.args) g)) replayed.goal
-      ∙ goal-parameters problem plan.goal_vars general.params names (step_variables plan.steps) plan.goal goal_are
+      ∙ goal-parameters problem plan.goal_variable_count general.params names (step_variables plan.steps) plan.goal goal_are
 
   -- what is put of the table's terms is what is put along the walk
   all-same : put [] (marks_part ++ (steps_part ++ (goal_part ++ rows_part))) ≡ put [] (map (substitute names) (walked_terms problem plan))

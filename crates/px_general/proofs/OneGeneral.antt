@@ -37,13 +37,13 @@ own_terms table = step_terms table.steps ++ (goal_terms table.goal ++ row_terms 
 
 -- each is one of the problem's over the parameters and the goal's own variables
 own-term : (problem : Problem) (table : Table) → IsTable problem table → (t : Term) → Contains (own_terms table) t
-    → IsTermOf problem (table.params + table.goal_vars) t
+    → IsTermOf problem (table.params + table.goal_variable_count) t
 own-term problem table is_table t has =
     elim (Contains-append_cases (step_terms table.steps) (goal_terms table.goal ++ row_terms (rows_of table.proofs)) t has) [
-      | inl in_steps ↦ term_of_more problem table.params table.goal_vars t (of-steps problem table is_table t in_steps)
+      | inl in_steps ↦ term_of_more problem table.params table.goal_variable_count t (of-steps problem table is_table t in_steps)
       | inr later ↦ elim (Contains-append_cases (goal_terms table.goal) (row_terms (rows_of table.proofs)) t later) [
         | inl in_goal ↦ of-goal problem table is_table t in_goal
-        | inr in_rows ↦ term_of_more problem table.params table.goal_vars t (of-rows problem table is_table t in_rows)
+        | inr in_rows ↦ term_of_more problem table.params table.goal_variable_count t (of-rows problem table is_table t in_rows)
       ]
     ]
 
@@ -82,15 +82,15 @@ proofs-one rows others same =
 
 module _ (problem : Problem) (one other : Table) (is_one : IsTable problem one) (is_other : IsTable problem other) (objects others : List ℕ)
     (count : length objects ≡ one.params) (other_count : length others ≡ other.params)
-    (by : IsTableBy (renamed problem.objects other.params objects one.goal_vars) one other)
-    (back : IsTableBy (renamed problem.objects one.params others other.goal_vars) other one)
+    (by : IsTableBy (renamed problem.objects other.params objects one.goal_variable_count) one other)
+    (back : IsTableBy (renamed problem.objects one.params others other.goal_variable_count) other one)
     (numbered : each_once term_eq (filter (is_parameter one.params) (terms_in one)) ≡ variables one.params)
     (renumbered : each_once term_eq (filter (is_parameter other.params) (terms_in other)) ≡ variables other.params) where
   abbrev there : Term → Term
-  there = renamed problem.objects other.params objects one.goal_vars
+  there = renamed problem.objects other.params objects one.goal_variable_count
 
   abbrev again : Term → Term
-  again = renamed problem.objects one.params others other.goal_vars
+  again = renamed problem.objects one.params others other.goal_variable_count
 
   -- there and back again is where it was
   round : (t : Term) → Contains (own_terms one) t → again (there t) ≡ t
@@ -104,8 +104,8 @@ module _ (problem : Problem) (one other : Table) (is_one : IsTable problem one) 
   object-stays : (n : ℕ) → n < problem.objects → there (Obj n) ≡ Obj n
   object-stays n below = below-back problem.objects other.params n below
 
-  own-moves : (j : ℕ) → j < one.goal_vars → there (Var (one.params + j)) ≡ Var (other.params + j)
-  own-moves j below = ap (read_back problem.objects other.params) (put-own objects one.params one.goal_vars count j below)
+  own-moves : (j : ℕ) → j < one.goal_variable_count → there (Var (one.params + j)) ≡ Var (other.params + j)
+  own-moves j below = ap (read_back problem.objects other.params) (put-own objects one.params one.goal_variable_count count j below)
 
   -- what is read back as a parameter was one
   reads-parameter : (v w : ℕ) → v < one.params → again (Var w) ≡ Var v → w < other.params
@@ -114,14 +114,14 @@ module _ (problem : Problem) (one other : Table) (is_one : IsTable problem one) 
     | inr outside ↦
         let place : other.params + (w - other.params) ≡ w = omega (arith, outside) in
         let here : again (Var (other.params + (w - other.params))) ≡ Var v = subst (λ x. again (Var x) ≡ Var v) (sym place) reads in
-        elim (less_or_not (w - other.params) other.goal_vars) [
+        elim (less_or_not (w - other.params) other.goal_variable_count) [
           | inl own ↦
               let number : one.params + (w - other.params) ≡ v =
               variable_number (sym (ap (read_back problem.objects one.params)
-              (put-own others other.params other.goal_vars other_count (w - other.params) own)) ∙ here) in
+              (put-own others other.params other.goal_variable_count other_count (w - other.params) own)) ∙ here) in
               absurd (omega (arith, number, below))
           | inr past ↦ absurd (no_wild (sym (ap (read_back problem.objects one.params)
-              (put-past others other.params other.goal_vars other_count (w - other.params) past)) ∙ here))
+              (put-past others other.params other.goal_variable_count other_count (w - other.params) past)) ∙ here))
         ]
   ]
     where
@@ -134,7 +134,7 @@ module _ (problem : Problem) (one other : Table) (is_one : IsTable problem one) 
   parameter-moves : (v : ℕ) → v < one.params → (w : ℕ) × (w < other.params) × (there (Var v) ≡ Var w)
   parameter-moves v below =
       let has = occurs-own problem one is_one (Var v) (parameter-occurs one.params (terms_in one) numbered v below) in
-      let put = put-parameter objects one.params one.goal_vars count v below in
+      let put = put-parameter objects one.params one.goal_variable_count count v below in
       let n : ℕ = slice_index objects v in
       elim (less_or_not n problem.objects) [
         | inl old ↦
@@ -153,7 +153,7 @@ module _ (problem : Problem) (one other : Table) (is_one : IsTable problem one) 
   alike : (t : Term) → Contains (own_terms one) t → is_parameter other.params (there t) ≡ is_parameter one.params t
   alike t has = by_term t (own-term problem one is_one t has)
     where
-      by_term : (t : Term) → IsTermOf problem (one.params + one.goal_vars) t
+      by_term : (t : Term) → IsTermOf problem (one.params + one.goal_variable_count) t
           → is_parameter other.params (there t) ≡ is_parameter one.params t
       by_term (Obj n) is = ap (is_parameter other.params) (object-stays n is)
       by_term WildCard is = absurd is
@@ -196,7 +196,7 @@ module _ (problem : Problem) (one other : Table) (is_one : IsTable problem one) 
       numbered (ap (λ l. each_once term_eq (filter (is_parameter other.params) l)) (sym terms-are) ∙ renumbered)
 
   -- so no term moves
-  left : (t : Term) → IsTermOf problem (one.params + one.goal_vars) t → there t ≡ t
+  left : (t : Term) → IsTermOf problem (one.params + one.goal_variable_count) t → there t ≡ t
   left (Obj n) is = object-stays n is
   left WildCard is = absurd is
   left (Var v) is = elim (less_or_not v one.params) [
@@ -207,19 +207,19 @@ module _ (problem : Problem) (one other : Table) (is_one : IsTable problem one) 
         ∙ ap (λ n. Var (n + (v - one.params))) (sym numbers.0))
   ]
 
-  pub same_tables : one.goal_vars ≡ other.goal_vars → one.param_sorts ≡ sorts_by_places problem one.steps one.params
+  pub same_tables : one.goal_variable_count ≡ other.goal_variable_count → one.param_sorts ≡ sorts_by_places problem one.steps one.params
       → other.param_sorts ≡ sorts_by_places problem other.steps other.params → one ≡ other
-  same_tables goal_vars sorts_one sorts_other =
+  same_tables goal_variable_count sorts_one sorts_other =
       let steps : one.steps ≡ other.steps =
       sym (steps-by there (λ t. t) (λ t. t) one.steps
-      (λ t has. left t (term_of_more problem one.params one.goal_vars t (of-steps problem one is_one t has))) ∙ steps-same one.steps)
+      (λ t has. left t (term_of_more problem one.params one.goal_variable_count t (of-steps problem one is_one t has))) ∙ steps-same one.steps)
       ∙ ap (map (instance_by there)) (steps-same one.steps) ∙ by.steps in
       let goal : one.goal ≡ other.goal =
       sym (goal-by there (λ t. t) (λ t. t) one.goal (λ t has. left t (of-goal problem one is_one t has)) ∙ goal-same one.goal)
       ∙ ap (map (atom_by there)) (goal-same one.goal) ∙ by.goal in
       let rows : rows_of one.proofs ≡ rows_of other.proofs =
       sym (rows-by there (λ t. t) (λ t. t) (rows_of one.proofs)
-      (λ t has. left t (term_of_more problem one.params one.goal_vars t (of-rows problem one is_one t has)))
+      (λ t has. left t (term_of_more problem one.params one.goal_variable_count t (of-rows problem one is_one t has)))
       ∙ rows-same (rows_of one.proofs))
       ∙ ap (rows_by there) (rows-same (rows_of one.proofs)) ∙ by.rows in
       let marks : one.marks ≡ other.marks = is_one.marks ∙ ap (marks_from 1) rows ∙ sym is_other.marks in
@@ -232,7 +232,7 @@ module _ (problem : Problem) (one other : Table) (is_one : IsTable problem one) 
         params = params i;
         steps = steps i;
         goal = goal i;
-        goal_vars = goal_vars i;
+        goal_variable_count = goal_variable_count i;
         marks = marks i;
         proofs = proofs i;
         param_sorts = sorts i;
@@ -260,7 +260,7 @@ new-fit problem valid table v below other =
 shared : (problem : Problem) (plan one other : Table) → IsValid problem → IsTable problem plan → IsProper problem plan [] 1
     → Generalises problem plan one → Generalises problem plan other
     → (objects : List ℕ) × (length objects ≡ other.params)
-    × IsTableBy (renamed problem.objects one.params objects other.goal_vars) other one
+    × IsTableBy (renamed problem.objects one.params objects other.goal_variable_count) other one
 shared problem plan one other valid is_table proper is_one is_other =
     let new : List ℕ = numbers_from problem.objects one.params in
     let own = has_instance problem plan is_table is_one.no_params proper one is_one in
@@ -290,5 +290,5 @@ general_is_one problem plan one other valid is_table proper is_one is_other =
     let back = shared problem plan one other valid is_table proper is_one is_other in
     let by = shared problem plan other one valid is_table proper is_other is_one in
     same_tables problem one other is_one.table is_other.table by.0 back.0 by.1 back.1 by.2 back.2 is_one.numbered is_other.numbered
-    (is_one.goal_vars ∙ sym is_other.goal_vars) (sorts_of_places-computed problem one is_one.sorts)
+    (is_one.goal_variable_count ∙ sym is_other.goal_variable_count) (sorts_of_places-computed problem one is_one.sorts)
     (sorts_of_places-computed problem other is_other.sorts)

@@ -9,7 +9,7 @@ use Rattle.px_terms.specs.Language.{substitute}
 use Rattle.px_terms.specs.Substitution.{substitute_atom, variables_from}
 use Rattle.px_proof.specs.declared.proof.Leaf.{Leaf}
 use Rattle.px_proof.specs.Derivation.{Derivation, Derivations, fact, ancestor, step, gap, open_place, none, also, leaves_of, all_leaves_of}
-use Rattle.px_proof.specs.PlaceLaws.{All-front, All-back}
+use Rattle.px_proof.specs.PlaceLaws.{All-prefix, All-back}
 use Rattle.px_proof.specs.Substitution.{derivation_under, derivations_under}
 use Rattle.px_replay.specs.FreshVariables.{fresh_in, all_fresh_in}
 use Rattle.px_replay.specs.Replay.{opened_atom, opened, all_opened, own_terms, all_own_terms}
@@ -19,8 +19,8 @@ use Rattle.px_general.proofs.Matching.{Matches, AllMatch}
 abbrev pub HasFrom : List Term → ℕ → List Term → Type 0
 HasFrom terms first ts = (k : ℕ) (t : Term) → slice_get ts k ≡ Some t → slice_get terms (first + k) ≡ Some t
 
-pub HasFrom-front : (terms : List Term) (first : ℕ) (xs ys : List Term) → HasFrom terms first (xs ++ ys) → HasFrom terms first xs
-HasFrom-front terms first xs ys h k t e = h k t (there xs ys k t e)
+pub HasFrom-prefix : (terms : List Term) (first : ℕ) (xs ys : List Term) → HasFrom terms first (xs ++ ys) → HasFrom terms first xs
+HasFrom-prefix terms first xs ys h k t e = h k t (there xs ys k t e)
   where
     there : (xs ys : List Term) (k : ℕ) (t : Term) → slice_get xs k ≡ Some t → slice_get (xs ++ ys) k ≡ Some t
     there [] ys k t e = absurd (cc)
@@ -121,7 +121,7 @@ module _ (named : ℕ → ℕ → Atom) (terms : List Term) where
     opened-is first (fact l) (fact m) h has names = ap fact (same_leaf _ m h.0 h.1 (opened_leaf first l m h has (names 0 m (omega arith))))
     opened-is first (ancestor i) (ancestor j) h has names = ap ancestor h
     opened-is first (step c theta place parts) (step d tau spot others) h has names =
-        let own = variables-are terms first tau (HasFrom-front terms first tau (all_own_terms others) has) in
+        let own = variables-are terms first tau (HasFrom-prefix terms first tau (all_own_terms others) has) in
         let args : map (substitute terms) (variables_from first (length theta)) ≡ tau =
         ap (λ (k : ℕ). map (substitute terms) (variables_from first k)) h.2 ∙ own in
         let rest =
@@ -148,8 +148,8 @@ module _ (named : ℕ → ℕ → Atom) (terms : List Term) where
     all_opened-are first none none h has names = refl
     all_opened-are first (also q qs) (also u us) h has names =
         let one =
-        opened-is first q u h.0 (HasFrom-front terms first (own_terms u) (all_own_terms us) has)
-        (All-front IsNamedAdd (leaves_of u) (all_leaves_of us) names) in
+        opened-is first q u h.0 (HasFrom-prefix terms first (own_terms u) (all_own_terms us) has)
+        (All-prefix IsNamedAdd (leaves_of u) (all_leaves_of us) names) in
         let rest =
         all_opened-are (first + fresh_in q) qs us h.1
         (HasFrom-back terms first (first + fresh_in q) (own_terms u) (all_own_terms us) (omega (arith, fresh-own q u h.0)) has)

@@ -13,7 +13,7 @@ use Rattle.px_terms.specs.Language.{IsPlainBelow}
 use Rattle.px_terms.specs.Operators.{precondition}
 use Rattle.px_proof.specs.Derivation.{Derivation, Derivations, fact, ancestor, step, gap, open_place, none, also, terms_of, all_terms_of}
 use Rattle.px_proof.specs.Literals.{complement_of, positive_of, substitute_literal}
-use Rattle.px_proof.specs.PlaceLaws.{All-back, All-front, All-got}
+use Rattle.px_proof.specs.PlaceLaws.{All-back, All-prefix, All-got}
 use Rattle.px_proof.specs.Proves.{instance_of, parts_of}
 use Rattle.px_replay.specs.Opened.{row_pairs, rows_pairs}
 use Rattle.px_replay.specs.Replay.{HasForm, HaveForms, all_pairs_of, atom_at, pairs_of}
@@ -61,7 +61,7 @@ module _ (n : ℕ) (axioms : List Clause) (arena : IsArena axioms) where
         All-cons (IsPlainPair n) (lit.atom, atom_at path i) [] (here, found) (All-nil (IsPlainPair n))
     pairs-plain path lit (step number theta place parts) form above here below =
         let clause = form.0 in
-        let terms_below = All-front (IsPlainBelow n) theta (all_terms_of parts) below in
+        let terms_below = All-prefix (IsPlainBelow n) theta (all_terms_of parts) below in
         let plain : ArePlainBelow (length theta) clause.lits =
         subst (λ (k : ℕ). ArePlainBelow k clause.lits) (sym form.2) (All-got IsClause axioms number clause arena.each form.1).plain in
         let head : All (IsPlainBelow n) (atom_at (instance_of clause.lits theta) place).args =
@@ -85,7 +85,7 @@ module _ (n : ℕ) (axioms : List Clause) (arena : IsArena axioms) where
     all-pairs-plain path (lit ∷ lits) (also d ds) forms above here below =
         All-append (IsPlainPair n) (pairs_of axioms path lit d) (all_pairs_of axioms path lits ds)
         (pairs-plain path lit d forms.0 above (All-head IsPlainLiteral lit lits here)
-        (All-front (IsPlainBelow n) (terms_of d) (all_terms_of ds) below))
+        (All-prefix (IsPlainBelow n) (terms_of d) (all_terms_of ds) below))
         (all-pairs-plain path lits ds forms.1 above (All-tail IsPlainLiteral lit lits here)
         (All-back (IsPlainBelow n) (terms_of d) (all_terms_of ds) below))
 
@@ -98,7 +98,7 @@ module _ (n : ℕ) (axioms : List Clause) (arena : IsArena axioms) where
       All-append (IsPlainPair n) (pairs_of axioms [] (positive_of atom) d) (row_pairs axioms atoms row)
       (pairs-plain [] (positive_of atom) d forms.0 (All-nil IsPlainLiteral)
       (All-head (λ (a : Atom). All (IsPlainBelow n) a.args) atom atoms here)
-      (All-front (IsPlainBelow n) (terms_of d) (flat_map terms_of row) below))
+      (All-prefix (IsPlainBelow n) (terms_of d) (flat_map terms_of row) below))
       (row-plain atoms row forms.1 (All-tail (λ (a : Atom). All (IsPlainBelow n) a.args) atom atoms here)
       (All-back (IsPlainBelow n) (terms_of d) (flat_map terms_of row) below))
 
@@ -109,13 +109,13 @@ pub rows-plain : (n : ℕ) (problem : Problem) (arena : IsArena problem.axioms) 
 rows-plain n problem arena [] goal [] forms needs goal_below below = absurd forms
 rows-plain n problem arena [] goal (row ∷ []) forms needs goal_below below =
     row-plain n problem.axioms arena goal row forms goal_below
-    (All-front (IsPlainBelow n) (flat_map terms_of row) [] below)
+    (All-prefix (IsPlainBelow n) (flat_map terms_of row) [] below)
 rows-plain n problem arena [] goal (row ∷ second ∷ rows) forms needs goal_below below = absurd forms
 rows-plain n problem arena (inst ∷ steps) goal [] forms needs goal_below below = absurd forms
 rows-plain n problem arena (inst ∷ steps) goal (row ∷ rows) forms needs goal_below below =
     let Needs : OpInst → Type 0 = λ (o : OpInst). ArePlainAtoms n (precondition problem o) in
     All-append (IsPlainPair n) (row_pairs problem.axioms (precondition problem inst) row) (rows_pairs problem steps goal rows)
     (row-plain n problem.axioms arena (precondition problem inst) row forms.0 (All-head Needs inst steps needs)
-    (All-front (IsPlainBelow n) (flat_map terms_of row) (flat_map (flat_map terms_of) rows) below))
+    (All-prefix (IsPlainBelow n) (flat_map terms_of row) (flat_map (flat_map terms_of) rows) below))
     (rows-plain n problem arena steps goal rows forms.1 (All-tail Needs inst steps needs) goal_below
     (All-back (IsPlainBelow n) (flat_map terms_of row) (flat_map (flat_map terms_of) rows) below))

@@ -36,17 +36,17 @@ steps_terms-names problem steps all = All-flat_map (IsObjectOrParameter problem.
     All-each (IsObjectOrParameter problem.objects 0) s.args (λ t there. name_of_term problem 0 t
     (All-at (IsTermOf problem 0) s.args t (All-at (λ (inst : OpInst). All (IsTermOf problem 0) inst.args) steps s all has) there)))
 
-own_of_goal-names : (problem : Problem) (vars : ℕ) (goal : List Atom) → All (IsAtomOf problem vars) goal
+own_of_goal-names : (problem : Problem) (variable_count : ℕ) (goal : List Atom) → All (IsAtomOf problem variable_count) goal
     → All (IsObjectOrParameter problem.objects 0) (own_of_goal goal)
-own_of_goal-names problem vars goal all =
+own_of_goal-names problem variable_count goal all =
     All-flat_map (IsObjectOrParameter problem.objects 0) (λ (atom : Atom). objects_among atom.args) goal (λ a has.
     objects_among-all (IsObjectOrParameter problem.objects 0) a.args
-    (λ n there. All-at (IsTermOf problem vars) a.args (Obj n) (All-at (IsAtomOf problem vars) goal a all has).1 there))
+    (λ n there. All-at (IsTermOf problem variable_count) a.args (Obj n) (All-at (IsAtomOf problem variable_count) goal a all has).1 there))
 
 module _ (problem : Problem) (plan : Table) (is_table : IsTable problem plan) (no_params : plan.params ≡ 0) where
-  plan_prove : RowsProve (IsObjectOrParameter problem.objects 0) problem 0 plan.steps plan.goal plan.goal_vars (rows_of plan.proofs)
+  plan_prove : RowsProve (IsObjectOrParameter problem.objects 0) problem 0 plan.steps plan.goal plan.goal_variable_count (rows_of plan.proofs)
   plan_prove =
-      subst (λ (n : ℕ). RowsProve (IsObjectOrParameter problem.objects n) problem n plan.steps plan.goal plan.goal_vars
+      subst (λ (n : ℕ). RowsProve (IsObjectOrParameter problem.objects n) problem n plan.steps plan.goal plan.goal_variable_count
       (rows_of plan.proofs)) no_params
       is_table.prove
 
@@ -67,8 +67,8 @@ module _ (problem : Problem) (plan : Table) (is_table : IsTable problem plan) (n
       (steps_terms-names problem plan.steps (λ k d below. subst
       (λ (n : ℕ). All (IsTermOf problem n) ((slice_index_or plan.steps k d).args)) no_params
       (is_table.in_range.steps k d below).terms))
-      (own_of_goal-names problem (plan.params + plan.goal_vars) plan.goal is_table.in_range.goal)
-      (rows_terms-allowed (IsObjectOrParameter problem.objects 0) problem 0 plan.goal plan.goal_vars plan.steps
+      (own_of_goal-names problem (plan.params + plan.goal_variable_count) plan.goal is_table.in_range.goal)
+      (rows_terms-allowed (IsObjectOrParameter problem.objects 0) problem 0 plan.goal plan.goal_variable_count plan.steps
       (rows_of plan.proofs) plan_prove)
 
   pub plan-own : (terms : List Term) × MakesEachEqual (replay_pairs problem plan) terms

@@ -17,7 +17,7 @@ use Rattle.px_unify.specs.Changes.{MakesPairEqual, MakesEachEqual}
 use Rattle.px_proof.specs.declared.proof.Leaf.{Leaf}
 use Rattle.px_proof.specs.Derivation.{Derivation, Derivations, fact, ancestor, step, gap, open_place, none, also, leaves_of, all_leaves_of, terms_of, all_terms_of}
 use Rattle.px_proof.specs.Literals.{complement_of, positive_of, substitute_literal}
-use Rattle.px_proof.specs.PlaceLaws.{slice_get-map, All-front, All-back, All-got}
+use Rattle.px_proof.specs.PlaceLaws.{slice_get-map, All-prefix, All-back, All-got}
 use Rattle.px_proof.specs.Proves.{Proves, ProvesEach, IsObjectOrParameter, from_atoms, instance_of, parts_of}
 use Rattle.px_proof.specs.Substitution.{derivation_under, derivations_under}
 use Rattle.px_proof.specs.SubstitutionLaws.{instance_twice, parts_under}
@@ -68,7 +68,7 @@ module _ (Is : Term → Type 0) (axioms : List Clause) (atoms : List Atom) (term
           record {
             axiom_at = form.1;
             terms = length-map theta (substitute terms) ∙ form.2;
-            choices = are-under theta (All-front IsUnder theta (all_terms_of parts) are);
+            choices = are-under theta (All-prefix IsUnder theta (all_terms_of parts) are);
             literal_at =
                 ap (λ (ls : List Lit). slice_get ls place) (sym (instance_twice terms theta clause.lits))
                 ∙ slice_get-map (substitute_literal terms) (instance_of clause.lits theta) place found form.3.1 ∙ ap Some same;
@@ -91,8 +91,8 @@ module _ (Is : Term → Type 0) (axioms : List Clause) (atoms : List Atom) (term
     each-from_pairs path [] (also d ds) forms equal are given = absurd forms
     each-from_pairs path (lit ∷ lits) none forms equal are given = absurd forms
     each-from_pairs path (lit ∷ lits) (also d ds) forms equal are given = (
-      proves-from_pairs path lit d forms.0 (All-front (MakesPairEqual terms) (pairs_of axioms path lit d)
-          (all_pairs_of axioms path lits ds) equal) (All-front IsUnder (terms_of d) (all_terms_of ds) are)
+      proves-from_pairs path lit d forms.0 (All-prefix (MakesPairEqual terms) (pairs_of axioms path lit d)
+          (all_pairs_of axioms path lits ds) equal) (All-prefix IsUnder (terms_of d) (all_terms_of ds) are)
           (λ leaf has. given leaf (Contains-append_left (leaves_of d) (all_leaves_of ds) leaf has)),
       each-from_pairs path lits ds forms.1 (All-back (MakesPairEqual terms) (pairs_of axioms path lit d)
           (all_pairs_of axioms path lits ds) equal) (All-back IsUnder (terms_of d) (all_terms_of ds) are)
@@ -102,11 +102,11 @@ module _ (Is : Term → Type 0) (axioms : List Clause) (atoms : List Atom) (term
 -- ---- what is proved over names is over names
 
 module _ (problem : Problem) (valid : IsValid problem) (params : ℕ) (atoms : List Atom) where
-  literal_terms : (vars : ℕ) (theta : List Term) → length theta ≡ vars → All (IsObjectOrParameter problem.objects params) theta → (t : Term)
-      → IsTermOf problem vars t → IsObjectOrParameter problem.objects params (substitute theta t)
-  literal_terms vars theta long names (Obj n) is = is
-  literal_terms vars theta long names (Var v) is = names v WildCard (omega (arith, long, is))
-  literal_terms vars theta long names WildCard is = absurd is
+  literal_terms : (variable_count : ℕ) (theta : List Term) → length theta ≡ variable_count → All (IsObjectOrParameter problem.objects params) theta → (t : Term)
+      → IsTermOf problem variable_count t → IsObjectOrParameter problem.objects params (substitute theta t)
+  literal_terms variable_count theta long names (Obj n) is = is
+  literal_terms variable_count theta long names (Var v) is = names v WildCard (omega (arith, long, is))
+  literal_terms variable_count theta long names WildCard is = absurd is
 
   pub conclusion-names : (lit : Lit) (d : Derivation)
       → Proves (from_atoms (IsObjectOrParameter problem.objects params) atoms) problem.axioms [] lit d
@@ -119,10 +119,10 @@ module _ (problem : Problem) (valid : IsValid problem) (params : ℕ) (atoms : L
   conclusion-names lit (step number theta place parts) p =
       let from = from_map (substitute_literal theta) p.0.lits place lit p.1.literal_at in
       let is_axiom : IsAxiomOf problem p.0 = All-got (IsAxiomOf problem) problem.axioms number p.0 valid.axioms p.1.axiom_at in
-      let of_clause : IsAtomOf problem p.0.vars from.0.atom =
-      All-got (λ (l : Lit). IsAtomOf problem p.0.vars l.atom) p.0.lits place from.0 is_axiom.lits from.1 in
+      let of_clause : IsAtomOf problem p.0.variable_count from.0.atom =
+      All-got (λ (l : Lit). IsAtomOf problem p.0.variable_count l.atom) p.0.lits place from.0 is_axiom.lits from.1 in
       subst (λ (l : Lit). All (IsObjectOrParameter problem.objects params) l.atom.args) from.2
       (All-map (IsObjectOrParameter problem.objects params) (substitute theta) from.0.atom.args
-      (λ k d below. literal_terms p.0.vars theta p.1.terms p.1.choices _ (of_clause.1 k d below)))
+      (λ k d below. literal_terms p.0.variable_count theta p.1.terms p.1.choices _ (of_clause.1 k d below)))
   conclusion-names lit (gap atom) p = absurd p.1
   conclusion-names lit open_place p = absurd p

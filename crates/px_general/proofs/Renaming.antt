@@ -62,21 +62,21 @@ module _ (problem : Problem) (table : Table) (is_table : IsTable problem table) 
   pub of-steps : (t : Term) → Contains (step_terms table.steps) t → IsTermOf problem table.params t
   of-steps = steps-terms problem table.params table.steps is_table.in_range.steps
 
-  pub of-goal : (t : Term) → Contains (goal_terms table.goal) t → IsTermOf problem (table.params + table.goal_vars) t
-  of-goal = goal-terms problem (table.params + table.goal_vars) table.goal is_table.in_range.goal
+  pub of-goal : (t : Term) → Contains (goal_terms table.goal) t → IsTermOf problem (table.params + table.goal_variable_count) t
+  of-goal = goal-terms problem (table.params + table.goal_variable_count) table.goal is_table.in_range.goal
 
   pub of-rows : (t : Term) → Contains (row_terms (rows_of table.proofs)) t → IsTermOf problem table.params t
   of-rows t has =
       term_of_name problem table.params t
       (All-at (IsObjectOrParameter problem.objects table.params) (row_terms (rows_of table.proofs)) t
-      (rows_terms-allowed (IsObjectOrParameter problem.objects table.params) problem table.params table.goal table.goal_vars table.steps
+      (rows_terms-allowed (IsObjectOrParameter problem.objects table.params) problem table.params table.goal table.goal_variable_count table.steps
       (rows_of table.proofs) is_table.prove) has)
 
 -- ---- putting objects in, and reading parameters back from them
 
 -- the objects for the parameters, while the goal's own variables are numbered from 0
 abbrev pub put_in : List ℕ → ℕ → Term → Term
-put_in objects goal_vars = substitute (map Obj objects ++ variables goal_vars)
+put_in objects goal_variable_count = substitute (map Obj objects ++ variables goal_variable_count)
 
 -- an object from the limit on is read as a parameter; the goal's own variables follow the parameters
 abbrev pub read_back : ℕ → ℕ → Term → Term
@@ -85,7 +85,7 @@ read_back limit params (Var v) = Var (params + v)
 read_back limit params WildCard = WildCard
 
 abbrev pub renamed : ℕ → ℕ → List ℕ → ℕ → Term → Term
-renamed limit params objects goal_vars t = read_back limit params (put_in objects goal_vars t)
+renamed limit params objects goal_variable_count t = read_back limit params (put_in objects goal_variable_count t)
 
 pub below-back : (limit params n : ℕ) → n < limit → read_back limit params (Obj n) ≡ Obj n
 below-back limit params n below = ap (λ b. if b then Obj n else Var (n - limit)) (lt-true n limit below)
@@ -93,42 +93,42 @@ below-back limit params n below = ap (λ b. if b then Obj n else Var (n - limit)
 pub above-back : (limit params n : ℕ) → limit ≤ n → read_back limit params (Obj n) ≡ Var (n - limit)
 above-back limit params n above = ap (λ b. if b then Obj n else Var (n - limit)) (lt-false n limit above)
 
-module _ (objects : List ℕ) (params goal_vars : ℕ) (count : length objects ≡ params) where
-  pub put-parameter : (v : ℕ) → v < params → put_in objects goal_vars (Var v) ≡ Obj (slice_index objects v)
+module _ (objects : List ℕ) (params goal_variable_count : ℕ) (count : length objects ≡ params) where
+  pub put-parameter : (v : ℕ) → v < params → put_in objects goal_variable_count (Var v) ≡ Obj (slice_index objects v)
   put-parameter v below =
-      read-left (map Obj objects) (variables goal_vars) v (omega (arith, below, count, length-map objects Obj))
+      read-left (map Obj objects) (variables goal_variable_count) v (omega (arith, below, count, length-map objects Obj))
       ∙ read-objects objects v (omega (arith, below, count))
 
-  pub put-own : (j : ℕ) → j < goal_vars → put_in objects goal_vars (Var (params + j)) ≡ Var j
+  pub put-own : (j : ℕ) → j < goal_variable_count → put_in objects goal_variable_count (Var (params + j)) ≡ Var j
   put-own j below =
-      read-right (map Obj objects) (variables goal_vars) params j (sym count ∙ sym (length-map objects Obj))
-      ∙ read-variable 0 goal_vars j below ∙ ap Var (omega arith)
+      read-right (map Obj objects) (variables goal_variable_count) params j (sym count ∙ sym (length-map objects Obj))
+      ∙ read-variable 0 goal_variable_count j below ∙ ap Var (omega arith)
 
-  pub put-past : (j : ℕ) → goal_vars ≤ j → put_in objects goal_vars (Var (params + j)) ≡ WildCard
+  pub put-past : (j : ℕ) → goal_variable_count ≤ j → put_in objects goal_variable_count (Var (params + j)) ≡ WildCard
   put-past j past =
-      read-right (map Obj objects) (variables goal_vars) params j (sym count ∙ sym (length-map objects Obj))
-      ∙ read-past (variables goal_vars) j (omega (arith, past, length-variables 0 goal_vars))
+      read-right (map Obj objects) (variables goal_variable_count) params j (sym count ∙ sym (length-map objects Obj))
+      ∙ read-past (variables goal_variable_count) j (omega (arith, past, length-variables 0 goal_variable_count))
 
   -- without the goal's own variables it is the same
-  pub put-only : (problem : Problem) (t : Term) → IsTermOf problem params t → substitute (map Obj objects) t ≡ put_in objects goal_vars t
+  pub put-only : (problem : Problem) (t : Term) → IsTermOf problem params t → substitute (map Obj objects) t ≡ put_in objects goal_variable_count t
   put-only problem (Obj n) is = refl
-  put-only problem (Var v) is = sym (read-left (map Obj objects) (variables goal_vars) v (omega (arith, is, count, length-map objects Obj)))
+  put-only problem (Var v) is = sym (read-left (map Obj objects) (variables goal_variable_count) v (omega (arith, is, count, length-map objects Obj)))
   put-only problem WildCard is = absurd is
 
 -- numbers that no object of the problem has are read back as what they were put in for
-pub new-back : (problem : Problem) (params goal_vars : ℕ) (t : Term) → IsTermOf problem (params + goal_vars) t
-    → renamed problem.objects params (numbers_from problem.objects params) goal_vars t ≡ t
-new-back problem params goal_vars (Obj n) is = below-back problem.objects params n is
-new-back problem params goal_vars WildCard is = absurd is
-new-back problem params goal_vars (Var v) is = elim (less_or_not v params) [
+pub new-back : (problem : Problem) (params goal_variable_count : ℕ) (t : Term) → IsTermOf problem (params + goal_variable_count) t
+    → renamed problem.objects params (numbers_from problem.objects params) goal_variable_count t ≡ t
+new-back problem params goal_variable_count (Obj n) is = below-back problem.objects params n is
+new-back problem params goal_variable_count WildCard is = absurd is
+new-back problem params goal_variable_count (Var v) is = elim (less_or_not v params) [
   | inl inside ↦
-      ap (read_back problem.objects params) (put-parameter (numbers_from problem.objects params) params goal_vars
+      ap (read_back problem.objects params) (put-parameter (numbers_from problem.objects params) params goal_variable_count
       (length-numbers problem.objects params) v inside ∙ ap Obj (read-numbers problem.objects params v inside))
       ∙ above-back problem.objects params (problem.objects + v) (omega arith) ∙ ap Var (omega arith)
   | inr outside ↦
       let back : params + (v - params) ≡ v = omega (arith, outside) in
-      subst (λ w. renamed problem.objects params (numbers_from problem.objects params) goal_vars (Var w) ≡ Var w) back
-      (ap (read_back problem.objects params) (put-own (numbers_from problem.objects params) params goal_vars
+      subst (λ w. renamed problem.objects params (numbers_from problem.objects params) goal_variable_count (Var w) ≡ Var w) back
+      (ap (read_back problem.objects params) (put-own (numbers_from problem.objects params) params goal_variable_count
       (length-numbers problem.objects params) (v - params) (omega (arith, is, outside))))
 ]
 
@@ -159,29 +159,29 @@ module _ (problem : Problem) (one other : Table) (is_one : IsTable problem one) 
   back = read_back limit one.params
 
   -- reading back what was put in
-  pub is_renamed : IsTableBy (renamed problem.objects one.params objects other.goal_vars) other one
+  pub is_renamed : IsTableBy (renamed problem.objects one.params objects other.goal_variable_count) other one
   is_renamed = record {
     steps =
-        sym (steps-by back (substitute (map Obj objects)) (renamed limit one.params objects other.goal_vars) other.steps
-        (λ t has. ap back (put-only objects other.params other.goal_vars count problem t (of-steps problem other is_other t has))))
+        sym (steps-by back (substitute (map Obj objects)) (renamed limit one.params objects other.goal_variable_count) other.steps
+        (λ t has. ap back (put-only objects other.params other.goal_variable_count count problem t (of-steps problem other is_other t has))))
         ∙ ap (map (instance_by back)) (sym steps_are)
         ∙ steps-by back (substitute (map Obj new_objects)) (λ t. t) one.steps
-        (λ t has. ap back (put-only new_objects one.params one.goal_vars new_count problem t (of-steps problem one is_one t has))
-        ∙ new-back problem one.params one.goal_vars t (term_of_more problem one.params one.goal_vars t (of-steps problem one is_one t has)))
+        (λ t has. ap back (put-only new_objects one.params one.goal_variable_count new_count problem t (of-steps problem one is_one t has))
+        ∙ new-back problem one.params one.goal_variable_count t (term_of_more problem one.params one.goal_variable_count t (of-steps problem one is_one t has)))
         ∙ steps-same one.steps;
     goal =
-        sym (goal-by back (put_in objects other.goal_vars) (renamed limit one.params objects other.goal_vars) other.goal (λ t has. refl))
+        sym (goal-by back (put_in objects other.goal_variable_count) (renamed limit one.params objects other.goal_variable_count) other.goal (λ t has. refl))
         ∙ ap (map (atom_by back)) (sym goal_is)
-        ∙ goal-by back (put_in new_objects one.goal_vars) (λ t. t) one.goal
-        (λ t has. new-back problem one.params one.goal_vars t (of-goal problem one is_one t has))
+        ∙ goal-by back (put_in new_objects one.goal_variable_count) (λ t. t) one.goal
+        (λ t has. new-back problem one.params one.goal_variable_count t (of-goal problem one is_one t has))
         ∙ goal-same one.goal;
     rows =
-        sym (rows-by back (substitute (map Obj objects)) (renamed limit one.params objects other.goal_vars) (rows_of other.proofs)
-        (λ t has. ap back (put-only objects other.params other.goal_vars count problem t (of-rows problem other is_other t has))))
+        sym (rows-by back (substitute (map Obj objects)) (renamed limit one.params objects other.goal_variable_count) (rows_of other.proofs)
+        (λ t has. ap back (put-only objects other.params other.goal_variable_count count problem t (of-rows problem other is_other t has))))
         ∙ ap (rows_by back) (sym (rows-under (map Obj objects) (rows_of other.proofs)) ∙ sym rows_are
         ∙ rows-under (map Obj new_objects) (rows_of one.proofs))
         ∙ rows-by back (substitute (map Obj new_objects)) (λ t. t) (rows_of one.proofs)
-        (λ t has. ap back (put-only new_objects one.params one.goal_vars new_count problem t (of-rows problem one is_one t has))
-        ∙ new-back problem one.params one.goal_vars t (term_of_more problem one.params one.goal_vars t (of-rows problem one is_one t has)))
+        (λ t has. ap back (put-only new_objects one.params one.goal_variable_count new_count problem t (of-rows problem one is_one t has))
+        ∙ new-back problem one.params one.goal_variable_count t (term_of_more problem one.params one.goal_variable_count t (of-rows problem one is_one t has)))
         ∙ rows-same (rows_of one.proofs);
   }

@@ -89,48 +89,48 @@ without-object (Obj n) is = refl
 without-object (Var v) is = absurd is
 without-object WildCard is = absurd is
 
-module _ (problem : Problem) (vars params : ℕ) (names : List Term) (sigma : List ℕ) (count : length sigma ≡ params) where
-  named_args-shape : (first : ℕ) (ts : List Term) → All (IsTermOf problem vars) ts
+module _ (problem : Problem) (variable_count params : ℕ) (names : List Term) (sigma : List ℕ) (count : length sigma ≡ params) where
+  named_args-shape : (first : ℕ) (ts : List Term) → All (IsTermOf problem variable_count) ts
       → ((v : ℕ) → first ≤ v → v < first + count_by is_object ts → IsObjectOrParameter problem.objects params (substitute names (Var v)))
-      → map without_object (map (substitute (map Obj sigma ++ variables vars)) (named_args names params first ts)) ≡ map without_object ts
+      → map without_object (map (substitute (map Obj sigma ++ variables variable_count)) (named_args names params first ts)) ≡ map without_object ts
   named_args-shape first [] are at = refl
   named_args-shape first (Obj n ∷ ts) are at =
       let counted = count-object n ts in
       let here = at first (omega arith) (omega (arith, counted)) in
       let name =
-      name-read problem.objects params (map Obj sigma) (variables vars) (substitute names (Var first))
+      name-read problem.objects params (map Obj sigma) (variables variable_count) (substitute names (Var first))
       (omega (arith, count, length-map sigma Obj)) here in
-      let head : without_object (substitute (map Obj sigma ++ variables vars) (substitute names (Var first))) ≡ Obj 0 =
+      let head : without_object (substitute (map Obj sigma ++ variables variable_count) (substitute names (Var first))) ≡ Obj 0 =
       ap without_object name ∙ without-object (substitute (map Obj sigma) (substitute names (Var first)))
       (object-there problem sigma params count (substitute names (Var first)) here) in
       let rest =
-      named_args-shape (first + 1) ts (All-tail (IsTermOf problem vars) (Obj n) ts are)
+      named_args-shape (first + 1) ts (All-tail (IsTermOf problem variable_count) (Obj n) ts are)
       (λ v low high. at v (omega (arith, low)) (omega (arith, high, counted))) in
       λ i. head i ∷ rest i
   named_args-shape first (Var v ∷ ts) are at =
-      let below : v < vars = All-head (IsTermOf problem vars) (Var v) ts are in
+      let below : v < variable_count = All-head (IsTermOf problem variable_count) (Var v) ts are in
       let counted = count-variable v ts in
-      let head : without_object (substitute (map Obj sigma ++ variables vars) (Var (params + v))) ≡ Var v =
-      ap without_object (read-right (map Obj sigma) (variables vars) params v (omega (arith, count, length-map sigma Obj))
-      ∙ read-variable 0 vars v below ∙ ap Var (omega arith)) in
+      let head : without_object (substitute (map Obj sigma ++ variables variable_count) (Var (params + v))) ≡ Var v =
+      ap without_object (read-right (map Obj sigma) (variables variable_count) params v (omega (arith, count, length-map sigma Obj))
+      ∙ read-variable 0 variable_count v below ∙ ap Var (omega arith)) in
       let rest =
-      named_args-shape first ts (All-tail (IsTermOf problem vars) (Var v) ts are)
+      named_args-shape first ts (All-tail (IsTermOf problem variable_count) (Var v) ts are)
       (λ x low high. at x low (omega (arith, high, counted))) in
       λ i. head i ∷ rest i
-  named_args-shape first (WildCard ∷ ts) are at = absurd (All-head (IsTermOf problem vars) WildCard ts are)
+  named_args-shape first (WildCard ∷ ts) are at = absurd (All-head (IsTermOf problem variable_count) WildCard ts are)
 
-  named_goal-shape : (first : ℕ) (goal : List Atom) → All (IsAtomOf problem vars) goal
+  named_goal-shape : (first : ℕ) (goal : List Atom) → All (IsAtomOf problem variable_count) goal
       → ((v : ℕ) → first ≤ v → v < first + goal_objects goal → IsObjectOrParameter problem.objects params (substitute names (Var v)))
-      → map atom_without (map (substitute_atom (map Obj sigma ++ variables vars)) (named_goal names params first goal))
+      → map atom_without (map (substitute_atom (map Obj sigma ++ variables variable_count)) (named_goal names params first goal))
       ≡ map atom_without goal
   named_goal-shape first [] are at = refl
   named_goal-shape first (a ∷ goal) are at =
       let counted = sum_by-cons (λ (atom : Atom). count_by is_object atom.args) a goal in
       let args =
-      named_args-shape first a.args (All-head (IsAtomOf problem vars) a goal are).1
+      named_args-shape first a.args (All-head (IsAtomOf problem variable_count) a goal are).1
       (λ v low high. at v low (omega (arith, high, counted))) in
       let rest =
-      named_goal-shape (first + count_by is_object a.args) goal (All-tail (IsAtomOf problem vars) a goal are)
+      named_goal-shape (first + count_by is_object a.args) goal (All-tail (IsAtomOf problem variable_count) a goal are)
       (λ v low high. at v (omega (arith, low)) (omega (arith, high, counted))) in
       λ i. record { pred = a.pred; args = args i } ∷ rest i
 
@@ -154,13 +154,13 @@ instance-shaped problem plan general names roots is_table no_params replayed obj
     let terms : List Term = map Obj objects in
     let ops : map op_of (steps_under general objects) ≡ map op_of plan.steps =
     ops-under terms general.steps ∙ ap (map op_of) replayed.steps ∙ ops-under names (steps_opened plan) ∙ ops-opened 0 plan.steps in
-    let goal_are : All (IsAtomOf problem plan.goal_vars) plan.goal =
+    let goal_are : All (IsAtomOf problem plan.goal_variable_count) plan.goal =
     subst (λ (n : ℕ). All (IsAtomOf problem n) plan.goal) (omega (arith, no_params)) is_table.in_range.goal in
     let goals : map atom_without (goal_under general objects) ≡ map atom_without plan.goal =
-    ap (λ l. map atom_without (map (substitute_atom (terms ++ variables general.goal_vars)) l)) replayed.goal
+    ap (λ l. map atom_without (map (substitute_atom (terms ++ variables general.goal_variable_count)) l)) replayed.goal
     ∙ ap (λ n. map atom_without (map (substitute_atom (terms ++ variables n))
-    (named_goal names general.params (step_variables plan.steps) plan.goal))) replayed.goal_vars
-    ∙ named_goal-shape problem plan.goal_vars general.params names objects count (step_variables plan.steps) plan.goal goal_are
+    (named_goal names general.params (step_variables plan.steps) plan.goal))) replayed.goal_variable_count
+    ∙ named_goal-shape problem plan.goal_variable_count general.params names objects count (step_variables plan.steps) plan.goal goal_are
     (slot-name problem plan general names roots replayed) in
     let rows : map (map skeleton) (rows_under general objects) ≡ map (map skeleton) (rows_of plan.proofs) =
     rows_skeletons-under terms (rows_of general.proofs) ∙ ap (map (map skeleton)) replayed.rows
@@ -171,21 +171,21 @@ pub sound_for : (problem : Problem) → IsValid problem → (plan general : Tabl
     → plan.params ≡ 0 → IsReplayed problem plan general names roots → IsTable problem general → IsSoundFor problem plan general
 sound_for problem valid plan general names roots is_table no_params replayed is_general more objects atoms steps goal rows is =
     let sorts : List ℕ = problem.object_sorts ++ more in
-    let supports : Supports problem atoms (steps_under general objects) (goal_under general objects) plan.goal_vars
+    let supports : Supports problem atoms (steps_under general objects) (goal_under general objects) plan.goal_variable_count
     (rows_under general objects) =
     subst (λ (n : ℕ). Supports problem atoms (steps_under general objects) (goal_under general objects) n (rows_under general objects))
-    replayed.goal_vars
+    replayed.goal_variable_count
     (instance_supports problem general is_general objects is.count is.proper atoms is.kernel) in
     let fit = steps-fit problem general more objects valid is_general is.count is.fitting in
     let shaped = instance-shaped problem plan general names roots is_table no_params replayed objects is.count in
-    subst (λ (s : List OpInst). Supports problem atoms s goal plan.goal_vars rows × All (IsWellSortedBy sorts problem) s
+    subst (λ (s : List OpInst). Supports problem atoms s goal plan.goal_variable_count rows × All (IsWellSortedBy sorts problem) s
     × (shape_of_support s goal rows ≡ shape_of_table plan))
     (sym is.steps_are)
-    (subst (λ (g : List Atom). Supports problem atoms (steps_under general objects) g plan.goal_vars rows
+    (subst (λ (g : List Atom). Supports problem atoms (steps_under general objects) g plan.goal_variable_count rows
     × All (IsWellSortedBy sorts problem) (steps_under general objects)
     × (shape_of_support (steps_under general objects) g rows ≡ shape_of_table plan)) (sym is.goal_is)
     (subst (λ (r : List (List Derivation)). Supports problem atoms (steps_under general objects)
-    (goal_under general objects) plan.goal_vars r
+    (goal_under general objects) plan.goal_variable_count r
     × All (IsWellSortedBy sorts problem) (steps_under general objects)
     × (shape_of_support (steps_under general objects) (goal_under general objects) r ≡ shape_of_table plan)) (sym is.rows_are)
     (supports, fit, shaped)))

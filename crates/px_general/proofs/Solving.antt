@@ -19,7 +19,7 @@ use Rattle.px_terms.specs.Validity.{IsTermOf, IsAtomOf}
 use Rattle.px_unify.specs.Changes.{MakesPairEqual, MakesEachEqual}
 use Rattle.px_proof.specs.Derivation.{Derivation, leaves_of, skeleton, leaf_atoms}
 use Rattle.px_proof.specs.Literals.{positive_of}
-use Rattle.px_proof.specs.PlaceLaws.{All-front, All-back, slice_get-read}
+use Rattle.px_proof.specs.PlaceLaws.{All-prefix, All-back, slice_get-read}
 use Rattle.px_proof.specs.Substitution.{derivation_under}
 use Rattle.px_table.specs.Marks.{row_leaves}
 use Rattle.px_table.specs.Supports.{ProvesEachOf, RowsProve}
@@ -28,7 +28,7 @@ use Rattle.px_replay.specs.FreshVariables.{fresh_in, is_object}
 use Rattle.px_replay.specs.Opened.{opened_steps, opened_args, opened_goal, opened_row, row_pairs, step_variables, goal_objects}
 use Rattle.px_replay.specs.Replay.{own_terms, pairs_of, opened}
 use Rattle.px_general.proofs.Matching.{IsAlike}
-use Rattle.px_general.proofs.Opening.{HasFrom, HasFrom-front, HasFrom-back, IsNamedAdd, read-at, variables-are, fresh-own}
+use Rattle.px_general.proofs.Opening.{HasFrom, HasFrom-prefix, HasFrom-back, IsNamedAdd, read-at, variables-are, fresh-own}
 use Rattle.px_general.proofs.OpenedForms.{own_terms-unify}
 use Rattle.px_general.proofs.Reading.{cons_same}
 
@@ -63,13 +63,13 @@ abbrev pub own_of_rows : List (List Derivation) → List Term
 own_of_rows rows = flat_map own_of_row rows
 
 -- the terms that the last row chooses for the goal's own variables
-abbrev pub goal_terms : (Is : Term → Type 0) (problem : Problem) (params : ℕ) (steps : List OpInst) (goal : List Atom) (goal_vars : ℕ)
-    (rows : List (List Derivation)) → RowsProve Is problem params steps goal goal_vars rows → List Term
-goal_terms Is problem params [] goal goal_vars [] h = []
-goal_terms Is problem params [] goal goal_vars (row ∷ []) h = h.0
-goal_terms Is problem params [] goal goal_vars (row ∷ second ∷ rows) h = []
-goal_terms Is problem params (inst ∷ steps) goal goal_vars [] h = []
-goal_terms Is problem params (inst ∷ steps) goal goal_vars (row ∷ rows) h = goal_terms Is problem params steps goal goal_vars rows h.1
+abbrev pub goal_terms : (Is : Term → Type 0) (problem : Problem) (params : ℕ) (steps : List OpInst) (goal : List Atom) (goal_variable_count : ℕ)
+    (rows : List (List Derivation)) → RowsProve Is problem params steps goal goal_variable_count rows → List Term
+goal_terms Is problem params [] goal goal_variable_count [] h = []
+goal_terms Is problem params [] goal goal_variable_count (row ∷ []) h = h.0
+goal_terms Is problem params [] goal goal_variable_count (row ∷ second ∷ rows) h = []
+goal_terms Is problem params (inst ∷ steps) goal goal_variable_count [] h = []
+goal_terms Is problem params (inst ∷ steps) goal goal_variable_count (row ∷ rows) h = goal_terms Is problem params steps goal goal_variable_count rows h.1
 
 -- all of them, where the opened plan has its fresh variables
 abbrev pub own_of : List OpInst → List Atom → List Term → List (List Derivation) → List Term
@@ -136,7 +136,7 @@ module _ (problem : Problem) where
       (All-head (HasItsArguments problem) o others g) in
       let args : map (substitute terms) (variables_from first (length s.args)) ≡ o.args =
       ap (λ (k : ℕ). map (substitute terms) (variables_from first k)) one
-      ∙ variables-are terms first o.args (HasFrom-front terms first o.args (own_of_steps others) has) in
+      ∙ variables-are terms first o.args (HasFrom-prefix terms first o.args (own_of_steps others) has) in
       let rest =
       steps-solved terms (first + length s.args) steps others both.1 (All-tail (HasItsArguments problem) s steps h)
       (All-tail (HasItsArguments problem) o others g)
@@ -190,9 +190,9 @@ goal-counted (a ∷ goal) (o ∷ others) same =
       length-append (objects_among o.args) (own_of_goal others),
     )
 
-module _ (problem : Problem) (vars : ℕ) (terms : List Term) (own : ℕ) (chosen : List Term) (enough : vars ≤ length chosen)
+module _ (problem : Problem) (variable_count : ℕ) (terms : List Term) (own : ℕ) (chosen : List Term) (enough : variable_count ≤ length chosen)
     (has_chosen : HasFrom terms own chosen) where
-  args-solved : (first : ℕ) (ts us : List Term) → map without_object us ≡ map without_object ts → All (IsTermOf problem vars) ts
+  args-solved : (first : ℕ) (ts us : List Term) → map without_object us ≡ map without_object ts → All (IsTermOf problem variable_count) ts
       → HasFrom terms first (objects_among us)
       → map (substitute terms) (opened_args first own ts) ≡ map (substitute chosen) us
   args-solved first [] [] same are has = refl
@@ -202,23 +202,23 @@ module _ (problem : Problem) (vars : ℕ) (terms : List Term) (own : ℕ) (chose
       let here : slice_index_or terms first WildCard ≡ Obj m =
       read-at terms first (Obj m) (subst (λ (k : ℕ). slice_get terms k ≡ Some (Obj m)) (omega arith) (has 0 (Obj m) refl)) in
       let rest =
-      args-solved (first + 1) ts us (cons_same _ _ _ _ same).1 (All-tail (IsTermOf problem vars) (Obj n) ts are)
+      args-solved (first + 1) ts us (cons_same _ _ _ _ same).1 (All-tail (IsTermOf problem variable_count) (Obj n) ts are)
       (HasFrom-back terms first (first + 1) (Obj m ∷ []) (objects_among us) (omega arith) has) in
       cc (here, rest)
   args-solved first (Var v ∷ ts) (Var w ∷ us) same are has =
       let same_var : w ≡ v = number (cons_same (Var w) (Var v) _ _ same).0 in
-      let below : v < vars = All-head (IsTermOf problem vars) (Var v) ts are in
+      let below : v < variable_count = All-head (IsTermOf problem variable_count) (Var v) ts are in
       let inside : w < length chosen = omega (arith, below, enough, same_var) in
       let read = slice_get-read chosen w WildCard inside in
       let here : slice_index_or terms (own + v) WildCard ≡ slice_index_or chosen w WildCard =
       read-at terms (own + v) _ (subst (λ (k : ℕ). slice_get terms (own + k) ≡ Some (slice_index_or chosen w WildCard)) same_var
       (has_chosen w _ read)) in
-      let rest = args-solved first ts us (cons_same _ _ _ _ same).1 (All-tail (IsTermOf problem vars) (Var v) ts are) has in
+      let rest = args-solved first ts us (cons_same _ _ _ _ same).1 (All-tail (IsTermOf problem variable_count) (Var v) ts are) has in
       cc (here, rest)
     where
       number : {v w : ℕ} → Var w ≡ Var v → w ≡ v
       number e = cc
-  args-solved first (WildCard ∷ ts) us same are has = absurd (All-head (IsTermOf problem vars) WildCard ts are)
+  args-solved first (WildCard ∷ ts) us same are has = absurd (All-head (IsTermOf problem variable_count) WildCard ts are)
   args-solved first (Obj n ∷ ts) (Var w ∷ us) same are has = absurd (cc)
   args-solved first (Obj n ∷ ts) (WildCard ∷ us) same are has = absurd (cc)
   args-solved first (Var v ∷ ts) (Obj m ∷ us) same are has = absurd (cc)
@@ -226,7 +226,7 @@ module _ (problem : Problem) (vars : ℕ) (terms : List Term) (own : ℕ) (chose
 
   -- the opened goal under the terms is the other goal with what is chosen for its variables
   pub goal-solved : (first : ℕ) (goal others : List Atom) → map atom_without others ≡ map atom_without goal
-      → All (IsAtomOf problem vars) goal → HasFrom terms first (own_of_goal others)
+      → All (IsAtomOf problem variable_count) goal → HasFrom terms first (own_of_goal others)
       → map (substitute_atom terms) (opened_goal first own goal) ≡ map (substitute_atom chosen) others
   goal-solved first [] [] same are has = refl
   goal-solved first [] (o ∷ others) same are has = absurd (cc)
@@ -235,9 +235,9 @@ module _ (problem : Problem) (vars : ℕ) (terms : List Term) (own : ℕ) (chose
       let both = cons_same (atom_without o) (atom_without a) (map atom_without others) (map atom_without goal) same in
       let same_args = ap (λ (x : Atom). x.args) both.0 in
       let args =
-      args-solved first a.args o.args same_args (All-head (IsAtomOf problem vars) a goal are).1
-      (HasFrom-front terms first (objects_among o.args) (own_of_goal others) has) in
-      let rest = goal-solved (first + count_by is_object a.args) goal others both.1 (All-tail (IsAtomOf problem vars) a goal are)
+      args-solved first a.args o.args same_args (All-head (IsAtomOf problem variable_count) a goal are).1
+      (HasFrom-prefix terms first (objects_among o.args) (own_of_goal others) has) in
+      let rest = goal-solved (first + count_by is_object a.args) goal others both.1 (All-tail (IsAtomOf problem variable_count) a goal are)
       (HasFrom-back terms first (first + count_by is_object a.args) (objects_among o.args) (own_of_goal others)
       (omega (arith, objects-counted a.args o.args same_args)) has) in
       λ i. record { pred = sym (ap (λ (x : Atom). x.pred) both.0) i; args = args i } ∷ rest i
@@ -295,8 +295,8 @@ module _ (One Other : Term → Type 0) (problem : Problem) (named : ℕ → ℕ 
       let one =
       own_terms-unify One problem.axioms (leaf_atoms (leaves_of d)) named Other (leaf_atoms (leaves_of e)) terms first (positive_of a)
       (positive_of b) (positive_of c) d e p.0.proves q.0.proves (sym both.0)
-      alike.0 alike'.0 (ap positive_of here.0) (HasFrom-front terms first (own_terms e) (own_of_row row') has)
-      (All-front (IsNamedAdd named terms) (leaves_of e) (row_leaves row') names) in
+      alike.0 alike'.0 (ap positive_of here.0) (HasFrom-prefix terms first (own_terms e) (own_of_row row') has)
+      (All-prefix (IsNamedAdd named terms) (leaves_of e) (row_leaves row') names) in
       let fresh = fresh-own d e one.0 in
       let rest = row-solved (first + fresh_in d) atoms opens others row row' p.1 q.1 both.1 alike.1 alike'.1 here.1
       (HasFrom-back terms first (first + fresh_in d) (own_terms e) (own_of_row row') (omega (arith, fresh)) has)

@@ -15,7 +15,7 @@ use Rattle.px_terms.specs.Substitution.{substitute_atom, substitute_instance, va
 use Rattle.px_terms.specs.Sorts.{IsWellSortedBy}
 use Rattle.px_terms.specs.Validity.{IsAtomOf, IsTermOf, IsGroundInstanceOf}
 use Rattle.px_proof.specs.Derivation.{Derivation, terms_of}
-use Rattle.px_proof.specs.PlaceLaws.{All-front, All-back, Contains-mapped}
+use Rattle.px_proof.specs.PlaceLaws.{All-prefix, All-back, Contains-mapped}
 use Rattle.px_proof.specs.Proves.{IsObjectOrParameter}
 use Rattle.px_proof.specs.Substitution.{derivation_under}
 use Rattle.px_table.specs.declared.mark.Mark.{Mark}
@@ -33,7 +33,7 @@ use Rattle.px_replay.specs.Opened.{goal_objects, named_args, named_goal, opened_
 use Rattle.px_replay.proofs.GoalSteps.{read-variable}
 use Rattle.px_general.specs.Replayed.{IsReplayed}
 use Rattle.px_general.proofs.Assembling.{IsSolution, own_terms-solve, solution_terms}
-use Rattle.px_general.proofs.Opening.{HasFrom, HasFrom-front, HasFrom-back, read-at}
+use Rattle.px_general.proofs.Opening.{HasFrom, HasFrom-prefix, HasFrom-back, read-at}
 use Rattle.px_general.proofs.Solving.{HasItsArguments, atom_without, count-object, count-variable, objects-counted, objects_among, objects_among-all, own_of_goal}
 use Rattle.px_general.proofs.Under.{All-places, Agrees, marks-under, rows-agree, rows_terms-allowed, rows_terms-under, steps-agree, steps_terms-under}
 use Rattle.px_general.proofs.Reading.{All-flat_map, cons_same, read-left, read-right, variables-have}
@@ -70,15 +70,15 @@ name-read objects params xs ys (Obj n) enough is = refl
 name-read objects params xs ys (Var v) enough is = read-left xs ys v (omega (arith, enough, is))
 name-read objects params xs ys WildCard enough is = absurd is
 
-module _ (problem : Problem) (vars params : ℕ) (terms names values : List Term) (count : length values ≡ params) where
+module _ (problem : Problem) (variable_count params : ℕ) (terms names values : List Term) (count : length values ≡ params) where
   -- at the variable the terms are the names under the values, and its name is one
   abbrev pub IsNamedAt : ℕ → Type 0
   IsNamedAt v = Agrees terms values names (Var v) × IsObjectOrParameter problem.objects params (substitute names (Var v))
 
-  named_args-are : (first : ℕ) (ts us : List Term) → map without_object us ≡ map without_object ts → All (IsTermOf problem vars) ts
+  named_args-are : (first : ℕ) (ts us : List Term) → map without_object us ≡ map without_object ts → All (IsTermOf problem variable_count) ts
       → HasFrom terms first (objects_among us)
       → ((v : ℕ) → first ≤ v → v < first + count_by is_object ts → IsNamedAt v)
-      → map (substitute (values ++ variables vars)) (named_args names params first ts) ≡ us
+      → map (substitute (values ++ variables variable_count)) (named_args names params first ts) ≡ us
   named_args-are first [] [] same are has at = refl
   named_args-are first [] (u ∷ us) same are has at = absurd (cc)
   named_args-are first (t ∷ ts) [] same are has at = absurd (cc)
@@ -87,36 +87,36 @@ module _ (problem : Problem) (vars params : ℕ) (terms names values : List Term
       let here = at first (omega arith) (omega (arith, counted)) in
       let one : substitute terms (Var first) ≡ Obj m =
       read-at terms first (Obj m) (subst (λ (k : ℕ). slice_get terms k ≡ Some (Obj m)) (omega arith) (has 0 (Obj m) refl)) in
-      let name = name-read problem.objects params values (variables vars) (substitute names (Var first)) (omega (arith, count)) here.1 in
-      let head : substitute (values ++ variables vars) (substitute names (Var first)) ≡ Obj m = name ∙ sym here.0 ∙ one in
+      let name = name-read problem.objects params values (variables variable_count) (substitute names (Var first)) (omega (arith, count)) here.1 in
+      let head : substitute (values ++ variables variable_count) (substitute names (Var first)) ≡ Obj m = name ∙ sym here.0 ∙ one in
       let rest =
-      named_args-are (first + 1) ts us (cons_same _ _ _ _ same).1 (All-tail (IsTermOf problem vars) (Obj n) ts are)
+      named_args-are (first + 1) ts us (cons_same _ _ _ _ same).1 (All-tail (IsTermOf problem variable_count) (Obj n) ts are)
       (HasFrom-back terms first (first + 1) (Obj m ∷ []) (objects_among us) (omega arith) has)
       (λ v low high. at v (omega (arith, low)) (omega (arith, high, counted))) in
       λ i. head i ∷ rest i
   named_args-are first (Var v ∷ ts) (Var w ∷ us) same are has at =
       let same_var : w ≡ v = number (cons_same (Var w) (Var v) _ _ same).0 in
-      let below : v < vars = All-head (IsTermOf problem vars) (Var v) ts are in
-      let head : substitute (values ++ variables vars) (Var (params + v)) ≡ Var w =
-      read-right values (variables vars) params v (sym count) ∙ read-variable 0 vars v below ∙ ap Var (omega (arith, same_var)) in
+      let below : v < variable_count = All-head (IsTermOf problem variable_count) (Var v) ts are in
+      let head : substitute (values ++ variables variable_count) (Var (params + v)) ≡ Var w =
+      read-right values (variables variable_count) params v (sym count) ∙ read-variable 0 variable_count v below ∙ ap Var (omega (arith, same_var)) in
       let counted = count-variable v ts in
       let rest =
-      named_args-are first ts us (cons_same _ _ _ _ same).1 (All-tail (IsTermOf problem vars) (Var v) ts are) has
+      named_args-are first ts us (cons_same _ _ _ _ same).1 (All-tail (IsTermOf problem variable_count) (Var v) ts are) has
       (λ x low high. at x low (omega (arith, high, counted))) in
       λ i. head i ∷ rest i
     where
       number : {v w : ℕ} → Var w ≡ Var v → w ≡ v
       number e = cc
-  named_args-are first (WildCard ∷ ts) us same are has at = absurd (All-head (IsTermOf problem vars) WildCard ts are)
+  named_args-are first (WildCard ∷ ts) us same are has at = absurd (All-head (IsTermOf problem variable_count) WildCard ts are)
   named_args-are first (Obj n ∷ ts) (Var w ∷ us) same are has at = absurd (cc)
   named_args-are first (Obj n ∷ ts) (WildCard ∷ us) same are has at = absurd (cc)
   named_args-are first (Var v ∷ ts) (Obj m ∷ us) same are has at = absurd (cc)
   named_args-are first (Var v ∷ ts) (WildCard ∷ us) same are has at = absurd (cc)
 
   pub named_goal-is : (first : ℕ) (goal others : List Atom) → map atom_without others ≡ map atom_without goal
-      → All (IsAtomOf problem vars) goal → HasFrom terms first (own_of_goal others)
+      → All (IsAtomOf problem variable_count) goal → HasFrom terms first (own_of_goal others)
       → ((v : ℕ) → first ≤ v → v < first + goal_objects goal → IsNamedAt v)
-      → map (substitute_atom (values ++ variables vars)) (named_goal names params first goal) ≡ others
+      → map (substitute_atom (values ++ variables variable_count)) (named_goal names params first goal) ≡ others
   named_goal-is first [] [] same are has at = refl
   named_goal-is first [] (o ∷ others) same are has at = absurd (cc)
   named_goal-is first (a ∷ goal) [] same are has at = absurd (cc)
@@ -125,10 +125,10 @@ module _ (problem : Problem) (vars params : ℕ) (terms names values : List Term
       let same_args = ap (λ (x : Atom). x.args) both.0 in
       let counted = sum_by-cons (λ (atom : Atom). count_by is_object atom.args) a goal in
       let args =
-      named_args-are first a.args o.args same_args (All-head (IsAtomOf problem vars) a goal are).1
-      (HasFrom-front terms first (objects_among o.args) (own_of_goal others) has)
+      named_args-are first a.args o.args same_args (All-head (IsAtomOf problem variable_count) a goal are).1
+      (HasFrom-prefix terms first (objects_among o.args) (own_of_goal others) has)
       (λ v low high. at v low (omega (arith, high, counted))) in
-      let rest = named_goal-is (first + count_by is_object a.args) goal others both.1 (All-tail (IsAtomOf problem vars) a goal are)
+      let rest = named_goal-is (first + count_by is_object a.args) goal others both.1 (All-tail (IsAtomOf problem variable_count) a goal are)
       (HasFrom-back terms first (first + count_by is_object a.args) (objects_among o.args) (own_of_goal others)
       (omega (arith, objects-counted a.args o.args same_args)) has)
       (λ v low high. at v (omega (arith, low)) (omega (arith, high, counted))) in
@@ -215,7 +215,7 @@ module _ (problem : Problem) (plan general : Table) (names roots : List Term) (i
   steps-are : steps ≡ steps_under general objects
   steps-are =
       sym solution.steps_are ∙ steps-agree own values names (steps_opened plan)
-      (All-front (Agrees own values names) step_terms (goal_slots ++ row_terms) agree)
+      (All-prefix (Agrees own values names) step_terms (goal_slots ++ row_terms) agree)
       ∙ ap (λ l. map (substitute_instance l) (map (substitute_instance names) (steps_opened plan))) (sym values-are)
       ∙ ap (map (substitute_instance (map Obj objects))) (sym replayed.steps)
 
@@ -228,7 +228,7 @@ module _ (problem : Problem) (plan general : Table) (names roots : List Term) (i
       ∙ ap (map (map (derivation_under (map Obj objects)))) (sym replayed.rows)
 
   slot-named : (v : ℕ) → step_variables plan.steps ≤ v → v < step_variables plan.steps + goal_objects plan.goal
-      → IsNamedAt problem plan.goal_vars general.params own names values values-count v
+      → IsNamedAt problem plan.goal_variable_count general.params own names values values-count v
   slot-named v low high =
       let has : Contains (opened_terms problem plan) (Var v) = Contains-append_right step_terms (goal_slots ++ row_terms) (Var v)
       (Contains-append_left goal_slots row_terms (Var v) (variables-have (step_variables plan.steps) (goal_objects plan.goal) v low high))
@@ -240,15 +240,15 @@ module _ (problem : Problem) (plan general : Table) (names roots : List Term) (i
 
   goal-is : goal ≡ goal_under general objects
   goal-is =
-      let goal_are : All (IsAtomOf problem plan.goal_vars) plan.goal =
+      let goal_are : All (IsAtomOf problem plan.goal_variable_count) plan.goal =
       subst (λ (n : ℕ). All (IsAtomOf problem n) plan.goal) (omega (arith, no_params)) is_table.in_range.goal in
-      sym (named_goal-is problem plan.goal_vars general.params own names values values-count (step_variables plan.steps) plan.goal goal
+      sym (named_goal-is problem plan.goal_variable_count general.params own names values values-count (step_variables plan.steps) plan.goal goal
       same_goal goal_are solution.objects slot-named)
-      ∙ ap (λ l. map (substitute_atom (l ++ variables plan.goal_vars))
+      ∙ ap (λ l. map (substitute_atom (l ++ variables plan.goal_variable_count))
       (named_goal names general.params (step_variables plan.steps) plan.goal)) (sym values-are)
       ∙ ap (λ n. map (substitute_atom (map Obj objects ++ variables n))
-      (named_goal names general.params (step_variables plan.steps) plan.goal)) (sym replayed.goal_vars)
-      ∙ ap (map (substitute_atom (map Obj objects ++ variables general.goal_vars))) (sym replayed.goal)
+      (named_goal names general.params (step_variables plan.steps) plan.goal)) (sym replayed.goal_variable_count)
+      ∙ ap (map (substitute_atom (map Obj objects ++ variables general.goal_variable_count))) (sym replayed.goal)
 
   pub are-under : AreUnder general objects steps goal rows
   are-under =
@@ -259,7 +259,7 @@ module _ (problem : Problem) (plan general : Table) (names roots : List Term) (i
 module _ (problem : Problem) (plan general : Table) (names roots : List Term) (is_table : IsTable problem plan)
     (no_params : plan.params ≡ 0) (replayed : IsReplayed problem plan general names roots)
     (sorts : List ℕ) (atoms : List Atom) (steps : List OpInst) (goal : List Atom) (rows : List (List Derivation))
-    (support : Supports problem atoms steps goal plan.goal_vars rows) (fit : All (IsWellSortedBy sorts problem) steps)
+    (support : Supports problem atoms steps goal plan.goal_variable_count rows) (fit : All (IsWellSortedBy sorts problem) steps)
     (shape : shape_of_support steps goal rows ≡ shape_of_table plan) where
   have_arguments : All (HasItsArguments problem) steps
   have_arguments k d below = (support.instances k d below).count
@@ -276,7 +276,7 @@ module _ (problem : Problem) (plan general : Table) (names roots : List Term) (i
   its-objects : (t : Term) → Contains (opened_terms problem plan) t → IsObject (substitute its_own t)
   its-objects =
       own-all IsObject problem plan steps goal rows its_own its_solution (steps_terms-objects problem steps support.instances)
-      (own_of_goal-are goal) (rows_terms-allowed IsObject problem 0 goal plan.goal_vars steps rows support.prove)
+      (own_of_goal-are goal) (rows_terms-allowed IsObject problem 0 goal plan.goal_variable_count steps rows support.prove)
 
   abbrev its_objects : List ℕ
   its_objects =

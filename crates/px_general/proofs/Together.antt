@@ -19,7 +19,7 @@ generalises problem plan general names roots valid is_table no_params replayed n
     record {
       no_params = no_params;
       table = is_general;
-      goal_vars = replayed.goal_vars;
+      goal_variable_count = replayed.goal_variable_count;
       numbered = numbered;
       sorts = sorts_by_places-said problem general is_general.sorted replayed.sorts;
       sound = sound_for problem valid plan general names roots is_table no_params replayed is_general;

@@ -160,7 +160,7 @@ replayed = record {
   count = refl;
   steps = refl;
   goal = refl;
-  goal_vars = refl;
+  goal_variable_count = refl;
   rows =
       rows_are two_sorts (Var 1) (Var 0)
       ∙ ap (λ (rows : List (List Derivation)). map (map (derivation_under names)) rows) (sym rows_opened-is);

@@ -38,14 +38,14 @@ abbrev pub IsSoundFor : Problem → Table → Table → Type 0
 IsSoundFor problem plan general =
     (more objects : List ℕ) (atoms : List Atom) (steps : List OpInst) (goal : List Atom) (rows : List (List Derivation))
     → IsTableInstance problem (problem.object_sorts ++ more) general objects atoms steps goal rows
-    → Supports problem atoms steps goal plan.goal_vars rows × All (IsWellSortedBy (problem.object_sorts ++ more) problem) steps
+    → Supports problem atoms steps goal plan.goal_variable_count rows × All (IsWellSortedBy (problem.object_sorts ++ more) problem) steps
     × (shape_of_support steps goal rows ≡ shape_of_table plan)
 
 -- Whatever sorts the numbers past the problem's objects have: each support of the plan's shape whose steps fit is a proper instance.
 abbrev pub IsGeneralFor : Problem → Table → Table → Type 0
 IsGeneralFor problem plan general =
     (more : List ℕ) (atoms : List Atom) (steps : List OpInst) (goal : List Atom) (rows : List (List Derivation))
-    → Supports problem atoms steps goal plan.goal_vars rows → All (IsWellSortedBy (problem.object_sorts ++ more) problem) steps
+    → Supports problem atoms steps goal plan.goal_variable_count rows → All (IsWellSortedBy (problem.object_sorts ++ more) problem) steps
     → shape_of_support steps goal rows ≡ shape_of_table plan
     → (objects : List ℕ) × IsTableInstance problem (problem.object_sorts ++ more) general objects atoms steps goal rows
 
@@ -54,7 +54,7 @@ IsGeneralFor problem plan general =
 pub record Generalises (problem : Problem) (plan general : Table) : Type 0 where
   pub no_params : plan.params ≡ 0
   pub table : IsTable problem general
-  pub goal_vars : general.goal_vars ≡ plan.goal_vars
+  pub goal_variable_count : general.goal_variable_count ≡ plan.goal_variable_count
   pub numbered : IsNumbered general
   pub sorts : HasSortsOfPlaces problem general
   pub sound : IsSoundFor problem plan general

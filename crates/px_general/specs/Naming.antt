@@ -83,7 +83,7 @@ pub record IsMadeOf (problem : Problem) (steps : List OpInst) (rows : List (List
     (names : List Term) : Type 0 where
   pub steps_are : general.steps ≡ map (substitute_instance names) steps
   pub goal_is : general.goal ≡ named_goal names general.params first plan.goal
-  pub goal_vars : general.goal_vars ≡ plan.goal_vars
+  pub goal_variable_count : general.goal_variable_count ≡ plan.goal_variable_count
   pub rows_are : rows_of general.proofs ≡ map (map (derivation_under names)) rows
   pub marks_are : general.marks ≡ marks_from 1 (rows_of general.proofs)
   pub sorts_are : general.param_sorts ≡ sorts_by_places problem general.steps general.params

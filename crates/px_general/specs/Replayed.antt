@@ -32,7 +32,7 @@ pub record IsReplayed (problem : Problem) (plan general : Table) (names roots : 
   pub count : length roots ≡ general.params
   pub steps : general.steps ≡ map (substitute_instance names) (steps_opened plan)
   pub goal : general.goal ≡ named_goal names general.params (step_variables plan.steps) plan.goal
-  pub goal_vars : general.goal_vars ≡ plan.goal_vars
+  pub goal_variable_count : general.goal_variable_count ≡ plan.goal_variable_count
   pub rows : rows_of general.proofs ≡ map (map (derivation_under names)) (rows_opened problem plan)
   pub marks : general.marks ≡ marks_from 1 (rows_of general.proofs)
   pub sorts : general.param_sorts ≡ sorts_by_places problem general.steps general.params

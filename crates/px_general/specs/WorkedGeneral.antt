@@ -43,7 +43,7 @@ touching_twice sorts first second = record {
   params = length sorts;
   steps = touch first ∷ touch second ∷ [];
   goal = touched second ∷ [];
-  goal_vars = 0;
+  goal_variable_count = 0;
   marks = record { atom = touched second; row = 3; column = 2; index = 0 } ∷ [];
   proofs = [] ∷ [] ∷ (Fact (of_second second) ∷ []) ∷ [];
   param_sorts = sorts;

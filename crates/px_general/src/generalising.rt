@@ -159,7 +159,7 @@ fn build_general(
         params,
         steps: Sequence::from_vec(steps),
         goal: Sequence::from_vec(goal),
-        goal_vars: table.goal_vars,
+        goal_variable_count: table.goal_variable_count,
         marks: found,
         proofs: Sequence::from_vec(rows),
         param_sorts: sorts,

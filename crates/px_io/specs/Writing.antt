@@ -3,13 +3,13 @@ use Rattle.std.specs.Prelude.{◌≡◌, ◌<◌, ◌≤◌, ◌+◌, ℕ, List,
 use Rattle.std.specs.Io.KnownBytes.{Appends}
 
 -- a part of the text from its start was appended
-pub record AppendsFront (old new : Option (List ℕ)) (text front rest : List ℕ) : Type 0 where
-  pub whole : text ≡ front ++ rest
-  pub appended : Appends old new front
+pub record AppendsPrefix (old new : Option (List ℕ)) (text prefix rest : List ℕ) : Type 0 where
+  pub whole : text ≡ prefix ++ rest
+  pub appended : Appends old new prefix
 
 -- a part of the text from its start was appended, and not the whole text
-abbrev pub AppendsProperFront : Option (List ℕ) → Option (List ℕ) → List ℕ → Type 0
-AppendsProperFront old new text = (front : List ℕ) × (rest : List ℕ) × AppendsFront old new text front rest × (0 < length rest)
+abbrev pub AppendsProperPrefix : Option (List ℕ) → Option (List ℕ) → List ℕ → Type 0
+AppendsProperPrefix old new text = (prefix : List ℕ) × (rest : List ℕ) × AppendsPrefix old new text prefix rest × (0 < length rest)
 
 -- A sink holds all that it is sure to take. Where it is sure of nothing, or doesn't show what it holds, nothing is said.
 abbrev pub FillsItsRoom : Option ℕ → Option (List ℕ) → Type 0

@@ -89,14 +89,14 @@ impl Source for MemSource {
             self.faults = self.faults.saturating_add(1);
             return Err(Failed);
         }
-        let count = copy_front(&self.bytes[self.at..], into, self.most);
+        let count = copy_prefix(&self.bytes[self.at..], into, self.most);
         self.at += count;
         Ok(count)
     }
 }
 
 // Copies as much as fits, but at most `most` bytes, and returns how many.
-fn copy_front(from: &[u8], into: &mut [u8], most: usize) -> usize
+fn copy_prefix(from: &[u8], into: &mut [u8], most: usize) -> usize
     ensures count { result ≡ min (min (length from.now) (length into.old)) most }
     ensures copied { take result into.new ≡ take result from.now }
 {

@@ -18,7 +18,7 @@ pub trait Sink {
     /// How many bytes the sink is sure to take, where it is sure of any: a write then fails only where that many are held.
     ghost sure: { Self → Option ℕ };
 
-    /// Writes a front of `bytes`, and returns its length, which is 0 only for no bytes.
+    /// Writes a prefix of `bytes`, and returns its length, which is 0 only for no bytes.
     ///
     /// # Errors
     /// `Failed` only where the count of faults rose. Nothing is appended then.

@@ -2,7 +2,7 @@
 ghost use Rattle.std.specs.Prelude.{◌≡◌, OnOk, OnErr};
 ghost use Rattle.std.specs.Io.KnownBytes.{Appends};
 ghost use Rattle.px_io.specs.Causes.{HasCause};
-ghost use Rattle.px_io.specs.Writing.{AppendsProperFront, HasNoRoomFor};
+ghost use Rattle.px_io.specs.Writing.{AppendsProperPrefix, HasNoRoomFor};
 
 use crate::{Fault, Sink};
 
@@ -13,7 +13,7 @@ use crate::{Fault, Sink};
 /// not all of them: so there is no fault where there are no bytes.
 pub fn put<K: Sink>(sink: &mut K, bytes: &[u8]) -> Result<(), Fault>
     ensures whole { OnOk result (Appends (K.written sink.old) (K.written sink.new) bytes.now) }
-    ensures part { OnErr result (AppendsProperFront (K.written sink.old) (K.written sink.new) bytes.now) }
+    ensures part { OnErr result (AppendsProperPrefix (K.written sink.old) (K.written sink.new) bytes.now) }
     ensures cause { HasCause (K.faults sink.old) (K.faults sink.new) result }
     ensures room { OnErr result (HasNoRoomFor (K.sure sink.old) (K.written sink.old) bytes.now) }
     ensures nature { K.sure sink.new ≡ K.sure sink.old }

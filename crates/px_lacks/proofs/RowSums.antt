@@ -35,11 +35,11 @@ module _ (problem : Problem) (table : Table) (sigma : List ℕ) (steps : List Op
   -- one more row
   pub next-counted : (place : ℕ) (facts left formula : List Atom) (count row sum next : ℕ) (step : OpInst)
       → place < length steps → step ≡ get_or steps place step → AreCounted place facts count
-      → row ≡ lacks_of (record { formula = formula; vars = 0; facts = facts }) → formula ≡ initial_atoms table sigma (suc place)
+      → row ≡ lacks_of (record { formula = formula; variable_count = 0; facts = facts }) → formula ≡ initial_atoms table sigma (suc place)
       → sum ≡ count + row → left ≡ filter (λ atom. not (deletes problem step atom)) facts → next ≡ suc place
       → AreCounted next left sum
   next-counted place facts left formula count row sum next step below is before row_is formula_is sum_is left_is next_is =
-      let here : Obligation = record { formula = initial_atoms table sigma (suc place); vars = 0; facts = facts } in
+      let here : Obligation = record { formula = initial_atoms table sigma (suc place); variable_count = 0; facts = facts } in
       let others : List Obligation =
       row_obligations problem table sigma (filter (λ atom. not (deletes problem step atom)) facts) (suc (suc place))
       (drop (suc place) steps) in
@@ -48,7 +48,7 @@ module _ (problem : Problem) (table : Table) (sigma : List ℕ) (steps : List Op
       (drop-cons steps place step below ∙ ap (λ (s : OpInst). s ∷ drop (suc place) steps) (sym is))
       ∙ sum_by-cons lacks_of here others in
       let row_here : row ≡ lacks_of here =
-      row_is ∙ ap (λ (l : List Atom). lacks_of (record { formula = l; vars = 0; facts = facts })) formula_is in
+      row_is ∙ ap (λ (l : List Atom). lacks_of (record { formula = l; variable_count = 0; facts = facts })) formula_is in
       rw (left_is, next_is) (record { sum = omega (arith, before.sum, parts, row_here, sum_is) })
 
   -- all rows

@@ -89,9 +89,9 @@ clause-short : (c : Clause) → length c.lits ≤ most_literals → All (λ lit.
 clause-short c few narrow =
     omega (
       arith,
-      lined (codes "axiom") (number_item c.vars ++ list_item literal_item c.lits),
-      length-append (number_item c.vars) (list_item literal_item c.lits),
-      item-short c.vars,
+      lined (codes "axiom") (number_item c.variable_count ++ list_item literal_item c.lits),
+      length-append (number_item c.variable_count) (list_item literal_item c.lits),
+      item-short c.variable_count,
       literals-short c.lits narrow,
       few,
     )
@@ -231,16 +231,16 @@ table-short t sorts few narrow steps-few steps-narrow rows-few small low =
     let tail = map action t.steps ++ map row t.proofs in
     omega (
       arith,
-      length-append (line_bytes (table t.param_sorts)) (flat_map line_bytes (goal t.goal_vars t.goal ∷ steps (length t.steps) ∷ tail)),
-      length-append (line_bytes (goal t.goal_vars t.goal)) (flat_map line_bytes (steps (length t.steps) ∷ tail)),
+      length-append (line_bytes (table t.param_sorts)) (flat_map line_bytes (goal t.goal_variable_count t.goal ∷ steps (length t.steps) ∷ tail)),
+      length-append (line_bytes (goal t.goal_variable_count t.goal)) (flat_map line_bytes (steps (length t.steps) ∷ tail)),
       length-append (line_bytes (steps (length t.steps))) (flat_map line_bytes tail),
       size-append (map action t.steps) (map row t.proofs),
       lined (codes "table") (list_item number_item t.param_sorts),
-      lined (codes "goal") (number_item t.goal_vars ++ list_item atom_item t.goal),
-      length-append (number_item t.goal_vars) (list_item atom_item t.goal),
+      lined (codes "goal") (number_item t.goal_variable_count ++ list_item atom_item t.goal),
+      length-append (number_item t.goal_variable_count) (list_item atom_item t.goal),
       lined (codes "steps") (number_item (length t.steps)),
       numbers-short t.param_sorts,
-      item-short t.goal_vars,
+      item-short t.goal_variable_count,
       atoms-short t.goal narrow,
       item-short (length t.steps),
       actions-short t.steps steps-narrow,

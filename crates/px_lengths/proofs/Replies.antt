@@ -341,7 +341,7 @@ module _ (names : NameLists) (short : AreShort names) where
 
 abbrev pub AsksFew : Command → Type 0
 AsksFew (command.Duo first second numbers) = length numbers ≤ greatest 2 events
-AsksFew (command.Tree name nodes goal vars) = nodes ≤ most_tree_nodes
+AsksFew (command.Tree name nodes goal variable_count) = nodes ≤ most_tree_nodes
 AsksFew _ = Unit {0}
 
 -- ---- lawful replies
@@ -389,7 +389,7 @@ module _ (problem : Problem) (valid : IsValid problem) (limits : IsCertifiablePr
     steps-narrow = narrow-steps problem valid limits table.params table.steps table-is.in_range.steps
 
     goal-narrow : All IsNarrowAtom table.goal
-    goal-narrow = narrow-atoms problem valid limits (table.params + table.goal_vars) table.goal table-is.in_range.goal
+    goal-narrow = narrow-atoms problem valid limits (table.params + table.goal_variable_count) table.goal table-is.in_range.goal
 
     shown-bounded : (given : ℕ) → IsBounded (reply.Shown given table)
     shown-bounded given =
@@ -440,11 +440,11 @@ module _ (problem : Problem) (valid : IsValid problem) (limits : IsCertifiablePr
       let few = word-short names short (codes "unknown") given (omega arith) in
       plain (reply.Unknown given) (omega (arith, few))
 
-  search-bounded : (name : ℕ) (goal : List Atom) (vars : ℕ) → All (IsAtomOf problem vars) goal → (answer : Reply) (new : SessionState)
-      → TellsSearch (task_of problem old.learned.tables old.atoms goal vars) name old answer new → IsBounded answer
-  search-bounded name goal vars own (reply.Plan given count steps) new is =
+  search-bounded : (name : ℕ) (goal : List Atom) (variable_count : ℕ) → All (IsAtomOf problem variable_count) goal → (answer : Reply) (new : SessionState)
+      → TellsSearch (task_of problem old.learned.tables old.atoms goal variable_count) name old answer new → IsBounded answer
+  search-bounded name goal variable_count own (reply.Plan given count steps) new is =
       let found = is.1 in
-      let plan = found-table (task_of problem old.learned.tables old.atoms goal vars) valid own (are-learned problem old session)
+      let plan = found-table (task_of problem old.learned.tables old.atoms goal variable_count) valid own (are-learned problem old session)
       valid.nodes.1 name count old new steps found in
       let same : found.made.steps ≡ steps = found.table.steps ∙ sym found.taken in
       let narrow = subst (All IsNarrowStep) same
@@ -452,17 +452,17 @@ module _ (problem : Problem) (valid : IsValid problem) (limits : IsCertifiablePr
       let few : length steps < u32_max = subst (λ (l : List OpInst). length l < u32_max) same plan.table.in_range.short in
       in-plan problem disturbances (length (reply_text names (reply.Plan given count steps)))
       (plan-text-short names short given count steps narrow few)
-  search-bounded name goal vars own (reply.Exhausted given) new is =
+  search-bounded name goal variable_count own (reply.Exhausted given) new is =
       let few = word-short names short (codes "exhausted") given (omega arith) in
       plain (reply.Exhausted given) (omega (arith, few))
-  search-bounded name goal vars own (reply.NodeLimit given nodes moves) new is =
+  search-bounded name goal variable_count own (reply.NodeLimit given nodes moves) new is =
       let few = counts-short names short (codes "nodelimit") given (length nodes) moves (codes "nodes") (codes "moves") (omega arith)
       (omega arith) (omega arith) in
       plain (reply.NodeLimit given nodes moves) (omega (arith, few))
-  search-bounded name goal vars own (reply.ShapeLimit given node limit) new is =
+  search-bounded name goal variable_count own (reply.ShapeLimit given node limit) new is =
       let few = count-short names short (codes "shapelimit") given (length limit.shapes) (codes "shapes") (omega arith) (omega arith) in
       plain (reply.ShapeLimit given node limit) (omega (arith, few))
-  search-bounded name goal vars own answer new is = absurd is
+  search-bounded name goal variable_count own answer new is = absurd is
 
   learning-bounded : (name source : ℕ) (answer : Reply) (new : SessionState) → TellsLearning problem old name source answer new
       → IsBounded answer
@@ -558,26 +558,26 @@ module _ (problem : Problem) (valid : IsValid problem) (limits : IsCertifiablePr
       count)
   duo-bounded first second numbers few answer new is = absurd is
 
-  pursuit-bounded : (name : ℕ) (goal : List Atom) (vars : ℕ) → All (IsAtomOf problem vars) goal → (answer : Reply) (new : SessionState)
-      → TellsPursuit problem old name goal vars answer new → IsBounded answer
-  pursuit-bounded name goal vars own (reply.Pursuit given searches told end) new is =
-      let steps = pursuit-steps problem old.learned.tables goal vars old.recorded valid (are-learned problem old session) own old.atoms
+  pursuit-bounded : (name : ℕ) (goal : List Atom) (variable_count : ℕ) → All (IsAtomOf problem variable_count) goal → (answer : Reply) (new : SessionState)
+      → TellsPursuit problem old name goal variable_count answer new → IsBounded answer
+  pursuit-bounded name goal variable_count own (reply.Pursuit given searches told end) new is =
+      let steps = pursuit-steps problem old.learned.tables goal variable_count old.recorded valid (are-learned problem old session) own old.atoms
       searches (map turn_told told) end is.1.after is.1.pursues in
       in-pursuit problem disturbances (length (reply_text names (reply.Pursuit given searches told end)))
       (pursuit-text-short names short given searches disturbances told end (own-turns told steps)
-      (pursuit-few problem old valid session goal vars own name given searches told end new disturbances recorded is))
-  pursuit-bounded name goal vars own answer new is = absurd is
+      (pursuit-few problem old valid session goal variable_count own name given searches told end new disturbances recorded is))
+  pursuit-bounded name goal variable_count own answer new is = absurd is
 
-  tree-bounded : (name nodes : ℕ) (goal : List Atom) (vars : ℕ) → nodes ≤ most_tree_nodes → (answer : Reply) (new : SessionState)
-      → TellsTree (task_with problem nodes old.learned.tables old.atoms goal vars) name old answer new → IsBounded answer
-  tree-bounded name nodes goal vars few (reply.Tree given tables tree) new is =
-      let task = task_with problem nodes old.learned.tables old.atoms goal vars in
-      let count = told_trees.few problem old name given nodes goal vars tables tree new is in
+  tree-bounded : (name nodes : ℕ) (goal : List Atom) (variable_count : ℕ) → nodes ≤ most_tree_nodes → (answer : Reply) (new : SessionState)
+      → TellsTree (task_with problem nodes old.learned.tables old.atoms goal variable_count) name old answer new → IsBounded answer
+  tree-bounded name nodes goal variable_count few (reply.Tree given tables tree) new is =
+      let task = task_with problem nodes old.learned.tables old.atoms goal variable_count in
+      let count = told_trees.few problem old name given nodes goal variable_count tables tree new is in
       in-tree problem disturbances (length (reply_text names (reply.Tree given tables tree)))
       (tree-text-short names short given tables tree
       (small-nodes task (are-learned problem old session) (narrow-instance problem valid limits) problem.weight tree is.2)
       (le_trans count few))
-  tree-bounded name nodes goal vars few answer new is = absurd is
+  tree-bounded name nodes goal variable_count few answer new is = absurd is
 
   facts-bounded : (answer : Reply) (new : SessionState) → TellsFacts old answer new → IsBounded answer
   facts-bounded (reply.FactsAre atoms) new is =
@@ -588,7 +588,7 @@ module _ (problem : Problem) (valid : IsValid problem) (limits : IsCertifiablePr
 
   pub reply-bounded : (given : Command) → IsOwnGoal problem given → AsksFew given → (answer : Reply) (new : SessionState)
       → Lawful problem old given answer new → IsBounded answer
-  reply-bounded (command.Plan name goal vars) own few answer new is = search-bounded name goal vars own answer new is
+  reply-bounded (command.Plan name goal variable_count) own few answer new is = search-bounded name goal variable_count own answer new is
   reply-bounded (command.Learn name source) own few answer new is = learning-bounded name source answer new is
   reply-bounded (command.Edit name source prefix wanted) own few answer new is =
       editing-bounded name source prefix wanted answer new is
@@ -601,6 +601,6 @@ module _ (problem : Problem) (valid : IsValid problem) (limits : IsCertifiablePr
       notes-bounded (recorded_for turn between (map of_rooms edits)) answer new is
   reply-bounded (command.Run name bound) own few answer new is = run-bounded name bound answer new is
   reply-bounded (command.Duo first second numbers) own few answer new is = duo-bounded first second numbers few answer new is
-  reply-bounded (command.Pursue name goal vars) own few answer new is = pursuit-bounded name goal vars own answer new is
-  reply-bounded (command.Tree name nodes goal vars) own few answer new is = tree-bounded name nodes goal vars few answer new is
+  reply-bounded (command.Pursue name goal variable_count) own few answer new is = pursuit-bounded name goal variable_count own answer new is
+  reply-bounded (command.Tree name nodes goal variable_count) own few answer new is = tree-bounded name nodes goal variable_count few answer new is
   reply-bounded command.Facts own few answer new is = facts-bounded answer new is

@@ -40,7 +40,7 @@ use Rattle.px_lengths.proofs.Sizes.{filter-short, one-more}
 
 -- the clause of a step is short, and so are the terms that it chooses
 record IsShortClause (clause : Clause) : Type 0 where
-  pub vars : clause.vars ≤ most_formula_variables
+  pub variable_count : clause.variable_count ≤ most_formula_variables
   pub lits : length clause.lits ≤ most_literals
 
 remove-short : {X : Type 0} (xs : List X) (place : ℕ) (x : X) → slice_get xs place ≡ Some x → length (remove xs place) ≤ length xs
@@ -66,7 +66,7 @@ module _ (problem : Problem) (valid : IsValid problem) (params : ℕ) where
 
   short-clause : (number : ℕ) (clause : Clause) → slice_get problem.axioms number ≡ Some clause → IsShortClause clause
   short-clause number clause at = record {
-    vars = (All-got (IsAxiomOf problem) problem.axioms number clause valid.axioms at).vars;
+    variable_count = (All-got (IsAxiomOf problem) problem.axioms number clause valid.axioms at).variable_count;
     lits = (All-got IsClause problem.axioms number clause valid.arena.each at).size.1;
   }
 
@@ -91,7 +91,7 @@ module _ (problem : Problem) (valid : IsValid problem) (params : ℕ) where
         let few = parts-short proves.0.lits theta place lit proves.1.literal_at in
         let count = counted atoms (lit ∷ path) (parts_of proves.0.lits theta place) parts proves.2 in
         let terms = proves.1.terms in (
-          omega (arith, terms, clause.vars),
+          omega (arith, terms, clause.variable_count),
           omega (arith, count, few, clause.lits),
           small-proofs atoms (lit ∷ path) (parts_of proves.0.lits theta place) parts proves.2 narrow,
         )
@@ -153,12 +153,12 @@ module _ (problem : Problem) (valid : IsValid problem) (short : All IsShortSchem
   later-rows first row rows narrow mark has =
       narrow mark (Contains-append_right (row_marks first row) (marks_from (suc first) rows) mark has)
 
-  pub small-rows : (first : ℕ) (steps : List OpInst) (goal : List Atom) (goal_vars : ℕ) (rows : List (List Derivation))
-      → RowsProve (IsObjectOrParameter problem.objects params) problem params steps goal goal_vars rows
+  pub small-rows : (first : ℕ) (steps : List OpInst) (goal : List Atom) (goal_variable_count : ℕ) (rows : List (List Derivation))
+      → RowsProve (IsObjectOrParameter problem.objects params) problem params steps goal goal_variable_count rows
       → All (IsStepOf problem params) steps → length goal ≤ most_atoms → AreNarrowMarks (marks_from first rows)
       → All IsSmallRow rows × (length rows ≡ length steps + 1)
-  small-rows first [] goal goal_vars [] proves steps-of few narrow = absurd proves
-  small-rows first [] goal goal_vars (row ∷ []) proves steps-of few narrow =
+  small-rows first [] goal goal_variable_count [] proves steps-of few narrow = absurd proves
+  small-rows first [] goal goal_variable_count (row ∷ []) proves steps-of few narrow =
       let wanted = map (substitute_atom (variables params ++ proves.0)) goal in
       let count = row-count problem valid params wanted row proves.2 in (
         All-cons IsSmallRow row []
@@ -169,12 +169,12 @@ module _ (problem : Problem) (valid : IsValid problem) (short : All IsShortSchem
             (All-nil IsSmallRow),
         omega arith,
       )
-  small-rows first [] goal goal_vars (row ∷ second ∷ rows) proves steps-of few narrow = absurd proves
-  small-rows first (inst ∷ steps) goal goal_vars [] proves steps-of few narrow = absurd proves
-  small-rows first (inst ∷ steps) goal goal_vars (row ∷ rows) proves steps-of few narrow =
+  small-rows first [] goal goal_variable_count (row ∷ second ∷ rows) proves steps-of few narrow = absurd proves
+  small-rows first (inst ∷ steps) goal goal_variable_count [] proves steps-of few narrow = absurd proves
+  small-rows first (inst ∷ steps) goal goal_variable_count (row ∷ rows) proves steps-of few narrow =
       let count = row-count problem valid params (precondition problem inst) row proves.0 in
       let needed = few-needed problem short params inst (All-head (IsStepOf problem params) inst steps steps-of) in
-      let rest = small-rows (suc first) steps goal goal_vars rows proves.1 (All-tail (IsStepOf problem params) inst steps steps-of) few
+      let rest = small-rows (suc first) steps goal goal_variable_count rows proves.1 (All-tail (IsStepOf problem params) inst steps steps-of) few
       (later-rows first row rows narrow) in (
         All-cons IsSmallRow row rows
             (record {

@@ -61,8 +61,8 @@ module _ (problem : Problem) (valid : IsValid problem) (limits : IsCertifiablePr
       let low = limits.predicates.1 atom.pred 0 of.0 in
       omega (arith, of.1, low)
 
-  pub narrow-atoms : (vars : ℕ) (atoms : List Atom) → All (IsAtomOf problem vars) atoms → All IsNarrowAtom atoms
-  narrow-atoms vars atoms of = All-weaker (IsAtomOf problem vars) IsNarrowAtom (λ atom is. narrow-atom atom is.0) atoms of
+  pub narrow-atoms : (variable_count : ℕ) (atoms : List Atom) → All (IsAtomOf problem variable_count) atoms → All IsNarrowAtom atoms
+  narrow-atoms variable_count atoms of = All-weaker (IsAtomOf problem variable_count) IsNarrowAtom (λ atom is. narrow-atom atom is.0) atoms of
 
   params-few : (op : ℕ) → op < length problem.schemas → (slice_index_or problem.schemas op no_schema).params ≤ most_parameters
   params-few op below = (valid.schemas op below).params
@@ -111,7 +111,7 @@ module _ (problem : Problem) (valid : IsValid problem) (limits : IsCertifiablePr
         few = (All-at IsClause problem.axioms clause valid.arena.each has).size.1;
         narrow =
             let of = All-at (IsAxiomOf problem) problem.axioms clause valid.axioms has in
-            All-weaker (λ (lit : Lit). IsAtomOf problem clause.vars lit.atom) (λ (lit : Lit). IsNarrowAtom lit.atom)
+            All-weaker (λ (lit : Lit). IsAtomOf problem clause.variable_count lit.atom) (λ (lit : Lit). IsNarrowAtom lit.atom)
             (λ lit is. narrow-atom lit.atom is.0) clause.lits of.lits;
       })
 
@@ -129,7 +129,7 @@ module _ (problem : Problem) (valid : IsValid problem) (limits : IsCertifiablePr
     table-rows : length table.goal ≤ most_atoms
         → All IsSmallRow (rows_of table.proofs) × (length (rows_of table.proofs) ≡ length table.steps + 1)
     table-rows few =
-        small-rows problem valid limits.operators.1 table.params 1 table.steps table.goal table.goal_vars (rows_of table.proofs) is.prove
+        small-rows problem valid limits.operators.1 table.params 1 table.steps table.goal table.goal_variable_count (rows_of table.proofs) is.prove
         is.in_range.steps few (λ mark has. All-at IsNarrowMark table.marks mark narrow-marks (in-table mark has))
 
     pub small-table : length table.goal ≤ most_atoms → All IsSmallRow (rows_of table.proofs)

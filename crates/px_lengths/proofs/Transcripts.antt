@@ -7,7 +7,7 @@ use Rattle.std.proofs.lemmas.List.Elements.{All-head, All-nil, All-tail, All-wea
 use Rattle.px_names.specs.declared.kind.Kind.TheVariants as kind
 use Rattle.px_terms.specs.declared.problem.Problem.{Problem}
 use Rattle.px_terms.specs.Validity.{IsValid}
-use Rattle.px_proof.specs.PlaceLaws.{All-front}
+use Rattle.px_proof.specs.PlaceLaws.{All-prefix}
 use Rattle.px_printer.specs.Notices.{yes_text}
 use Rattle.px_printer.specs.Replies.{reply_text}
 use Rattle.px_printer.specs.Texts.{text_line}
@@ -39,7 +39,7 @@ use Rattle.px_lengths.proofs.Sizes.{line-short, one-more}
 asks-few : (version : ℕ) (problem : Problem) (building : Option (List Thing)) (results : ℕ) (c : Command)
     → IsCommandOf version problem building results c → AsksFew c
 asks-few version problem building results (command.Duo first second numbers) of = of.2.few
-asks-few version problem building results (command.Tree name nodes goal vars) of = of.1.1
+asks-few version problem building results (command.Tree name nodes goal variable_count) of = of.1.1
 asks-few version problem building results _ of = tt
 
 module _ (script : ScriptValue) (range : IsInRange script) where
@@ -68,13 +68,13 @@ one-recorded : (problem : Problem) (old : SessionState) (given : Command) (answe
     → Lawful problem old given answer new → HasOneMore old new
 one-recorded problem old given answer new is =
     replied problem old given (HasOneMore old) (omega arith)
-    (λ name goal vars count steps new by is. omega arith)
+    (λ name goal variable_count count steps new by is. omega arith)
     (λ name source params steps new by is. subst (HasOneMore old) (sym is.learned) (omega arith))
     (λ name source prefix wanted params steps new by is. subst (HasOneMore old) (sym is.learned) (omega arith))
     (λ turn between. omega (arith, length-append old.recorded (recorded_for turn between (edits_given given) ∷ [])))
     (λ name bound told new by is. subst (HasOneMore old) (sym is.changed) (omega arith))
     (λ first second numbers lines new by is. subst (HasOneMore old) (sym is.changed) (omega arith))
-    (λ name goal vars searches told end new by is. subst (HasOneMore old) (sym is.changed) (omega arith))
+    (λ name goal variable_count searches told end new by is. subst (HasOneMore old) (sym is.changed) (omega arith))
     answer new is
 
 -- ---- all commands
@@ -115,10 +115,10 @@ ask-before : (problem : Problem) (commands before after : List Command) → comm
 ask-before problem commands before after whole ask =
     let all = subst (AskFew problem) whole ask in
     record {
-      goals = All-front (IsOwnGoal problem) before after all.goals;
-      tables = All-front (AsksWritable problem) before after all.tables;
-      edits = All-front (HasOwnEdits problem) before after all.edits;
-      few = All-front AsksFew before after all.few;
+      goals = All-prefix (IsOwnGoal problem) before after all.goals;
+      tables = All-prefix (AsksWritable problem) before after all.tables;
+      edits = All-prefix (HasOwnEdits problem) before after all.edits;
+      few = All-prefix AsksFew before after all.few;
     }
 
 module _ (script : ScriptValue) (range : IsInRange script) (disturbances : ℕ) where

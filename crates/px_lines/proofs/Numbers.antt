@@ -1,6 +1,6 @@
 -- The number of decimal digits, up to 32 bits.
 use Rattle.px_base.specs.Bounds.{u32_max}
-use Rattle.px_lines.proofs.Common.{◌≡◌, ℕ, ◌<◌, ◌^◌, ◌-◌, true, List, [], ◌∷◌, length, min, refl, sym, ◌∙◌, subst, inl, inr, arith, cases_lt, encode_ascii, encodes-chars, is_ascii_digit, Result, Ok, Err, encode_utf8_all, OkIff, result_unwrap_or, IsUtf8, chars, all_ascii_digits, ParsesUnsigned, digits_value, IsNumeralModel, parse_digits, numerals_by_value, tells_all_ascii_digits, number_value, and_parts, digit-range, digits-all, front-all}
+use Rattle.px_lines.proofs.Common.{◌≡◌, ℕ, ◌<◌, ◌^◌, ◌-◌, true, List, [], ◌∷◌, length, min, refl, sym, ◌∙◌, subst, inl, inr, arith, cases_lt, encode_ascii, encodes-chars, is_ascii_digit, Result, Ok, Err, encode_utf8_all, OkIff, result_unwrap_or, IsUtf8, chars, all_ascii_digits, ParsesUnsigned, digits_value, IsNumeralModel, parse_digits, numerals_by_value, tells_all_ascii_digits, number_value, and_parts, digit-range, digits-all, prefix-all}
 
 pub own : IsNumeralModel (λ ds. all_ascii_digits ds ≡ true) (digits_value 10)
 own = numerals_by_value (λ ds. all_ascii_digits ds ≡ true) tells_all_ascii_digits
@@ -23,4 +23,4 @@ parsed-digits text r u some all parses = let same : chars text ≡ text = sym (e
     let P : List ℕ → Type 0 = λ t. ParsesUnsigned 32 10 t r in
     capped r (digits_value 10 (chars text)) _ some (parse_digits own 32 (chars text) r (subst P (sym same) parses) all)
 
-pub ruleset digits = (parsed-digits, front-all, digits-all)
+pub ruleset digits = (parsed-digits, prefix-all, digits-all)

@@ -12,15 +12,15 @@ use Rattle.px_lines.proofs.Walks.{in_front}
 abbrev then_first : Option items.Item → Option (List items.Item × List Lexeme) → Option (List items.Item × List Lexeme)
 then_first first rest = option_and_then (λ item. option_map (λ r. (item ∷ r.0, r.1)) rest) first
 
-front-more : (got : List items.Item) (x : items.Item) (found : Option (List items.Item × List Lexeme))
+prefix-more : (got : List items.Item) (x : items.Item) (found : Option (List items.Item × List Lexeme))
     → in_front got (option_map (λ r. (x ∷ r.0, r.1)) found) ≡ in_front (got ++ x ∷ []) found
-front-more got x None = refl
-front-more got x (Some r) = ap (λ t. Some (t, r.1)) (sym (append_assoc got (x ∷ []) r.0))
+prefix-more got x None = refl
+prefix-more got x (Some r) = ap (λ t. Some (t, r.1)) (sym (append_assoc got (x ∷ []) r.0))
 
 -- one token more
-front-step : (o : One) (ones : List One) (x : Lexeme) (xs : List Lexeme)
+prefix-step : (o : One) (ones : List One) (x : Lexeme) (xs : List Lexeme)
     → ones_front (o ∷ ones) (x ∷ xs) ≡ then_first (one_of o x) (ones_front ones xs)
-front-step o ones x xs = each (one_of o x) (ones_at ones xs)
+prefix-step o ones x xs = each (one_of o x) (ones_at ones xs)
   where
     each : (first : Option items.Item) (found : Option (List items.Item))
         → option_map (λ is. (is, drop (length ones) xs)) (option_and_then (λ item. option_map (λ is. item ∷ is) found) first)
@@ -41,13 +41,13 @@ module _ (ones : List One) (all xs : List Lexeme) (i : ℕ) (got : List Said) (b
   module _ (x : Lexeme) (more : List Lexeme) (is : xs ≡ x ∷ more) where
     step : ones_front ones all ≡ in_front (map said_view got) (then_first (one_of (get_or ones i d) x) (ones_front (drop (i + 1) ones) more))
     step = here ∙ ap (λ t. in_front (map said_view got) (ones_front (get_or ones i d ∷ drop (i + 1) ones) t)) is
-        ∙ ap (in_front (map said_view got)) (front-step (get_or ones i d) (drop (i + 1) ones) x more)
+        ∙ ap (in_front (map said_view got)) (prefix-step (get_or ones i d) (drop (i + 1) ones) x more)
 
     pub ones-more : (thing : Said) (new : List Said) → Some (said_view thing) ≡ one_of (get_or ones i d) x → new ≡ got ++ thing ∷ []
         → ones_front ones all ≡ in_front (map said_view new) (ones_front (drop (i + 1) ones) more)
     ones-more thing new one new_is = step
         ∙ ap (λ f. in_front (map said_view got) (then_first f (ones_front (drop (i + 1) ones) more))) (sym one)
-        ∙ front-more (map said_view got) (said_view thing) (ones_front (drop (i + 1) ones) more)
+        ∙ prefix-more (map said_view got) (said_view thing) (ones_front (drop (i + 1) ones) more)
         ∙ ap (λ t. in_front t (ones_front (drop (i + 1) ones) more)) (sym (ap (map said_view) new_is ∙ map-append said_view got (thing ∷ [])))
 
 pub ones-end : (ones : List One) (all xs : List Lexeme) (i : ℕ) (got : List Said) → length ones ≤ i

@@ -57,8 +57,8 @@ module _ (text : List ℕ) where
         (ap (λ s. s.0) same, ap (λ s. s.1) same)
 
   -- what `first_token` answers
-  pub next-there : (front : Option (Token × Bor (List ℕ))) → IfSome front (λ p. Begins (chars text) (lexeme_of p.0) (chars p.1.now))
-      → IfSome front (λ p. IsUtf8 p.1.now) → IfNone front (IsIgnored (chars text)) → IsNext text front
+  pub next-there : (prefix : Option (Token × Bor (List ℕ))) → IfSome prefix (λ p. Begins (chars text) (lexeme_of p.0) (chars p.1.now))
+      → IfSome prefix (λ p. IsUtf8 p.1.now) → IfNone prefix (IsIgnored (chars text)) → IsNext text prefix
   next-there None token rest is = (scan-ignored is).0
   next-there (Some p) token rest is = let both = scan-found p.1.now (lexeme_of p.0) token in (both.0, (rest, both.1))
 
@@ -67,7 +67,7 @@ module _ (text : List ℕ) where
 
   -- whatever `first_token` answers but the end
   pub no-end : (r : Result (Option (Token × Bor (List ℕ))) BadToken)
-      → IfOk r (λ found. IfSome found (λ front. Begins (chars text) (lexeme_of front.0) (chars front.1.now)))
+      → IfOk r (λ found. IfSome found (λ prefix. Begins (chars text) (lexeme_of prefix.0) (chars prefix.1.now)))
       → OnErr r ((l : Lexeme) (rest : List ℕ) → ¬ Begins (chars text) l rest)
       → OnErr r ((all : List Lexeme) → ¬ Lexes (chars text) all) → (r ≡ Ok None → false ≡ true) → false ≡ is_end text
   no-end (Ok None) token no_token not_lexed other = false-true (other refl)
@@ -86,7 +86,7 @@ bad-lexed cs e (m ∷ ms) is = bad-begins cs e m is.0 is.1
 -- what a scan answers, said of the text
 module _ (cs : List ℕ) where
   pub scans-token : (r : Result (Option (Token × Bor (List ℕ))) BadToken) → Scans r (first cs)
-      → IfOk r (λ found. IfSome found (λ front. Begins cs (lexeme_of front.0) (chars front.1.now)))
+      → IfOk r (λ found. IfSome found (λ prefix. Begins cs (lexeme_of prefix.0) (chars prefix.1.now)))
   scans-token (Ok (Some p)) e = found-begins cs (lexeme_of p.0) (chars p.1.now) e.0
   scans-token (Ok None) e = tt
   scans-token (Err x) e = tt
@@ -99,12 +99,12 @@ module _ (cs : List ℕ) where
 
   pub scans-none : (r : Result (Option (Token × Bor (List ℕ))) BadToken) → Scans r (first cs)
       → OnErr r ((l : Lexeme) (rest : List ℕ) → ¬ Begins cs l rest)
-  scans-none (Ok front) e = tt
+  scans-none (Ok prefix) e = tt
   scans-none (Err x) e = bad-begins cs e
 
   pub scans-bad : (r : Result (Option (Token × Bor (List ℕ))) BadToken) → Scans r (first cs)
       → OnErr r ((all : List Lexeme) → ¬ Lexes cs all)
-  scans-bad (Ok front) e = tt
+  scans-bad (Ok prefix) e = tt
   scans-bad (Err x) e = bad-lexed cs e
 
 abbrev Reads : List ℕ → List Lexeme × Bool → Type 0

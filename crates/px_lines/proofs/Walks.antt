@@ -11,13 +11,13 @@ some-same a b e = subst (λ o. IfSome o (λ x. a ≡ x)) e refl
 
 -- a reader of one thing takes at least one lexeme
 abbrev pub Advances : {A : Type 0} → (List Lexeme → Option (A × List Lexeme)) → Type 0
-Advances {A = A} one = (lexemes : List Lexeme) (front : A × List Lexeme) → one lexemes ≡ Some front → length front.1 < length lexemes
+Advances {A = A} one = (lexemes : List Lexeme) (prefix : A × List Lexeme) → one lexemes ≡ Some prefix → length prefix.1 < length lexemes
 
 advances-spelled : {A : Type 0} (good : A → Bool) (one : List Lexeme → Option (A × List Lexeme)) (spell : A → List Lexeme)
     → ReadsBack good one spell → ReadsSpelled one spell → Advances one
-advances-spelled good one spell back sound lexemes front e = let long = back.long front.0 in
+advances-spelled good one spell back sound lexemes prefix e = let long = back.long prefix.0 in
     let read = subst (λ o. IfSome o (λ f. lexemes ≡ spell f.0 ++ f.1)) e (sound lexemes) in
-    let whole = ap length read ∙ length-append (spell front.0) front.1 in omega (arith, long, whole)
+    let whole = ap length read ∙ length-append (spell prefix.0) prefix.1 in omega (arith, long, whole)
 
 pub atom-advances : Advances atom_at
 atom-advances = advances-spelled _ atom_at _ atoms-back atom-sound
@@ -46,14 +46,14 @@ before-more got a (Some more) = ap Some (sym (append_assoc got (a ∷ []) more))
 module _ {A : Type 0} (one : List Lexeme → Option (A × List Lexeme)) (advances : Advances one) where
   -- what the rest leads to, by what the first thing is
   abbrev after_one : (List Lexeme → Option (List A)) → Option (A × List Lexeme) → Option (List A)
-  after_one rest found = option_and_then (λ front. option_map (λ more. front.0 ∷ more) (rest front.1)) found
+  after_one rest found = option_and_then (λ prefix. option_map (λ more. prefix.0 ∷ more) (rest prefix.1)) found
 
   fuel-step : (n m : ℕ) (xs : List Lexeme) (found : Option (A × List Lexeme)) → one xs ≡ found → length xs ≤ suc n → length xs ≤ suc m
       → ((ys : List Lexeme) → length ys ≤ n → length ys ≤ m → all_within one n ys ≡ all_within one m ys)
       → after_one (all_within one n) found ≡ after_one (all_within one m) found
   fuel-step n m xs None e short less recur = refl
-  fuel-step n m xs (Some front) e short less recur = let fewer = advances xs front e in
-      ap (option_map (λ more. front.0 ∷ more)) (recur front.1 (omega (arith, fewer, short)) (omega (arith, fewer, less)))
+  fuel-step n m xs (Some prefix) e short less recur = let fewer = advances xs prefix e in
+      ap (option_map (λ more. prefix.0 ∷ more)) (recur prefix.1 (omega (arith, fewer, short)) (omega (arith, fewer, less)))
 
   all-ended : (n : ℕ) → all_within one n [] ≡ Some []
   unfolding all_within
@@ -127,12 +127,12 @@ map-same (x ∷ xs) = ap (λ t. x ∷ t) (map-same xs)
 
 -- names and numbers are things of one kind
 pub name-advances : Advances name_in
-name-advances (name n ∷ xs) front e = let is : xs ≡ front.1 = ap (λ f. f.1) (some-same _ _ e) in rw (← is) (omega arith)
-name-advances _ front e = cc
+name-advances (name n ∷ xs) prefix e = let is : xs ≡ prefix.1 = ap (λ f. f.1) (some-same _ _ e) in rw (← is) (omega arith)
+name-advances _ prefix e = cc
 
 pub number-advances : Advances number_in
-number-advances (number n ∷ xs) front e = let is : xs ≡ front.1 = ap (λ f. f.1) (some-same _ _ e) in rw (← is) (omega arith)
-number-advances _ front e = cc
+number-advances (number n ∷ xs) prefix e = let is : xs ≡ prefix.1 = ap (λ f. f.1) (some-same _ _ e) in rw (← is) (omega arith)
+number-advances _ prefix e = cc
 
 pub names-are : (xs : List Lexeme) → all_of name_in xs ≡ names_of xs
 unfolding all_within

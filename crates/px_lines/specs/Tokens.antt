@@ -1,4 +1,4 @@
--- What the definitions see of tokens, and what is known of a text whose front was read.
+-- What the definitions see of tokens, and what is known of a text whose prefix was read.
 use Rattle.px_names.specs.Name.{starts_name}
 use Rattle.std.specs.Char.{is_ascii_digit}
 use Rattle.std.specs.List.{list_all}
@@ -11,7 +11,7 @@ use Rattle.px_script.specs.Items.{Item}
 use Rattle.px_script.specs.declared.kinds.One.{One}
 use Rattle.std.specs.Str.{IsUtf8, chars}
 use Rattle.px_script.specs.Lexemes.{Lexeme, Lexes, name, variable, number, sign, is_blank}
-use Rattle.px_script.proofs.Scanning.{First, first, found, ignored, bad, front_while, after_while, stops}
+use Rattle.px_script.proofs.Scanning.{First, first, found, ignored, bad, prefix_while, after_while, stops}
 use Rattle.px_lines.specs.declared.token.BadToken.{BadToken}
 use Rattle.px_lines.specs.declared.token.Class.{Class}
 use Rattle.px_lines.specs.declared.token.Class.TheVariants.{Blank, Continues, Digit}
@@ -36,7 +36,7 @@ abbrev pub NameAt : List ℕ → Option (Bor (List ℕ) × Bor (List ℕ)) → T
 NameAt [] None = Unit {0}
 NameAt [] (Some split) = ⊥
 NameAt (c ∷ cs) None = starts_name c ≡ false
-NameAt (c ∷ cs) (Some split) = (starts_name c ≡ true) × (split.0.now ≡ encode_utf8_all (c ∷ front_while is_xid_continue cs))
+NameAt (c ∷ cs) (Some split) = (starts_name c ≡ true) × (split.0.now ≡ encode_utf8_all (c ∷ prefix_while is_xid_continue cs))
     × (chars split.1.now ≡ after_while is_xid_continue cs) × IsUtf8 split.1.now
 
 -- whether a character is of the class
@@ -47,9 +47,9 @@ is_of Digit c = is_ascii_digit c
 
 -- the text is characters that pass, and then the rest, which doesn't begin with one
 pub record Skips (p : ℕ → Bool) (text rest : List ℕ) : Type 0 where
-  pub front : List ℕ
-  pub whole : text ≡ front ++ rest
-  pub all : list_all p (chars front) ≡ true
+  pub prefix : List ℕ
+  pub whole : text ≡ prefix ++ rest
+  pub all : list_all p (chars prefix) ≡ true
   pub stop : stops p (chars rest) ≡ true
 
 -- the characters are lexemes
@@ -100,14 +100,14 @@ IsNext text None = lexemes_in text ≡ []
 IsNext text (Some p) = (lexemes_in text ≡ lexeme_of p.0 ∷ lexemes_in p.1.now) × Follows text p.1.now
 
 -- this is read of a text, and that follows
-abbrev pub Fronts : {X Y : Type 0} → (X → Y) → List ℕ → Option (Y × List Lexeme) → Option (X × Bor (List ℕ)) → Type 0
-Fronts view text wanted None = None ≡ wanted
-Fronts view text wanted (Some p) = (Some (view p.0, lexemes_in p.1.now) ≡ wanted) × Follows text p.1.now
+abbrev pub Prefixes : {X Y : Type 0} → (X → Y) → List ℕ → Option (Y × List Lexeme) → Option (X × Bor (List ℕ)) → Type 0
+Prefixes view text wanted None = None ≡ wanted
+Prefixes view text wanted (Some p) = (Some (view p.0, lexemes_in p.1.now) ≡ wanted) × Follows text p.1.now
 
 -- the same of an item and the sign after it
-abbrev pub ItemFronts : {X Y : Type 0} → (X → Y) → List ℕ → Option (Y × ℕ × List Lexeme) → Option (X × ℕ × Bor (List ℕ)) → Type 0
-ItemFronts view text wanted None = None ≡ wanted
-ItemFronts view text wanted (Some p) = (Some (view p.0, p.1, lexemes_in p.2.now) ≡ wanted) × Follows text p.2.now
+abbrev pub ItemPrefixes : {X Y : Type 0} → (X → Y) → List ℕ → Option (Y × ℕ × List Lexeme) → Option (X × ℕ × Bor (List ℕ)) → Type 0
+ItemPrefixes view text wanted None = None ≡ wanted
+ItemPrefixes view text wanted (Some p) = (Some (view p.0, p.1, lexemes_in p.2.now) ≡ wanted) × Follows text p.2.now
 
 -- the same of nothing but what follows
 abbrev pub Follow : List ℕ → Option (List Lexeme) → Option (Bor (List ℕ)) → Type 0

@@ -2,8 +2,8 @@
 ghost use Rattle.std.specs.Prelude.{◌≡◌, ◌<◌, ◌++◌, ℕ, List, true, length, IfNone, IfOk, IfSome, MatchBool, OnErr};
 ghost use Rattle.std.specs.Char.{is_ascii_digit};
 ghost use Rattle.px_script.specs.Lexemes.{Lexeme, Lexes, Begins, IsIgnored, is_sign, number_value, goes_on};
-ghost use Rattle.px_script.proofs.Scanning.{front_while, after_while, first_at, first_number, first_variable};
-ghost use Rattle.px_lines.specs.Common.{IsUtf8, chars, all_ascii_digits, is_of, text_of, Skips, Scans, NameAt, IsLexed, IsNext, Fronts, Follow, is_end, lexeme_of, lexemes_in, name_in, number_in, sign_in, rest_after};
+ghost use Rattle.px_script.proofs.Scanning.{prefix_while, after_while, first_at, first_number, first_variable};
+ghost use Rattle.px_lines.specs.Common.{IsUtf8, chars, all_ascii_digits, is_of, text_of, Skips, Scans, NameAt, IsLexed, IsNext, Prefixes, Follow, is_end, lexeme_of, lexemes_in, name_in, number_in, sign_in, rest_after};
 
 use px_names::{split_first, starts_name};
 
@@ -43,8 +43,8 @@ pub fn are_tokens(text: &str) -> bool
 /// # Errors
 /// `BadToken` where the first character after blanks begins no token.
 pub fn first_token(text: &str) -> Result<Option<(Token<'_>, &str)>, BadToken>
-    ensures token { IfOk result (λ found. IfSome found (λ front. Begins (chars text.now) (lexeme_of front.0) (chars front.1.now))) }
-    ensures rest { IfOk result (λ found. IfSome found (λ front. IsUtf8 front.1.now)) }
+    ensures token { IfOk result (λ found. IfSome found (λ prefix. Begins (chars text.now) (lexeme_of prefix.0) (chars prefix.1.now))) }
+    ensures rest { IfOk result (λ found. IfSome found (λ prefix. IsUtf8 prefix.1.now)) }
     ensures ignored { IfOk result (λ found. IfNone found (IsIgnored (chars text.now))) }
     ensures no_token { OnErr result ((lexeme : Lexeme) (rest : List ℕ) → ¬ Begins (chars text.now) lexeme rest) }
     ensures not_lexed { OnErr result ((all : List Lexeme) → ¬ Lexes (chars text.now) all) }
@@ -58,14 +58,14 @@ pub fn next(text: &str) -> Option<(Token<'_>, &str)>
     ensures { IsNext text.now result }
 {
     match first_token(text) {
-        Ok(front) => front,
+        Ok(prefix) => prefix,
         Err(_) => None,
     }
 }
 
 /// Returns the name in front, and what follows it.
 pub fn name(text: &str) -> Option<(&str, &str)>
-    ensures { Fronts text_of text.now (name_in (lexemes_in text.now)) result }
+    ensures { Prefixes text_of text.now (name_in (lexemes_in text.now)) result }
 {
     let (token, rest) = next(text)?;
     match token {
@@ -76,7 +76,7 @@ pub fn name(text: &str) -> Option<(&str, &str)>
 
 /// Returns the number in front, and what follows it.
 pub fn number(text: &str) -> Option<(u32, &str)>
-    ensures { Fronts (λ number. number) text.now (number_in (lexemes_in text.now)) result }
+    ensures { Prefixes (λ number. number) text.now (number_in (lexemes_in text.now)) result }
 {
     let (token, rest) = next(text)?;
     match token {
@@ -87,7 +87,7 @@ pub fn number(text: &str) -> Option<(u32, &str)>
 
 /// Returns the sign in front, and what follows it.
 pub fn sign(text: &str) -> Option<(char, &str)>
-    ensures { Fronts (λ sign. sign) text.now (sign_in (lexemes_in text.now)) result }
+    ensures { Prefixes (λ sign. sign) text.now (sign_in (lexemes_in text.now)) result }
 {
     let (token, rest) = next(text)?;
     match token {
@@ -165,7 +165,7 @@ fn variable_at(text: &str) -> Result<Option<(Token<'_>, &str)>, BadToken>
 /// Returns the number at the front of a text, which no name may follow.
 #[tactic(auto, using(crate::proofs::Numbers::digits))]
 fn number_at(text: &str) -> Result<Option<(Token<'_>, &str)>, BadToken>
-    requires { 0 < length (front_while is_ascii_digit (chars text.now)) }
+    requires { 0 < length (prefix_while is_ascii_digit (chars text.now)) }
     ensures { Scans result (first_number (chars text.now)) }
 {
     let (digits, rest) = split_while(text, Class::Digit);
@@ -212,7 +212,7 @@ impl Class {
     }
 }
 
-/// Returns what follows the longest front that is of a class.
+/// Returns what follows the longest prefix that is of a class.
 fn skip_while(text: &str, class: Class) -> &str
     ensures { Skips (is_of class) text.now result.now }
 {
@@ -226,11 +226,11 @@ fn skip_while(text: &str, class: Class) -> &str
     rest
 }
 
-/// Returns the longest front of a text that is of a class, and what follows it.
+/// Returns the longest prefix of a text that is of a class, and what follows it.
 fn split_while(text: &str, class: Class) -> (&str, &str)
     ensures whole { text.now ≡ result.0.now ++ result.1.now }
-    ensures front { chars result.0.now ≡ front_while (is_of class) (chars text.now) }
-    ensures front_text { IsUtf8 result.0.now }
+    ensures prefix { chars result.0.now ≡ prefix_while (is_of class) (chars text.now) }
+    ensures prefix_text { IsUtf8 result.0.now }
     ensures rest_text { IsUtf8 result.1.now }
     ensures after { chars result.1.now ≡ after_while (is_of class) (chars text.now) }
 {

@@ -82,7 +82,7 @@ rows-are = λ i.
 test : is_table danger danger_table ≡ true
 test =
     subst (λ (made : List (List Derivation)). (rows_are_table danger danger_table.params danger_table.param_sorts danger_table.steps
-    danger_table.goal danger_table.goal_vars made && pointwise mark_eq danger_table.marks (marks_from 1 made)) ≡ true)
+    danger_table.goal danger_table.goal_variable_count made && pointwise mark_eq danger_table.marks (marks_from 1 made)) ≡ true)
     (sym rows-are) refl
 
 pub danger-table : IsTable danger danger_table

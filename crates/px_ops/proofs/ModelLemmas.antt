@@ -25,7 +25,7 @@ use Rattle.px_base.specs.ListLaws.{Contains-later, Contains-cases, AllByRecursio
 use Rattle.px_base.specs.SetLaws.{with_item-sorted, with_item-members, same_set, set_of-sorted, set_of-push}
 use Rattle.px_ops.specs.Models.{IsModel, IsPlace, Parts, without_atom}
 use Rattle.px_base.proofs.Loops.{level_or_below}
-use Rattle.px_ops.proofs.PlaceLemmas.{front_of, back_of, filter_all, around, rising, sorted_pair, with_item-between}
+use Rattle.px_ops.proofs.PlaceLemmas.{prefix_of, back_of, filter_all, around, rising, sorted_pair, with_item-between}
 
 -- what a binary search answers is the place
 pub searched_place : (atoms : List Atom) (atom : Atom) (r : Result ℕ ℕ) → IsAtomSet atoms → IsSearchInRange r (length atoms)
@@ -38,7 +38,7 @@ searched_place atoms atom (Err i) sorted below found =
     let parts = found (rising atom_cmp atom_cmp-total atoms atom sorted) in (
       below,
       record {
-        below = front_of _ atoms i below parts.0;
+        below = prefix_of _ atoms i below parts.0;
         above =
             back_of _ atoms i (λ k d low high. atom_cmp-total.antisymm atom (get_or atoms k d)
             ∙ ap ordering_reverse (parts.1 k d low high));
@@ -60,7 +60,7 @@ last_place atoms atom default sorted some above =
     λ d. subst (λ (a : Atom). atom_cmp a atom ≡ Less) (get_or_default atoms last default d within) above in (
       omega arith,
       record {
-        below = front_of _ atoms (length atoms) (omega arith) (λ k d low high. elim (level_or_below k last (omega (arith, high, some))) [
+        below = prefix_of _ atoms (length atoms) (omega arith) (λ k d low high. elim (level_or_below k last (omega (arith, high, some))) [
           | inl before ↦ atom_cmp-total.trans _ _ atom (sorted_pair atom_cmp atom_cmp-total atoms k last d sorted before within)
               (last_below d)
           | inr level ↦ rw level (last_below d)

@@ -17,12 +17,12 @@ all_at P [] j d all h = absurd (omega (arith, h))
 all_at P (x ∷ xs) zero d all h = all.0
 all_at P (x ∷ xs) (suc j) d all h = all_at P xs j d all.1 (omega (arith, h))
 
-pub front_of : {X : Type 0} (P : X → Type 0) (xs : List X) (i : ℕ) → i ≤ length xs → AllWithin P xs 0 i → AllByRecursion P (take i xs)
-front_of P xs zero h all = tt
-front_of P [] (suc i) h all = absurd (omega (arith, h))
-front_of P (x ∷ xs) (suc i) h all = (
+pub prefix_of : {X : Type 0} (P : X → Type 0) (xs : List X) (i : ℕ) → i ≤ length xs → AllWithin P xs 0 i → AllByRecursion P (take i xs)
+prefix_of P xs zero h all = tt
+prefix_of P [] (suc i) h all = absurd (omega (arith, h))
+prefix_of P (x ∷ xs) (suc i) h all = (
   all 0 x (omega arith) (omega arith),
-  front_of P xs i (omega (arith, h)) (λ k d low high. all (suc k) d (omega arith) (omega (arith, high))),
+  prefix_of P xs i (omega (arith, h)) (λ k d low high. all (suc k) d (omega arith) (omega (arith, high))),
 )
 
 pub back_of : {X : Type 0} (P : X → Type 0) (xs : List X) (i : ℕ) → AllWithin P xs i (length xs) → AllByRecursion P (drop i xs)
@@ -80,7 +80,7 @@ module _ {K : Type 0} (R : K → K → Ordering) (o : IsTotalOrder R) where
       → AllByRecursion (λ y. R y a ≡ Less) (take i xs) × AllByRecursion (λ y. R a y ≡ Less) (drop (i + 1) xs)
   around xs a i sorted here is =
       let itself : (d : K) → get_or xs i d ≡ a = λ d. get_or_default xs i d a here ∙ is in (
-        front_of _ xs i (omega arith) (λ k d low high. subst (λ y. R (get_or xs k d) y ≡ Less) (itself d)
+        prefix_of _ xs i (omega arith) (λ k d low high. subst (λ y. R (get_or xs k d) y ≡ Less) (itself d)
             (sorted_pair xs k i d sorted high here)),
         back_of _ xs (i + 1) (λ k d low high. subst (λ y. R y (get_or xs k d) ≡ Less) (itself d)
             (sorted_pair xs i k d sorted (omega (arith, low)) high)),

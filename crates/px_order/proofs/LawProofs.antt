@@ -4,7 +4,7 @@ use Rattle.px_order.specs.Spaces.{Space, Order, IsLinear, IsBefore}
 use Rattle.px_order.specs.Ends.{Aim}
 use Rattle.px_order.specs.RunLaws.{runs-one, once, made, over-reaches}
 use Rattle.px_order.specs.RunOrigins.{few-moves}
-use Rattle.px_order.specs.Fronts.{front-gone}
+use Rattle.px_order.specs.Prefixes.{prefix-gone}
 use Rattle.px_order.specs.Asked.{gone-picked, tested-found, over-gone, over-tested}
 use Rattle.px_order.specs.EndLaws.{one-stop, same-earlier, no-stop, not-found, not-full, not-limited}
 use Rattle.px_order.specs.Breadth.{down_from, InOrder, in_order, begins-least, over-whole}
@@ -65,7 +65,7 @@ module _ {N M Q : Type 0} (space : Space N M) (aim : Aim N Q) where
       same-earlier space aim order (lower-total order linear) earlier others last next s t,
       one-stop space aim order (lower-total order linear) earlier others last next s t,
     );
-    gone_through = λ order earlier last stop. front-gone space order aim earlier last stop;
+    gone_through = λ order earlier last stop. prefix-gone space order aim earlier last stop;
     found = λ order linear moves others f g.
         one-stop space aim order (lower-total order linear) f.earlier g.earlier moves others f.stop g.stop;
     node_limit = λ order linear earlier others number count k l. (

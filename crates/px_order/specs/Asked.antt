@@ -9,13 +9,13 @@ use Rattle.px_order.specs.Runs.{IsDone, IsOver, Picks, Finds, RunsFor}
 use Rattle.px_order.specs.Spaces.{Space, Order, IsLower, at}
 
 -- a list that ends in another list with items has all but the last of these behind
-front-of : {A : Type 0} (xs ys : List A) (x z : A) (zs : List A) → xs ++ x ∷ [] ≡ ys ++ z ∷ zs → (rest : List A) × (xs ≡ ys ++ rest)
-front-of {A = A} xs [] x z zs e = (xs, refl)
-front-of {A = A} [] (y ∷ []) x z zs e = absurd (cc)
-front-of {A = A} [] (y ∷ w ∷ ys) x z zs e = absurd (cc)
-front-of {A = A} (v ∷ xs) (y ∷ ys) x z zs e =
+prefix-of : {A : Type 0} (xs ys : List A) (x z : A) (zs : List A) → xs ++ x ∷ [] ≡ ys ++ z ∷ zs → (rest : List A) × (xs ≡ ys ++ rest)
+prefix-of {A = A} xs [] x z zs e = (xs, refl)
+prefix-of {A = A} [] (y ∷ []) x z zs e = absurd (cc)
+prefix-of {A = A} [] (y ∷ w ∷ ys) x z zs e = absurd (cc)
+prefix-of {A = A} (v ∷ xs) (y ∷ ys) x z zs e =
     let h : (v ≡ y) × (xs ++ x ∷ [] ≡ ys ++ z ∷ zs) = (cc, cc) in
-    let r = front-of xs ys x z zs h.1 in (r.0, cc (h.0, r.1))
+    let r = prefix-of xs ys x z zs h.1 in (r.0, cc (h.0, r.1))
 
 module _ {N M : Type 0} (space : Space N M) (order : Order N M) (total : (m n : M) → IsLower order m n ⊎ ((m ≡ n) ⊎ IsLower order n m)) where
   abbrev Runs : ℕ → List (List M) → List ℕ → Type 0
@@ -119,7 +119,7 @@ module _ {N M : Type 0} (space : Space N M) (order : Order N M) (total : (m n : 
             t.room,
           )
           by (l ∷ ls) is =
-              let parts = front-of t.earlier all moves l ls is in
+              let parts = prefix-of t.earlier all moves l ls is in
               absurd (too-far t.earlier parts.0 parts.1 t.unsolved (omega (arith, t.room)))
 
     -- ---- where no place is left

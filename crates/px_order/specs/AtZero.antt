@@ -1,7 +1,7 @@
 -- At weight 0 the lists that stand no later than the one from which the stop is found were gone through.
 use Rattle.std.proofs.Common.{◌≡◌, ℕ, suc, ◌<◌, ◌≤◌, List, [], ◌∷◌, ◌++◌, length, refl, sym, ◌∙◌, ap, subst, inl, inr, arith, Some, slice_get, slice_index_or, Contains}
 use Rattle.px_order.specs.Spaces.{Space, Order, IsLower, blind, at, IsLeast, IsBeginning}
-use Rattle.px_order.specs.Places.{order_of, place_of, contains_place, place-within-list, at_index, still_there, some-one, push-cases, head-of, tail-of, at_end, get-front}
+use Rattle.px_order.specs.Places.{order_of, place_of, contains_place, place-within-list, at_index, still_there, some-one, push-cases, head-of, tail-of, at_end, get-prefix}
 use Rattle.px_order.specs.RunLaws.{once, behind}
 use Rattle.px_order.specs.RunOrigins.{PickedAt, picked-at, origins}
 use Rattle.px_order.specs.Frontier.{IsMoveOrder}
@@ -113,7 +113,7 @@ module _ {N M Q : Type 0} (space : Space N M) (before : List M → List M → Ty
       fewer = elim (order_of (length earlier) (length s.lists)) [
         | inl more ↦
             let here : slice_get s.lists (length earlier) ≡ Some last =
-            get-front s.lists s.rest (length earlier) last more
+            get-prefix s.lists s.rest (length earlier) last more
             (ap (λ (l : List (List M)). slice_get l (length earlier)) (sym s.found_is) ∙ at_end earlier last) in
             elim (origins space (blind order) s.before.0 s.lists s.earlier s.before.1 (length earlier) last here) [
               | inl first ↦ absurd (no_end parent m (first.1 ∙ made_from))
@@ -145,7 +145,7 @@ module _ {N M Q : Type 0} (space : Space N M) (before : List M → List M → Ty
         place = moves-at.0;
         picked = s.earlier;
         comes = s.comes;
-        stands = get-front s.lists s.rest moves-at.0 moves below
+        stands = get-prefix s.lists s.rest moves-at.0 moves below
             (ap (λ (l : List (List M)). slice_get l moves-at.0) (sym s.found_is) ∙ moves-at.1);
         unsolved = λ l has. stop.unsolved l (among l has);
         room = omega (arith, fewer, stop.room);

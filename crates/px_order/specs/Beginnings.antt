@@ -72,14 +72,14 @@ module _ {N M : Type 0} (space : Space N M) (before : List M → List M → Type
 
   -- ---- moves without the last one
 
-  pub can-front : (from : N) (ms : List M) (m : M) → CanMake space from (ms ++ m ∷ [])
+  pub can-prefix : (from : N) (ms : List M) (m : M) → CanMake space from (ms ++ m ∷ [])
       → CanMake space from ms × space.allows (reached space from ms) m
-  can-front from [] m can = (tt, can.0)
-  can-front from (k ∷ ms) m can = let rest = can-front (space.after from k) ms m can.1 in ((can.0, rest.0), rest.1)
+  can-prefix from [] m can = (tt, can.0)
+  can-prefix from (k ∷ ms) m can = let rest = can-prefix (space.after from k) ms m can.1 in ((can.0, rest.0), rest.1)
 
-  pub front-least : (ms : List M) (m : M) → IsLeast space before space.start (ms ++ m ∷ []) → IsLeast space before space.start ms
-  front-least ms m least =
-      let can = can-front space.start ms m least.made in
+  pub prefix-least : (ms : List M) (m : M) → IsLeast space before space.start (ms ++ m ∷ []) → IsLeast space before space.start ms
+  prefix-least ms m least =
+      let can = can-prefix space.start ms m least.made in
       record {
         made = can.0;
         least = λ others made same less.

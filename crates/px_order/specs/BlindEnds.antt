@@ -6,7 +6,7 @@ use Rattle.px_order.specs.Places.{order_of, place_of, contains_place, place-with
 use Rattle.px_order.specs.RunLaws.{over-reaches, node-push}
 use Rattle.px_order.specs.RunOrigins.{found-at, FoundAt}
 use Rattle.px_order.specs.Frontier.{IsMoveOrder}
-use Rattle.px_order.specs.Beginnings.{places_ascend, one_place, can-front, front-least}
+use Rattle.px_order.specs.Beginnings.{places_ascend, one_place, can-prefix, prefix-least}
 use Rattle.px_order.specs.Breadth.{IsByLength, Going, in_order, begins-least, over-whole}
 use Rattle.px_order.specs.AtZero.{least-gone}
 use Rattle.px_order.specs.Ends.{Aim, IsStop, IsGoneThrough, IsTested, IsAsked, IsUnlimited, IsFound, IsExhausted, IsNodeLimit}
@@ -14,7 +14,7 @@ use Rattle.px_order.specs.EndLaws.{list-gone, list-tested}
 use Rattle.px_order.specs.BreadthEnds.{IsBreadthStop, IsMadeFrom, IsBreadthGone, IsBreadthTested, IsBreadthAsked, IsBreadthUnlimited, IsBreadthFound, IsBreadthExhausted, IsBreadthNodeLimit}
 
 -- a list is empty, or has a last item
-ends-in : {A : Type 0} (xs : List A) → (xs ≡ []) ⊎ ((front : List A) × (last : A) × (xs ≡ front ++ last ∷ []))
+ends-in : {A : Type 0} (xs : List A) → (xs ≡ []) ⊎ ((prefix : List A) × (last : A) × (xs ≡ prefix ++ last ∷ []))
 ends-in [] = inl refl
 ends-in {A = A} (x ∷ xs) = elim (ends-in xs) [
   | inl e ↦ inr ([], x, ap (λ (l : List A). x ∷ l) e)
@@ -179,7 +179,7 @@ module _ {N M Q : Type 0} (space : Space N M) (before : List M → List M → Ty
 
         parent-at : (i : ℕ) × (slice_get g.found i ≡ Some parent)
         parent-at = place_of g.found parent (begins.closed parent moves (contains_place g.found g.place moves g.stands)
-            (front-least space before sound parent m least-whole) less)
+            (prefix-least space before sound parent m least-whole) less)
 
         parent-earlier : parent-at.0 < g.place
         parent-earlier = elim (order_of parent-at.0 g.place) [
@@ -198,7 +198,7 @@ module _ {N M Q : Type 0} (space : Space N M) (before : List M → List M → Ty
         stop-is-found : ⊥
         stop-is-found =
             let r = going.known.covered parent-at.0 parent m parent-at.1 (inl (omega (arith, parent-earlier, number)))
-            (can-front space before sound space.start parent m least-whole.made).1 in
+            (can-prefix space before sound space.start parent m least-whole.made).1 in
             let there : at space r.0 ≡ at space last =
             r.2 ∙ sym (node-push space (blind order) space.start parent m) ∙ sym (ap (λ (l : List M). at space l) is) in
             elim (sound.total r.0 last) [

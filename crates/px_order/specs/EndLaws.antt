@@ -3,7 +3,7 @@ use Rattle.std.proofs.Common.{◌≡◌, ℕ, suc, ◌<◌, ◌⊎◌, ◌+◌, 
 use Rattle.std.proofs.lemmas.List.Elements.{Contains-append_left, Contains-push}
 use Rattle.px_order.specs.Spaces.{Space, Order, IsLower}
 use Rattle.px_order.specs.Ends.{Aim, IsStop, IsGoneThrough, IsTested, IsFound, IsExhausted, IsNodeLimit, IsAsked}
-use Rattle.px_order.specs.Places.{order_of, place_of, contains_place, place-within-list, at_index, still_there, some-one, at_end, length-end, get-front}
+use Rattle.px_order.specs.Places.{order_of, place_of, contains_place, place-within-list, at_index, still_there, some-one, at_end, length-end, get-prefix}
 use Rattle.px_order.specs.RunLaws.{agree, behind}
 use Rattle.px_order.specs.RunOrigins.{picked-at, found-at}
 use Rattle.px_order.specs.AnyOrder.{no-more, reaches-same}
@@ -65,7 +65,7 @@ module _ {N M Q : Type 0} (space : Space N M) (aim : Aim N Q) where
           place = place.0;
           picked = s.earlier;
           comes = s.comes;
-          stands = get-front s.lists s.rest place.0 moves
+          stands = get-prefix s.lists s.rest place.0 moves
               ((behind space order s.comes.0 s.lists (place.0 ∷ s.earlier) s.comes.1).within place.0 (0, omega arith, refl))
               (ap (λ (z : List (List M)). slice_get z place.0) (sym s.found_is) ∙ place.1);
           unsolved = λ l inside.

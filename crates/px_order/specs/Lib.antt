@@ -14,7 +14,7 @@ pub mod Beginnings
 pub mod Breadth
 pub mod Shortlex
 pub mod AtZero
-pub mod Fronts
+pub mod Prefixes
 pub mod BreadthEnds
 pub mod BlindEnds
 pub mod Agendas

@@ -53,8 +53,8 @@ pub length-end : {A : Type 0} (xs : List A) (x : A) → length (xs ++ x ∷ []) 
 length-end [] x = refl
 length-end (y ∷ xs) x = ap suc (length-end xs x)
 
-pub get-front : {A : Type 0} (xs ys : List A) (k : ℕ) (x : A) → k < length xs → slice_get (xs ++ ys) k ≡ Some x → slice_get xs k ≡ Some x
-get-front xs ys k x below at = let here = at_index xs k x below in here ∙ sym (still_there xs ys k _ here) ∙ at
+pub get-prefix : {A : Type 0} (xs ys : List A) (k : ℕ) (x : A) → k < length xs → slice_get (xs ++ ys) k ≡ Some x → slice_get xs k ≡ Some x
+get-prefix xs ys k x below at = let here = at_index xs k x below in here ∙ sym (still_there xs ys k _ here) ∙ at
 
 pub joined : {A : Type 0} (xs ys zs : List A) → (xs ++ ys) ++ zs ≡ xs ++ (ys ++ zs)
 joined [] ys zs = refl

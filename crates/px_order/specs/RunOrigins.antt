@@ -188,8 +188,8 @@ module _ {N M : Type 0} (space : Space N M) (order : Order N M) where
   short (suc bound) k found picked old below moves at_k = elim (old k moves at_k) [
     | inl first ↦ omega (arith, ap length first.1)
     | inr h ↦
-        let front = short bound h.place found picked old (omega (arith, below, h.earlier)) h.parent h.stands in
-        omega (arith, front, h.earlier, ap length h.moves_are, length-end h.parent h.m)
+        let prefix = short bound h.place found picked old (omega (arith, below, h.earlier)) h.parent h.stands in
+        omega (arith, prefix, h.earlier, ap length h.moves_are, length-end h.parent h.m)
   ]
 
   pub few-moves : (n : ℕ) (found : List (List M)) (picked : List ℕ) → Runs n found picked → (k : ℕ) (moves : List M)

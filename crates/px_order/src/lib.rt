@@ -29,7 +29,7 @@
 //!   places that weren't picked (`IsAgendaOf` of `specs/OpenPlaces`) gives the next place, and goes on so ([`agenda_goes_on`]); at weight 0
 //!   a counter does ([`blind_needs_no_agenda`]). [`value_of`] computes a value.
 //! - No clause of a public call cites `specs/Places`, `RunLaws`, `RunOrigins`, `AnyOrder`, `EndLaws`, `Asked`, `Frontier`,
-//!   `Beginnings`, `Shortlex`, `AtZero`, `Fronts`, `BlindEnds` and `AgendaLaws`: they have the lemmas behind the laws, for the crates
+//!   `Beginnings`, `Shortlex`, `AtZero`, `Prefixes`, `BlindEnds` and `AgendaLaws`: they have the lemmas behind the laws, for the crates
 //!   above. Of `Breadth`, which has more of these, a law cites `down_from`.
 #![tactic(auto)]
 

@@ -20,7 +20,7 @@ same_precondition one other inst same =
 
 same_axioms : (one other : Problem) (state : State) → HaveSameRules one other → AxiomsHold one state → AxiomsHold other state
 same_axioms one other state same hold =
-    subst (λ (axioms : List Clause). All (λ (clause : Clause). (values : List ℕ) → AreValues state clause.vars values
+    subst (λ (axioms : List Clause). All (λ (clause : Clause). (values : List ℕ) → AreValues state clause.variable_count values
     → Any (LiteralHoldsUnder state values) clause.lits) axioms) same.axioms hold
 
 pub guard_never : GuardNever

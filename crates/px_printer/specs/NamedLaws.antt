@@ -6,7 +6,7 @@ use Rattle.std.proofs.lemmas.List.Elements.{All-head}
 use Rattle.px_names.specs.Lists.{NameLists}
 use Rattle.px_proof.specs.declared.proof.Leaf.{Leaf}
 use Rattle.px_proof.specs.Derivation.{Derivation, Derivations, fact, ancestor, step, gap, open_place, none, also, leaf_atoms, leaves_of, all_leaves_of, terms_of, all_terms_of}
-use Rattle.px_proof.specs.PlaceLaws.{All-back, All-front}
+use Rattle.px_proof.specs.PlaceLaws.{All-back, All-prefix}
 use Rattle.px_printer.specs.Blocks.{AreNamedProofs, IsNamedProof}
 use Rattle.px_printer.specs.Texts.{IsNamedAtom, IsNamedTerm}
 
@@ -17,7 +17,7 @@ module _ (names : NameLists) where
     named_proof (fact leaf) atoms terms = All-head (IsNamedAtom names) leaf.atom [] atoms
     named_proof (ancestor i) atoms terms = tt
     named_proof (step number theta place parts) atoms terms = (
-      All-front (IsNamedTerm names) theta (all_terms_of parts) terms,
+      All-prefix (IsNamedTerm names) theta (all_terms_of parts) terms,
       named_proofs parts atoms (All-back (IsNamedTerm names) theta (all_terms_of parts) terms),
     )
     named_proof (gap atom) atoms terms = tt
@@ -29,8 +29,8 @@ module _ (names : NameLists) where
     named_proofs none atoms terms = tt
     named_proofs (also d ds) atoms terms =
         let both = subst (All (IsNamedAtom names)) (map-append (λ (leaf : Leaf). leaf.atom) (leaves_of d) (all_leaves_of ds)) atoms in (
-          named_proof d (All-front (IsNamedAtom names) (leaf_atoms (leaves_of d)) (leaf_atoms (all_leaves_of ds)) both)
-              (All-front (IsNamedTerm names) (terms_of d) (all_terms_of ds) terms),
+          named_proof d (All-prefix (IsNamedAtom names) (leaf_atoms (leaves_of d)) (leaf_atoms (all_leaves_of ds)) both)
+              (All-prefix (IsNamedTerm names) (terms_of d) (all_terms_of ds) terms),
           named_proofs ds (All-back (IsNamedAtom names) (leaf_atoms (leaves_of d)) (leaf_atoms (all_leaves_of ds)) both)
               (All-back (IsNamedTerm names) (terms_of d) (all_terms_of ds) terms),
         )

@@ -10,7 +10,7 @@ use Rattle.px_proof.specs.declared.proof.Proof.TheVariants.{Fact}
 use Rattle.px_proof.specs.Derivation.{Derivation, fact, open_place, also, derivations, leaves_of, all_leaves_of}
 use Rattle.px_proof.specs.Grafting.{first_leaves, later_leaves, raised, in_place_of, grafted, all_grafted}
 use Rattle.px_proof.specs.LayerLaws.{derivation_of-fact}
-use Rattle.px_proof.specs.PlaceLaws.{All-front, All-back}
+use Rattle.px_proof.specs.PlaceLaws.{All-prefix, All-back}
 use Rattle.px_proof.specs.ProofTerm.{derivation_of}
 
 -- ---- one leaf
@@ -99,7 +99,7 @@ module _ (proofs : List Proof) (k : ℕ) (p : Proof) (is : p ≡ get_or proofs k
 later_both : (P : Leaf → Type 0) (xs ys : List Leaf) → All P (later_leaves (xs ++ ys)) → All P (later_leaves xs) × All P (later_leaves ys)
 later_both P xs ys all =
     let both = subst (All P) (filter-append (λ (leaf : Leaf). not (leaf.column == 0)) xs ys) all in
-    (All-front P (later_leaves xs) (later_leaves ys) both, All-back P (later_leaves xs) (later_leaves ys) both)
+    (All-prefix P (later_leaves xs) (later_leaves ys) both, All-back P (later_leaves xs) (later_leaves ys) both)
 
 -- what holds of the leaves of all in later columns holds of those of one
 pub later_of_one : (P : Leaf → Type 0) (proofs : List Proof) (k : ℕ) (p : Proof) → k < length proofs

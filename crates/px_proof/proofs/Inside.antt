@@ -5,7 +5,7 @@ use Rattle.std.proofs.Math.Nat.{max-le, le-max_left, le-max_right}
 use Rattle.px_terms.specs.declared.term.Term.{Term}
 use Rattle.px_proof.specs.declared.proof.Proof.{Proof}
 use Rattle.px_proof.specs.Derivation.{Derivation, Derivations, none, also, derivations, height, greatest_height, terms_of, all_terms_of, skeletons}
-use Rattle.px_proof.specs.PlaceLaws.{All-front, All-back}
+use Rattle.px_proof.specs.PlaceLaws.{All-prefix, All-back}
 use Rattle.px_proof.specs.ProofTerm.{derivation_of}
 use Rattle.px_proof.specs.Substitution.{derivation_under, derivations_under}
 
@@ -31,7 +31,7 @@ none_higher (p ∷ ps) limit each =
 pub terms_of_one : (P : Term → Type 0) (proofs : List Proof) (k : ℕ) (d : Proof) → k < length proofs → All P (all_terms_of (of_all proofs))
     → All P (terms_of (derivation_of (get_or proofs k d)))
 terms_of_one P [] k d below all = absurd (omega (arith, below))
-terms_of_one P (p ∷ ps) zero d below all = All-front P (terms_of (derivation_of p)) (all_terms_of (of_all ps)) all
+terms_of_one P (p ∷ ps) zero d below all = All-prefix P (terms_of (derivation_of p)) (all_terms_of (of_all ps)) all
 terms_of_one P (p ∷ ps) (suc k) d below all =
     terms_of_one P ps k d (omega (arith, below)) (All-back P (terms_of (derivation_of p)) (all_terms_of (of_all ps)) all)
 

@@ -11,17 +11,17 @@ use Rattle.px_base.specs.Answers.{some_same}
 use Rattle.px_proof.specs.PlaceLaws.{slice_get-read, slice_get-within}
 
 abbrev pub no_clause : Clause
-no_clause = record { vars = 0; lits = [] }
+no_clause = record { variable_count = 0; lits = [] }
 
 abbrev pub clause_at : List Clause → ℕ → Clause
 clause_at axioms number = get_or axioms number no_clause
 
 -- the literals of an arena's clause are plain below its variables
 pub plain_lits : (axioms : List Clause) (number : ℕ) (theta : List Term) (lits : List Lit) → IsArena axioms → number < length axioms
-    → length theta ≡ (clause_at axioms number).vars
+    → length theta ≡ (clause_at axioms number).variable_count
     → lits ≡ (clause_at axioms number).lits → ArePlainBelow (length theta) lits
 plain_lits axioms number theta lits arena below same is =
-    subst (λ n. ArePlainBelow n lits) (sym same) (subst (λ ls. ArePlainBelow (clause_at axioms number).vars ls) (sym is)
+    subst (λ n. ArePlainBelow n lits) (sym same) (subst (λ ls. ArePlainBelow (clause_at axioms number).variable_count ls) (sym is)
     (arena.each number no_clause below).plain)
 
 module _ (IsChoice : Term → Type 0) (axioms : List Clause) (lit : Lit) (number : ℕ) (theta : List Term) (place : ℕ) where
@@ -29,7 +29,7 @@ module _ (IsChoice : Term → Type 0) (axioms : List Clause) (lit : Lit) (number
   clause_is clause at = some_same (sym at ∙ slice_get-read axioms number no_clause (slice_get-within axioms number clause at))
 
   -- what remains to be tested where the number and the length are right
-  pub uses_exact : (answer : Bool) (lits : List Lit) → number < length axioms → length theta ≡ (clause_at axioms number).vars
+  pub uses_exact : (answer : Bool) (lits : List Lit) → number < length axioms → length theta ≡ (clause_at axioms number).variable_count
       → All IsChoice theta → lits ≡ (clause_at axioms number).lits
       → (IsTrue answer ↔ (slice_get (instance_of lits theta) place ≡ Some lit))
       → (IsTrue answer ↔ ((clause : Clause) × UsesClause IsChoice axioms lit number theta place clause))
@@ -52,8 +52,8 @@ module _ (IsChoice : Term → Type 0) (axioms : List Clause) (lit : Lit) (number
   uses_number clause uses = slice_get-within axioms number clause uses.axiom_at
 
   pub uses_length : (clause : Clause) → UsesClause IsChoice axioms lit number theta place clause
-      → length theta ≡ (clause_at axioms number).vars
-  uses_length clause uses = uses.terms ∙ ap (λ (c : Clause). c.vars) (clause_is clause uses.axiom_at)
+      → length theta ≡ (clause_at axioms number).variable_count
+  uses_length clause uses = uses.terms ∙ ap (λ (c : Clause). c.variable_count) (clause_is clause uses.axiom_at)
 
   pub uses_place : (clause : Clause) → UsesClause IsChoice axioms lit number theta place clause
       → place < length (clause_at axioms number).lits

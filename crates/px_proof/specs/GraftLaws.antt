@@ -28,22 +28,22 @@ EachHas R (leaf ∷ leaves) [] = ⊥
 EachHas R (leaf ∷ leaves) (part ∷ parts) = R leaf part × EachHas R leaves parts
 
 module _ (R : Leaf → Derivation → Type 0) where
-  each_has-front : (xs ys : List Leaf) (parts : List Derivation) → EachHas R (xs ++ ys) parts → EachHas R xs parts
-  each_has-front [] ys parts has = tt
-  each_has-front (x ∷ xs) ys [] has = absurd has
-  each_has-front (x ∷ xs) ys (part ∷ parts) has = (has.0, each_has-front xs ys parts has.1)
+  each_has-prefix : (xs ys : List Leaf) (parts : List Derivation) → EachHas R (xs ++ ys) parts → EachHas R xs parts
+  each_has-prefix [] ys parts has = tt
+  each_has-prefix (x ∷ xs) ys [] has = absurd has
+  each_has-prefix (x ∷ xs) ys (part ∷ parts) has = (has.0, each_has-prefix xs ys parts has.1)
 
   each_has-back : (xs ys : List Leaf) (parts : List Derivation) → EachHas R (xs ++ ys) parts → EachHas R ys (drop (length xs) parts)
   each_has-back [] ys parts has = has
   each_has-back (x ∷ xs) ys [] has = absurd has
   each_has-back (x ∷ xs) ys (part ∷ parts) has = each_has-back xs ys parts has.1
 
-  -- the leaves in column 0 of the front, and those of the back
+  -- the leaves in column 0 of the prefix, and those of the back
   each_has-both : (xs ys : List Leaf) (parts : List Derivation) → EachHas R (first_leaves (xs ++ ys)) parts
       → EachHas R (first_leaves xs) parts × EachHas R (first_leaves ys) (drop (length (first_leaves xs)) parts)
   each_has-both xs ys parts has =
       let both = subst (λ (ls : List Leaf). EachHas R ls parts) (filter-append (λ (leaf : Leaf). leaf.column == 0) xs ys) has in
-      (each_has-front (first_leaves xs) (first_leaves ys) parts both, each_has-back (first_leaves xs) (first_leaves ys) parts both)
+      (each_has-prefix (first_leaves xs) (first_leaves ys) parts both, each_has-back (first_leaves xs) (first_leaves ys) parts both)
 
 -- where the atoms have their parts, the leaves have them
 pub each_has-atoms : (R : Atom → Derivation → Type 0) (leaves : List Leaf) (parts : List Derivation) → AllZip R (leaf_atoms leaves) parts

@@ -75,8 +75,8 @@ Contains-mapped f (x ∷ xs) q has = elim (Contains-cases x xs q has) [
 ]
 
 module _ {X : Type 0} (P : X → Type 0) (xs ys : List X) (all : All P (xs ++ ys)) where
-  pub All-front : All P xs
-  All-front = All-each P xs (λ x has. All-at P (xs ++ ys) x all (Contains-append_left xs ys x has))
+  pub All-prefix : All P xs
+  All-prefix = All-each P xs (λ x has. All-at P (xs ++ ys) x all (Contains-append_left xs ys x has))
 
   pub All-back : All P ys
   All-back = All-each P ys (λ y has. All-at P (xs ++ ys) y all (Contains-append_right xs ys y has))

@@ -33,7 +33,7 @@ parts_of lits theta place = map complement_of (remove (instance_of lits theta) p
 pub record UsesClause (IsChoice : Term → Type 0) (axioms : List Clause) (lit : Lit) (number : ℕ) (theta : List Term) (place : ℕ)
     (clause : Clause) : Type 0 where
   pub axiom_at : slice_get axioms number ≡ Some clause
-  pub terms : length theta ≡ clause.vars
+  pub terms : length theta ≡ clause.variable_count
   pub choices : All IsChoice theta
   pub literal_at : slice_get (instance_of clause.lits theta) place ≡ Some lit
 

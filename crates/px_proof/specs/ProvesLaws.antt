@@ -66,10 +66,10 @@ module _ (axioms : List Clause) (old new : Rules) (allows : Allows old new) wher
     each_by path [] (also d ds) facts each = absurd each
     each_by path (lit ∷ lits) none facts each = absurd each
 
-slice_get-front : {X : Type 0} (xs ys : List X) (k : ℕ) (x : X) → slice_get xs k ≡ Some x → slice_get (xs ++ ys) k ≡ Some x
-slice_get-front [] ys k x at = absurd (cc)
-slice_get-front (y ∷ xs) ys zero x at = at
-slice_get-front (y ∷ xs) ys (suc k) x at = slice_get-front xs ys k x at
+slice_get-prefix : {X : Type 0} (xs ys : List X) (k : ℕ) (x : X) → slice_get xs k ≡ Some x → slice_get (xs ++ ys) k ≡ Some x
+slice_get-prefix [] ys k x at = absurd (cc)
+slice_get-prefix (y ∷ xs) ys zero x at = at
+slice_get-prefix (y ∷ xs) ys (suc k) x at = slice_get-prefix xs ys k x at
 
 -- what is proved under a path is proved under a longer one
 module _ (rules : Rules) (axioms : List Clause) (far : List Lit) where
@@ -77,7 +77,7 @@ module _ (rules : Rules) (axioms : List Clause) (far : List Lit) where
     pub proves_longer : (path : List Lit) (lit : Lit) (d : Derivation) → Proves rules axioms path lit d
         → Proves rules axioms (path ++ far) lit d
     proves_longer path lit (fact leaf) proved = proved
-    proves_longer path lit (ancestor i) proved = slice_get-front path far i (complement_of lit) proved
+    proves_longer path lit (ancestor i) proved = slice_get-prefix path far i (complement_of lit) proved
     proves_longer path lit (step number theta place parts) proved =
         (proved.0, proved.1, each_longer (lit ∷ path) (parts_of proved.0.lits theta place) parts proved.2)
     proves_longer path lit (gap atom) proved = proved

@@ -7,7 +7,7 @@ use Rattle.px_terms.specs.States.{State, IsState, Holds, HoldsUnder, AreValues, 
 
 -- whatever elements its variables have, some literal of the clause is true
 abbrev pub ClauseHolds : State → Clause → Type 0
-ClauseHolds state clause = (values : List ℕ) → AreValues state clause.vars values → Any (LiteralHoldsUnder state values) clause.lits
+ClauseHolds state clause = (values : List ℕ) → AreValues state clause.variable_count values → Any (LiteralHoldsUnder state values) clause.lits
 
 -- `AxiomsHold problem state` says this of the problem's axioms
 abbrev pub ClausesHold : List Clause → State → Type 0
@@ -20,6 +20,6 @@ Follows axioms facts lit =
 
 -- whatever elements the variables have, the literal is true in each state in which the axioms and the atoms hold
 abbrev pub FollowsUnder : List Clause → ℕ → List Atom → Lit → Type 0
-FollowsUnder axioms vars atoms lit =
+FollowsUnder axioms variable_count atoms lit =
     (state : State) → IsState state → ClausesHold axioms state
-    → (values : List ℕ) → AreValues state vars values → All (HoldsUnder state values) atoms → LiteralHoldsUnder state values lit
+    → (values : List ℕ) → AreValues state variable_count values → All (HoldsUnder state values) atoms → LiteralHoldsUnder state values lit

@@ -124,7 +124,7 @@ fn uses_clause(
     ensures { IsTrue result ↔ ((clause : Clause) × UsesClause (rules_of basis.now).IsChoice arena.now lit.now number theta.now place
         clause) }
 {
-    if number >= arena.count() || theta.len() != arena.vars(number) as usize {
+    if number >= arena.count() || theta.len() != arena.variable_count(number) as usize {
         return false;
     }
     are_choices(basis, theta) && is_literal_at(arena.lits(number), theta, place, lit)

@@ -95,7 +95,7 @@ untried-step old tick goal clause place lit lit_is within is_apart = record {
 }
   where
     theta : List Term
-    theta = variables_from (variables_of old.changes) clause.vars
+    theta = variables_from (variables_of old.changes) clause.variable_count
 
     found_is : get_or clause.lits place no_literal ≡ lit
     found_is = sym (lit_is ∙ get_or_default clause.lits place lit no_literal within)

@@ -68,10 +68,10 @@ module _ (axioms : List Clause) (goal : OpenGoal) (from place k : ℕ) (clause :
 
 -- the axiom of that number, by its parts
 pub axiom-at : (axioms : List Clause) (k : ℕ) (clause : Clause) → k < length axioms
-    → ((d : Clause) → clause.vars ≡ (get_or axioms k d).vars) → ((d : Clause) → clause.lits ≡ (get_or axioms k d).lits)
+    → ((d : Clause) → clause.variable_count ≡ (get_or axioms k d).variable_count) → ((d : Clause) → clause.lits ≡ (get_or axioms k d).lits)
     → slice_get axioms k ≡ Some clause
-axiom-at axioms k clause within vars lits =
-    slice_get-read axioms k clause within ∙ (λ i. Some (record { vars = sym (vars clause) i; lits = sym (lits clause) i }))
+axiom-at axioms k clause within variable_count lits =
+    slice_get-read axioms k clause within ∙ (λ i. Some (record { variable_count = sym (variable_count clause) i; lits = sym (lits clause) i }))
 
 pub fit-at : (variables : ℕ) (axioms : List Clause) (k : ℕ) (clause : Clause) → slice_get axioms k ≡ Some clause
     → All (IsFit variables) axioms → IsFit variables clause

@@ -27,20 +27,20 @@ then_up Less p q rest up = refl
 then_up Equal p q rest up = rest up
 then_up Greater p q rest up = up
 
-fronts_up : (n : ℕ) (xs ys : List Term) → is_gt (slice_cmp term_cmp xs ys) ≡ false
+prefixes_up : (n : ℕ) (xs ys : List Term) → is_gt (slice_cmp term_cmp xs ys) ≡ false
     → is_gt (slice_cmp term_cmp (take n xs) (take n ys)) ≡ false
-fronts_up zero xs ys up = refl
-fronts_up (suc n) [] [] up = refl
-fronts_up (suc n) [] (y ∷ ys) up = refl
-fronts_up (suc n) (x ∷ xs) [] up = up
-fronts_up (suc n) (x ∷ xs) (y ∷ ys) up =
-    then_up (term_cmp x y) (slice_cmp term_cmp xs ys) (slice_cmp term_cmp (take n xs) (take n ys)) (fronts_up n xs ys) up
+prefixes_up zero xs ys up = refl
+prefixes_up (suc n) [] [] up = refl
+prefixes_up (suc n) [] (y ∷ ys) up = refl
+prefixes_up (suc n) (x ∷ xs) [] up = up
+prefixes_up (suc n) (x ∷ xs) (y ∷ ys) up =
+    then_up (term_cmp x y) (slice_cmp term_cmp xs ys) (slice_cmp term_cmp (take n xs) (take n ys)) (prefixes_up n xs ys) up
 
 -- an atom that isn't greater has no greater beginning
 beginnings_up : (n : ℕ) (a b : Atom) → is_gt (atom_cmp a b) ≡ false → is_gt (atom_cmp (beginning n a) (beginning n b)) ≡ false
 beginnings_up n a b up =
     then_up (nat_cmp a.pred b.pred) (slice_cmp term_cmp a.args b.args) (slice_cmp term_cmp (take n a.args) (take n b.args))
-    (fronts_up n a.args b.args) up
+    (prefixes_up n a.args b.args) up
 
 -- a fact isn't greater than a later one
 facts_up : (facts : List Atom) → IsAtomSet facts → (i j : ℕ) (d : Atom) → i ≤ j → j < length facts
@@ -102,12 +102,12 @@ object_stays sigma (Var v) is = absurd is
 object_stays sigma Any is = absurd is
 
 -- the first terms are objects, and stay
-fronts_stay : (sigma : List Term) (n : ℕ) (ts : List Term) → All IsObject (take n ts) → take n (map (substitute sigma) ts) ≡ take n ts
-fronts_stay sigma zero ts all = refl
-fronts_stay sigma (suc n) [] all = refl
-fronts_stay sigma (suc n) (t ∷ ts) all =
+prefixes_stay : (sigma : List Term) (n : ℕ) (ts : List Term) → All IsObject (take n ts) → take n (map (substitute sigma) ts) ≡ take n ts
+prefixes_stay sigma zero ts all = refl
+prefixes_stay sigma (suc n) [] all = refl
+prefixes_stay sigma (suc n) (t ∷ ts) all =
     let head = object_stays sigma t (all 0 t (omega arith)) in
-    let tail = fronts_stay sigma n ts (λ k d within. all (suc k) d (omega (arith, within))) in
+    let tail = prefixes_stay sigma n ts (λ k d within. all (suc k) d (omega (arith, within))) in
     λ i. head i ∷ tail i
 
 pub ground_stays : (sigma ts : List Term) → All IsObject ts → map (substitute sigma) ts ≡ ts
@@ -123,8 +123,8 @@ alike : (n : ℕ) (atom fact : Atom) → All IsObject (take n atom.args) → IsG
 alike n atom fact objects is_ground sigma tau same =
     let pred_is : fact.pred ≡ atom.pred = sym (ap (λ (a : Atom). a.pred) same) in
     let args_are : map (substitute sigma) atom.args ≡ fact.args = ap (λ (a : Atom). a.args) same ∙ ground_stays tau fact.args is_ground in
-    let front_is : take n fact.args ≡ take n atom.args = sym (ap (take n) args_are) ∙ fronts_stay sigma n atom.args objects in
-    λ i. record { pred = pred_is i; args = front_is i }
+    let prefix_is : take n fact.args ≡ take n atom.args = sym (ap (take n) args_are) ∙ prefixes_stay sigma n atom.args objects in
+    λ i. record { pred = pred_is i; args = prefix_is i }
 
 module _ (facts : List Atom) (n : ℕ) (atom : Atom) (objects : All IsObject (take n atom.args)) where
   level : (fact : Atom) → IsGround fact → (sigma tau : List Term) → substitute_atom sigma atom ≡ substitute_atom tau fact

@@ -4,20 +4,20 @@ use Rattle.std.proofs.lemmas.List.{get_or_append_left, get_or_at}
 use Rattle.px_proof_state.specs.declared.open.OpenGoal.{OpenGoal}
 use Rattle.px_proof_state.specs.Arena.{Hanging, nothing_hanging, hang, hanging, table_after, goals_at, path_at}
 
-table-append : (front rest : List OpenGoal) (table : List Hanging)
-    → table_after table (front ++ rest) ≡ table_after (table_after table front) rest
+table-append : (prefix rest : List OpenGoal) (table : List Hanging)
+    → table_after table (prefix ++ rest) ≡ table_after (table_after table prefix) rest
 table-append [] rest table = refl
-table-append (g ∷ front) rest table = table-append front rest (table ++ hang table g ∷ [])
+table-append (g ∷ prefix) rest table = table-append prefix rest (table ++ hang table g ∷ [])
 
 length-table : (arena : List OpenGoal) (table : List Hanging) → length (table_after table arena) ≡ length table + length arena
 length-table [] table = omega arith
 length-table (g ∷ arena) table = omega (arith, length-table arena (table ++ hang table g ∷ []), length-append table (hang table g ∷ []))
 
-table-front : (arena : List OpenGoal) (table : List Hanging) (place : ℕ) → place < length table
+table-prefix : (arena : List OpenGoal) (table : List Hanging) (place : ℕ) → place < length table
     → get_or (table_after table arena) place nothing_hanging ≡ get_or table place nothing_hanging
-table-front [] table place within = refl
-table-front (g ∷ arena) table place within =
-    table-front arena (table ++ hang table g ∷ []) place (omega (arith, within, length-append table (hang table g ∷ [])))
+table-prefix [] table place within = refl
+table-prefix (g ∷ arena) table place within =
+    table-prefix arena (table ++ hang table g ∷ []) place (omega (arith, within, length-append table (hang table g ∷ [])))
     ∙ get_or_append_left table (hang table g ∷ []) nothing_hanging place within
 
 length-hanging : (arena : List OpenGoal) → length (hanging arena) ≡ suc (length arena)
@@ -28,7 +28,7 @@ hangs-longer : (arena more : List OpenGoal) (place : ℕ) → place ≤ length a
     → get_or (hanging (arena ++ more)) place nothing_hanging ≡ get_or (hanging arena) place nothing_hanging
 hangs-longer arena more place within =
     ap (λ t. get_or t place nothing_hanging) (table-append arena more (nothing_hanging ∷ []))
-    ∙ table-front more (hanging arena) place (omega (arith, within, length-hanging arena))
+    ∙ table-prefix more (hanging arena) place (omega (arith, within, length-hanging arena))
 
 pub goals_at-longer : (arena more : List OpenGoal) (place : ℕ) → place ≤ length arena
     → goals_at (arena ++ more) place ≡ goals_at arena place
@@ -38,34 +38,34 @@ pub path_at-longer : (arena more : List OpenGoal) (place : ℕ) → place ≤ le
 path_at-longer arena more place within = ap (λ (h : Hanging). h.path) (hangs-longer arena more place within)
 
 -- at the place of a goal hangs what the goal and the older places that it names give
-hangs-goal : (front : List OpenGoal) (g : OpenGoal) (more : List OpenGoal)
-    → get_or (hanging (front ++ g ∷ more)) (suc (length front)) nothing_hanging ≡ hang (hanging front) g
-hangs-goal front g more =
-    ap (λ t. get_or t (suc (length front)) nothing_hanging) (table-append front (g ∷ more) (nothing_hanging ∷ []))
-    ∙ table-front more (hanging front ++ hang (hanging front) g ∷ []) (suc (length front))
-    (omega (arith, length-hanging front, length-append (hanging front) (hang (hanging front) g ∷ [])))
-    ∙ get_or_at (hanging front) (hang (hanging front) g) [] nothing_hanging (suc (length front)) (length-hanging front)
+hangs-goal : (prefix : List OpenGoal) (g : OpenGoal) (more : List OpenGoal)
+    → get_or (hanging (prefix ++ g ∷ more)) (suc (length prefix)) nothing_hanging ≡ hang (hanging prefix) g
+hangs-goal prefix g more =
+    ap (λ t. get_or t (suc (length prefix)) nothing_hanging) (table-append prefix (g ∷ more) (nothing_hanging ∷ []))
+    ∙ table-prefix more (hanging prefix ++ hang (hanging prefix) g ∷ []) (suc (length prefix))
+    (omega (arith, length-hanging prefix, length-append (hanging prefix) (hang (hanging prefix) g ∷ [])))
+    ∙ get_or_at (hanging prefix) (hang (hanging prefix) g) [] nothing_hanging (suc (length prefix)) (length-hanging prefix)
 
-pub goals_at-goal : (front : List OpenGoal) (g : OpenGoal) (more : List OpenGoal) → g.next ≤ length front → g.above ≤ length front
-    → goals_at (front ++ g ∷ more) (suc (length front))
-    ≡ record { lit = g.lit; path = path_at (front ++ g ∷ more) g.above; budget = g.budget } ∷ goals_at (front ++ g ∷ more) g.next
-goals_at-goal front g more next_older above_older =
-    ap (λ (h : Hanging). h.goals) (hangs-goal front g more)
-    ∙ ap (λ path. record { lit = g.lit; path = path; budget = g.budget } ∷ goals_at front g.next)
-    (sym (path_at-longer front (g ∷ more) g.above above_older))
-    ∙ ap (λ goals. record { lit = g.lit; path = path_at (front ++ g ∷ more) g.above; budget = g.budget } ∷ goals)
-    (sym (goals_at-longer front (g ∷ more) g.next next_older))
+pub goals_at-goal : (prefix : List OpenGoal) (g : OpenGoal) (more : List OpenGoal) → g.next ≤ length prefix → g.above ≤ length prefix
+    → goals_at (prefix ++ g ∷ more) (suc (length prefix))
+    ≡ record { lit = g.lit; path = path_at (prefix ++ g ∷ more) g.above; budget = g.budget } ∷ goals_at (prefix ++ g ∷ more) g.next
+goals_at-goal prefix g more next_older above_older =
+    ap (λ (h : Hanging). h.goals) (hangs-goal prefix g more)
+    ∙ ap (λ path. record { lit = g.lit; path = path; budget = g.budget } ∷ goals_at prefix g.next)
+    (sym (path_at-longer prefix (g ∷ more) g.above above_older))
+    ∙ ap (λ goals. record { lit = g.lit; path = path_at (prefix ++ g ∷ more) g.above; budget = g.budget } ∷ goals)
+    (sym (goals_at-longer prefix (g ∷ more) g.next next_older))
 
 -- the literals from a goal up are its own and those from the place above
-pub path_at-goal : (front : List OpenGoal) (g : OpenGoal) (more : List OpenGoal) → g.above ≤ length front
-    → path_at (front ++ g ∷ more) (suc (length front)) ≡ g.lit ∷ path_at (front ++ g ∷ more) g.above
-path_at-goal front g more above_older =
-    ap (λ (h : Hanging). h.path) (hangs-goal front g more)
-    ∙ ap (λ path. g.lit ∷ path) (sym (path_at-longer front (g ∷ more) g.above above_older))
+pub path_at-goal : (prefix : List OpenGoal) (g : OpenGoal) (more : List OpenGoal) → g.above ≤ length prefix
+    → path_at (prefix ++ g ∷ more) (suc (length prefix)) ≡ g.lit ∷ path_at (prefix ++ g ∷ more) g.above
+path_at-goal prefix g more above_older =
+    ap (λ (h : Hanging). h.path) (hangs-goal prefix g more)
+    ∙ ap (λ path. g.lit ∷ path) (sym (path_at-longer prefix (g ∷ more) g.above above_older))
 
 -- a list is what stands before an index, the element there, and what comes after it
 abbrev SplitsAt : List OpenGoal → ℕ → OpenGoal → Type 0
-SplitsAt arena i g = (front : List OpenGoal) × (more : List OpenGoal) × (arena ≡ front ++ g ∷ more) × (length front ≡ i)
+SplitsAt arena i g = (prefix : List OpenGoal) × (more : List OpenGoal) × (arena ≡ prefix ++ g ∷ more) × (length prefix ≡ i)
 
 splits : (arena : List OpenGoal) (i : ℕ) (g : OpenGoal) → slice_get arena i ≡ Some g → SplitsAt arena i g
 splits [] i g at = absurd (cc)
@@ -78,7 +78,7 @@ pub path_at-index : (arena : List OpenGoal) (i : ℕ) (g : OpenGoal) → slice_g
 path_at-index arena i g is older = go (splits arena i g is)
   where
     go : SplitsAt arena i g → path_at arena (suc i) ≡ g.lit ∷ path_at arena g.above
-    go (front, more, whole, long) = rw (whole, ← long) (path_at-goal front g more (rw long older))
+    go (prefix, more, whole, long) = rw (whole, ← long) (path_at-goal prefix g more (rw long older))
 
 pub goals_at-index : (arena : List OpenGoal) (i : ℕ) (g : OpenGoal) → slice_get arena i ≡ Some g → g.next ≤ i → g.above ≤ i
     → goals_at arena (suc i) ≡ record { lit = g.lit; path = path_at arena g.above; budget = g.budget } ∷ goals_at arena g.next
@@ -86,11 +86,11 @@ goals_at-index arena i g is next_older above_older = go (splits arena i g is)
   where
     go : SplitsAt arena i g → goals_at arena (suc i)
         ≡ record { lit = g.lit; path = path_at arena g.above; budget = g.budget } ∷ goals_at arena g.next
-    go (front, more, whole, long) = rw (whole, ← long) (goals_at-goal front g more (rw long next_older) (rw long above_older))
+    go (prefix, more, whole, long) = rw (whole, ← long) (goals_at-goal prefix g more (rw long next_older) (rw long above_older))
 
 -- nothing hangs at place 0
 pub path_at-nothing : (arena : List OpenGoal) → path_at arena 0 ≡ []
-path_at-nothing arena = ap (λ (h : Hanging). h.path) (table-front arena (nothing_hanging ∷ []) 0 (omega arith))
+path_at-nothing arena = ap (λ (h : Hanging). h.path) (table-prefix arena (nothing_hanging ∷ []) 0 (omega arith))
 
 pub goals_at-nothing : (arena : List OpenGoal) → goals_at arena 0 ≡ []
-goals_at-nothing arena = ap (λ (h : Hanging). h.goals) (table-front arena (nothing_hanging ∷ []) 0 (omega arith))
+goals_at-nothing arena = ap (λ (h : Hanging). h.goals) (table-prefix arena (nothing_hanging ∷ []) 0 (omega arith))

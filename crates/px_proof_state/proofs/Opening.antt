@@ -97,11 +97,11 @@ older-push arena g older above next i other at = elim (slice_get-push arena g ot
 
 -- the parts from the k-th literal on are open, before the goals at the next place
 pub record AreOpened (start : List OpenGoal) (lits : List Lit) (theta : List Term) (place at next budget : ℕ) (arena : List OpenGoal)
-    (front k : ℕ) : Type 0 where
+    (prefix k : ℕ) : Type 0 where
   pub grown : (more : List OpenGoal) × (arena ≡ start ++ more)
-  pub older : front ≤ length arena
+  pub older : prefix ≤ length arena
   pub arena_older : AreOlder start → AreOlder arena
-  pub opened : goals_at arena front ≡ goals_under (path_at start at) budget (parts_from lits theta place k) ++ goals_at start next
+  pub opened : goals_at arena prefix ≡ goals_under (path_at start at) budget (parts_from lits theta place k) ++ goals_at start next
 
 module _ (start : List OpenGoal) (lits : List Lit) (theta : List Term) (place at next budget : ℕ) where
   pub opened-start : (k : ℕ) → k ≡ length lits → next ≤ length start → AreOpened start lits theta place at next budget start next k
@@ -112,12 +112,12 @@ module _ (start : List OpenGoal) (lits : List Lit) (theta : List Term) (place at
     opened = let e : parts_from lits theta place k ≡ [] = parts-none lits theta place k (omega (arith, is)) in rw e refl;
   }
 
-  module _ (arena : List OpenGoal) (front j k : ℕ) (are : AreOpened start lits theta place at next budget arena front j) (after : j ≡ suc k)
+  module _ (arena : List OpenGoal) (prefix j k : ℕ) (are : AreOpened start lits theta place at next budget arena prefix j) (after : j ≡ suc k)
       (within : k < length lits) (d : Lit) where
-    pub opened-pass : (k_now : ℕ) (arena_now : List OpenGoal) (front_now : ℕ) → k_now ≡ k → k ≡ place → arena_now ≡ arena
-        → front_now ≡ front → AreOpened start lits theta place at next budget arena_now front_now k_now
-    opened-pass k_now arena_now front_now k_is is arena_is front_is =
-        rw (k_is, arena_is, front_is)
+    pub opened-pass : (k_now : ℕ) (arena_now : List OpenGoal) (prefix_now : ℕ) → k_now ≡ k → k ≡ place → arena_now ≡ arena
+        → prefix_now ≡ prefix → AreOpened start lits theta place at next budget arena_now prefix_now k_now
+    opened-pass k_now arena_now prefix_now k_is is arena_is prefix_is =
+        rw (k_is, arena_is, prefix_is)
         (record {
           grown = are.grown;
           older = are.older;
@@ -125,12 +125,12 @@ module _ (start : List OpenGoal) (lits : List Lit) (theta : List Term) (place at
           opened = rw (parts-pass lits theta place k d within is, ← after) are.opened;
         })
 
-    pub opened-take : (k_now : ℕ) (arena_now : List OpenGoal) (front_now : ℕ) (lit : Lit) → k_now ≡ k → ¬ (k ≡ place) → at ≤ length start
+    pub opened-take : (k_now : ℕ) (arena_now : List OpenGoal) (prefix_now : ℕ) (lit : Lit) → k_now ≡ k → ¬ (k ≡ place) → at ≤ length start
         → lit ≡ complement_of (substitute_literal theta (get_or lits k d))
-        → arena_now ≡ arena ++ record { lit = lit; above = at; next = front; budget = budget } ∷ [] → front_now ≡ suc (length arena)
-        → AreOpened start lits theta place at next budget arena_now front_now k_now
-    opened-take k_now arena_now front_now lit k_is other at_older lit_is arena_is front_is =
-        rw (k_is, arena_is, front_is)
+        → arena_now ≡ arena ++ record { lit = lit; above = at; next = prefix; budget = budget } ∷ [] → prefix_now ≡ suc (length arena)
+        → AreOpened start lits theta place at next budget arena_now prefix_now k_now
+    opened-take k_now arena_now prefix_now lit k_is other at_older lit_is arena_is prefix_is =
+        rw (k_is, arena_is, prefix_is)
         (record {
           grown = (are.grown.0 ++ g ∷ [], ap (λ xs. xs ++ g ∷ []) are.grown.1 ∙ append_assoc start are.grown.0 (g ∷ []));
           older = omega (arith, length-append arena (g ∷ []));
@@ -142,7 +142,7 @@ module _ (start : List OpenGoal) (lits : List Lit) (theta : List Term) (place at
         })
       where
         g : OpenGoal
-        g = record { lit = lit; above = at; next = front; budget = budget }
+        g = record { lit = lit; above = at; next = prefix; budget = budget }
 
         long : length start ≤ length arena
         long = rw are.grown.1 (omega (arith, length-append start are.grown.0))
@@ -151,10 +151,10 @@ module _ (start : List OpenGoal) (lits : List Lit) (theta : List Term) (place at
         same_parts = rw (after, lit_is) (sym (parts-take lits theta place k d within other))
 
 -- the atoms of a formula from the k-th on are open
-pub record AreAsked (formula : List Atom) (height : ℕ) (arena : List OpenGoal) (front k : ℕ) : Type 0 where
-  pub older : front ≤ length arena
+pub record AreAsked (formula : List Atom) (height : ℕ) (arena : List OpenGoal) (prefix k : ℕ) : Type 0 where
+  pub older : prefix ≤ length arena
   pub arena_older : AreOlder arena
-  pub opened : goals_at arena front ≡ goals_under [] height (map positive_of (drop k formula))
+  pub opened : goals_at arena prefix ≡ goals_under [] height (map positive_of (drop k formula))
 
 module _ (formula : List Atom) (height : ℕ) where
   pub asked-start : (arena : List OpenGoal) (k : ℕ) → arena ≡ [] → k ≡ length formula → AreAsked formula height arena 0 k
@@ -164,14 +164,14 @@ module _ (formula : List Atom) (height : ℕ) where
     opened = let e : drop k formula ≡ [] = drop_all k formula (omega (arith, is)) in rw e refl;
   })
 
-  pub asked-next : (arena : List OpenGoal) (front j k : ℕ) → AreAsked formula height arena front j → j ≡ suc k → k < length formula
+  pub asked-next : (arena : List OpenGoal) (prefix j k : ℕ) → AreAsked formula height arena prefix j → j ≡ suc k → k < length formula
       → (d : Atom)
-      → (k_now : ℕ) (arena_now : List OpenGoal) (front_now : ℕ) → k_now ≡ k
-      → arena_now ≡ arena ++ record { lit = positive_of (get_or formula k d); above = 0; next = front; budget = height } ∷ []
-      → front_now ≡ suc (length arena)
-      → AreAsked formula height arena_now front_now k_now
-  asked-next arena front j k are after within d k_now arena_now front_now k_is arena_is front_is =
-      rw (k_is, arena_is, front_is)
+      → (k_now : ℕ) (arena_now : List OpenGoal) (prefix_now : ℕ) → k_now ≡ k
+      → arena_now ≡ arena ++ record { lit = positive_of (get_or formula k d); above = 0; next = prefix; budget = height } ∷ []
+      → prefix_now ≡ suc (length arena)
+      → AreAsked formula height arena_now prefix_now k_now
+  asked-next arena prefix j k are after within d k_now arena_now prefix_now k_is arena_is prefix_is =
+      rw (k_is, arena_is, prefix_is)
       (record {
         older = omega (arith, length-append arena (g ∷ []));
         arena_older = older-push arena g are.arena_older (omega arith) are.older;
@@ -184,4 +184,4 @@ module _ (formula : List Atom) (height : ℕ) where
       })
     where
       g : OpenGoal
-      g = record { lit = positive_of (get_or formula k d); above = 0; next = front; budget = height }
+      g = record { lit = positive_of (get_or formula k d); above = 0; next = prefix; budget = height }

@@ -12,9 +12,9 @@ use Rattle.px_proof_state.specs.States.{ProofStateValue}
 
 -- what an attempt at the clause needs: room for its variables, and literals over these
 pub record IsFit (variables : ℕ) (clause : Clause) : Type 0 where
-  pub few : clause.vars ≤ most_formula_variables
-  pub small : variables + clause.vars ≤ MOST_VARIABLES
-  pub plain : ArePlainBelow clause.vars clause.lits
+  pub few : clause.variable_count ≤ most_formula_variables
+  pub small : variables + clause.variable_count ≤ MOST_VARIABLES
+  pub plain : ArePlainBelow clause.variable_count clause.lits
 
 -- the parts of a step with these literals have a height
 abbrev pub HasBudget : OpenGoal → List Lit → Type 0

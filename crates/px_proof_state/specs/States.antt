@@ -22,8 +22,8 @@ pub record ProofStateValue : Type 0 where
   pub choices : List Choice
 
 -- nothing is closed; a place for each atom of the formula is open, with no literal above it, and no variable is bound
-pub record IsOpening (formula : List Atom) (vars height : ℕ) (v : ProofStateValue) : Type 0 where
-  pub variables : v.changes ≡ replicate vars Fresh
+pub record IsOpening (formula : List Atom) (variable_count height : ℕ) (v : ProofStateValue) : Type 0 where
+  pub variables : v.changes ≡ replicate variable_count Fresh
   pub solvable : HasSolutions v.changes
   pub opened : goals_at v.goals v.first ≡ goals_under [] height (map positive_of formula)
   pub arena : AreOlder v.goals
@@ -48,7 +48,7 @@ retracted v choice choices = record {
 }
 
 -- the state is that after the ticks: what is open, and which substitutions fit
-pub record Stands (loose : Bool) (s : Setting) (formula : List Atom) (vars : ℕ) (ticks : List Tick) (v : ProofStateValue) : Type 0 where
-  pub pending : open_after loose s vars (goals_of s formula) ticks ≡ Some
+pub record Stands (loose : Bool) (s : Setting) (formula : List Atom) (variable_count : ℕ) (ticks : List Tick) (v : ProofStateValue) : Type 0 where
+  pub pending : open_after loose s variable_count (goals_of s formula) ticks ≡ Some
       (record { variables = variables_of v.changes; goals = goals_at v.goals v.first })
-  pub matched : (tau : List Term) → Fits tau v.changes ↔ Solves loose s tau vars (goals_of s formula) ticks
+  pub matched : (tau : List Term) → Fits tau v.changes ↔ Solves loose s tau variable_count (goals_of s formula) ticks

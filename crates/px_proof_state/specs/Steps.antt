@@ -30,12 +30,12 @@ no_literal = record { positive = false; atom = record { pred = 0; args = [] } }
 
 -- the clause's literal at the place, with new variables
 abbrev pub new_literal : ℕ → Clause → ℕ → Lit
-new_literal variables clause place = substitute_literal (variables_from variables clause.vars) (get_or clause.lits place no_literal)
+new_literal variables clause place = substitute_literal (variables_from variables clause.variable_count) (get_or clause.lits place no_literal)
 
 -- the first goal is closed by the clause; its parts come first, then the goals that followed
 pub record ClosesByStep (old new : ProofStateValue) (tick : Tick) (goal : OpenGoal) (clause : Clause) (place : ℕ) (found : Bool) : Type 0
   where
-    pub is_match : MatchesFresh old.changes new.changes clause.vars goal.lit (new_literal (variables_of old.changes) clause place) found
+    pub is_match : MatchesFresh old.changes new.changes clause.variable_count goal.lit (new_literal (variables_of old.changes) clause place) found
     pub chosen : found ≡ true → new.choices ≡ choice_by tick old ∷ old.choices
     pub grown : found ≡ true → (more : List OpenGoal) × (new.goals ≡ old.goals ++ more)
     pub older : found ≡ true → new.first ≤ length new.goals
@@ -43,5 +43,5 @@ pub record ClosesByStep (old new : ProofStateValue) (tick : Tick) (goal : OpenGo
     pub opened : found ≡ true
         → goals_at new.goals new.first ≡
         goals_under (path_at old.goals old.first) (goal.budget - 1)
-        (parts_of clause.lits (variables_from (variables_of old.changes) clause.vars) place) ++ goals_at old.goals goal.next
+        (parts_of clause.lits (variables_from (variables_of old.changes) clause.variable_count) place) ++ goals_at old.goals goal.next
     pub unchanged : found ≡ false → new ≡ old

@@ -29,23 +29,29 @@ fn start_place(number: usize, from: usize, place: usize) -> usize
 fn try_clause(
     state: &mut ProofState,
     number: u32,
-    vars: u32,
+    variable_count: u32,
     lits: &[Lit],
     goal: &OpenGoal,
     from: usize,
 ) -> Result<bool, NoMemory>
-    requires fit { IsFit (variables_of state.old.changes) (record { vars = vars; lits = lits.now }) }
+    requires fit { IsFit (variables_of state.old.changes) (record { variable_count = variable_count; lits = lits.now }) }
     requires short { length lits.now ≤ most_literals }
     requires goal_below { IsLitBelow (variables_of state.old.changes) goal.now.lit }
     requires next_older { goal.now.next ≤ length state.old.goals }
     requires first_older { state.old.first ≤ length state.old.goals }
-    ensures { IfOk result (λ found. TriesClause number (record { vars = vars; lits = lits.now }) goal.now from state.old state.new found) }
+    ensures { IfOk result (λ found. TriesClause number (record { variable_count = variable_count; lits = lits.now }) goal.now from state.old state.new found) }
 {
     if !has_room(goal, lits) {
         return Ok(false);
     }
     for place in from..lits.len() {
-        match state.close_by_step(Tick::Step(number, place as u32), goal, vars, lits, place) {
+        match state.close_by_step(
+            Tick::Step(number, place as u32),
+            goal,
+            variable_count,
+            lits,
+            place,
+        ) {
             Ok(true) => return Ok(true),
             Ok(false) => {}
             Err(NoMemory) => return Err(NoMemory),
@@ -78,7 +84,7 @@ pub fn try_axioms(
         match try_clause(
             state,
             clause,
-            axioms.vars(clause),
+            axioms.variable_count(clause),
             axioms.lits(clause),
             goal,
             start,

@@ -23,7 +23,7 @@ fn leading_objects(terms: &[Term]) -> usize
 }
 
 /// Returns the first `count` terms, or all of them if there are fewer.
-fn front(terms: &[Term], count: usize) -> &[Term]
+fn prefix(terms: &[Term], count: usize) -> &[Term]
     ensures { result.now ≡ take count terms.now }
 {
     &terms[..count.min(terms.len())]
@@ -34,7 +34,7 @@ fn compare_beginnings(count: usize, a: &Atom, b: &Atom) -> Ordering
     ensures { result ≡ atom_cmp (beginning count a.now) (beginning count b.now) }
 {
     match a.pred().cmp(&b.pred()) {
-        Ordering::Equal => front(a.args(), count).cmp(front(b.args(), count)),
+        Ordering::Equal => prefix(a.args(), count).cmp(prefix(b.args(), count)),
         other => other,
     }
 }

@@ -67,14 +67,14 @@ impl ProofState {
     pub fn new(
         alloc: Global,
         formula: &[Atom],
-        vars: u32,
+        variable_count: u32,
         height: u32,
     ) -> Result<ProofState, NoMemory>
-        requires { vars ≤ MOST_VARIABLES }
-        ensures { IfOk result (λ state. IsOpening formula.now vars height state) }
+        requires { variable_count ≤ MOST_VARIABLES }
+        ensures { IfOk result (λ state. IsOpening formula.now variable_count height state) }
     {
         let mut bind = Bind::new(alloc);
-        match bind.fresh(vars) {
+        match bind.fresh(variable_count) {
             Ok(_) => {}
             Err(BindErr::Full) => unreachable!(),
             Err(BindErr::NoMemory) => return Err(NoMemory),
@@ -162,28 +162,28 @@ impl ProofState {
         &mut self,
         tick: Tick,
         goal: &OpenGoal,
-        vars: u32,
+        variable_count: u32,
         lits: &[Lit],
         place: usize,
     ) -> Result<bool, NoMemory>
         requires place { place < length lits.now }
-        requires few { vars ≤ most_formula_variables }
-        requires small { variables_of self.old.changes + vars ≤ MOST_VARIABLES }
+        requires few { variable_count ≤ most_formula_variables }
+        requires small { variables_of self.old.changes + variable_count ≤ MOST_VARIABLES }
         requires goal_below { IsLitBelow (variables_of self.old.changes) goal.now.lit }
-        requires lits_below { ArePlainBelow vars lits.now }
+        requires lits_below { ArePlainBelow variable_count lits.now }
         requires next_older { goal.now.next ≤ length self.old.goals }
         requires first_older { self.old.first ≤ length self.old.goals }
-        ensures { IfOk result (λ found. ClosesByStep self.old self.new tick goal.now (record { vars = vars; lits = lits.now }) place
+        ensures { IfOk result (λ found. ClosesByStep self.old self.new tick goal.now (record { variable_count = variable_count; lits = lits.now }) place
             found) }
     {
         if are_literals_apart(&goal.lit, &lits[place]) {
             return Ok(false);
         }
         let mark = self.bind.mark();
-        let terms = variables_after(self.bind.variables(), vars);
-        let theta = &terms[..vars as usize];
+        let terms = variables_after(self.bind.variables(), variable_count);
+        let theta = &terms[..variable_count as usize];
         let lit = apply_literal(theta, &lits[place]);
-        match matches_fresh(&mut self.bind, vars, &goal.lit, &lit) {
+        match matches_fresh(&mut self.bind, variable_count, &goal.lit, &lit) {
             Ok(true) => {}
             Ok(false) => return Ok(false),
             Err(NoMemory) => return Err(NoMemory),
@@ -195,7 +195,7 @@ impl ProofState {
             first: self.first,
         };
         match push_parts(&mut self.goals, lits, theta, place, self.first, goal) {
-            Ok(front) => self.first = front,
+            Ok(prefix) => self.first = prefix,
             Err(NoMemory) => return Err(NoMemory),
         }
         match self.choices.push(choice) {

@@ -53,12 +53,12 @@ pub(crate) fn push_parts(
     requires next_older { goal.now.next ≤ length goals.old.items }
     requires at_older { at ≤ length goals.old.items }
     ensures grown { IfOk result (λ _. (more : List GoalValue) × (goals.new.items ≡ goals.old.items ++ more)) }
-    ensures older { IfOk result (λ front. front ≤ length goals.new.items) }
+    ensures older { IfOk result (λ prefix. prefix ≤ length goals.new.items) }
     ensures arena { IfOk result (λ _. AreOlder goals.old.items → AreOlder goals.new.items) }
-    ensures opened { IfOk result (λ front. goals_at goals.new.items front ≡ goals_under (path_at goals.old.items at) (goal.now.budget - 1)
+    ensures opened { IfOk result (λ prefix. goals_at goals.new.items prefix ≡ goals_under (path_at goals.old.items at) (goal.now.budget - 1)
         (parts_of lits.now theta.now place) ++ goals_at goals.old.items goal.now.next) }
 {
-    let mut front = goal.next;
+    let mut prefix = goal.next;
     for done in 0..lits.len() {
         let k = lits.len() - 1 - done;
         if k != place {
@@ -67,16 +67,16 @@ pub(crate) fn push_parts(
             let part = OpenGoal {
                 lit: opposite,
                 above: at,
-                next: front,
+                next: prefix,
                 budget: goal.budget.saturating_sub(1),
             };
             match push_goal(goals, part) {
-                Ok(newest) => front = newest,
+                Ok(newest) => prefix = newest,
                 Err(NoMemory) => return Err(NoMemory),
             }
         }
     }
-    Ok(front)
+    Ok(prefix)
 }
 
 /// Opens a place for each atom of the formula, from the last to the first, and returns the place of the first.
@@ -86,11 +86,11 @@ pub(crate) fn open_formula(
     height: u32,
 ) -> Result<usize, NoMemory>
     requires { goals.old.items ≡ [] }
-    ensures older { IfOk result (λ front. front ≤ length goals.new.items) }
+    ensures older { IfOk result (λ prefix. prefix ≤ length goals.new.items) }
     ensures arena { IfOk result (λ _. AreOlder goals.new.items) }
-    ensures opened { IfOk result (λ front. goals_at goals.new.items front ≡ goals_under [] height (map positive_of formula.now)) }
+    ensures opened { IfOk result (λ prefix. goals_at goals.new.items prefix ≡ goals_under [] height (map positive_of formula.now)) }
 {
-    let mut front = 0;
+    let mut prefix = 0;
     for done in 0..formula.len() {
         let lit = Lit {
             positive: true,
@@ -99,13 +99,13 @@ pub(crate) fn open_formula(
         let goal = OpenGoal {
             lit,
             above: 0,
-            next: front,
+            next: prefix,
             budget: height,
         };
         match push_goal(goals, goal) {
-            Ok(newest) => front = newest,
+            Ok(newest) => prefix = newest,
             Err(NoMemory) => return Err(NoMemory),
         }
     }
-    Ok(front)
+    Ok(prefix)
 }

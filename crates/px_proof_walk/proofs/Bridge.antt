@@ -26,7 +26,7 @@ use Rattle.px_proof_walk.proofs.Lifting.{variables_grow, length-objects, objects
 use Rattle.px_proof_walk.proofs.Lists.{solves-list, list-solved}
 use Rattle.px_proof_walk.proofs.Partial.{padded, padded-unfinished, opens-after, opens-count, opens-solve, open_after-split, open_after-joined, solves-joined, closed-proves-each}
 use Rattle.px_proof_walk.proofs.Pushing.{solves-prefix}
-use Rattle.px_proof_walk.proofs.Scoping.{solves-front, goals-over}
+use Rattle.px_proof_walk.proofs.Scoping.{solves-prefix, goals-over}
 use Rattle.px_proof_walk.proofs.Trees.{objects-below}
 
 -- a derivation without open places closes each place
@@ -79,70 +79,70 @@ never_open : (loose : Bool) (s : Setting) → ¬ (rules_for loose s).IsOpen
 never_open false s h = h
 never_open true s h = h
 
-module _ (loose : Bool) (s : Setting) (valid : IsSetting s) (formula : List Atom) (vars : ℕ)
-    (scoped : AllByRecursion (IsAtomIn s.objects vars) formula) where
+module _ (loose : Bool) (s : Setting) (valid : IsSetting s) (formula : List Atom) (variable_count : ℕ)
+    (scoped : AllByRecursion (IsAtomIn s.objects variable_count) formula) where
   -- a feasible list, with open places for what it leaves open, is a list of derivations
-  pub list-of : (ticks : List Tick) → IsFeasible loose s formula vars ticks
-      → (objects : List ℕ) × (ps : Derivations) × IsList (or_open (rules_for loose s)) s formula vars objects ps
-      × (ticks_of ps ≡ shape_of loose s formula vars ticks)
+  pub list-of : (ticks : List Tick) → IsFeasible loose s formula variable_count ticks
+      → (objects : List ℕ) × (ps : Derivations) × IsList (or_open (rules_for loose s)) s formula variable_count objects ps
+      × (ticks_of ps ≡ shape_of loose s formula variable_count ticks)
   list-of ticks (p, now, (objects, enough, below, solves)) =
       let k = length p.goals in
-      let front : List ℕ = take p.variables objects in
-      let front_long : length front ≡ p.variables = length-take-le p.variables objects enough in
-      let over = goals-over s vars formula scoped in
-      let grown : vars ≤ p.variables = variables_grow loose s ticks vars (goals_of s formula) p now in
-      let whole : objects ≡ front ++ drop p.variables objects = sym (take-append-drop p.variables objects) in
-      let long : p.variables ≤ length (object_terms front) = omega (arith, front_long, length-objects front) in
-      let split_solves : Solves loose s (object_terms front ++ object_terms (drop p.variables objects)) vars (goals_of s formula) ticks =
-      subst (λ (tau : List Term). Solves loose s tau vars (goals_of s formula) ticks)
-      (ap object_terms whole ∙ objects-append front (drop p.variables objects)) solves in
-      let front_solves : Solves loose s (object_terms front) vars (goals_of s formula) ticks =
-      solves-front loose s valid (object_terms front) (object_terms (drop p.variables objects)) ticks vars
+      let prefix : List ℕ = take p.variables objects in
+      let prefix_long : length prefix ≡ p.variables = length-take-le p.variables objects enough in
+      let over = goals-over s variable_count formula scoped in
+      let grown : variable_count ≤ p.variables = variables_grow loose s ticks variable_count (goals_of s formula) p now in
+      let whole : objects ≡ prefix ++ drop p.variables objects = sym (take-append-drop p.variables objects) in
+      let long : p.variables ≤ length (object_terms prefix) = omega (arith, prefix_long, length-objects prefix) in
+      let split_solves : Solves loose s (object_terms prefix ++ object_terms (drop p.variables objects)) variable_count (goals_of s formula) ticks =
+      subst (λ (tau : List Term). Solves loose s tau variable_count (goals_of s formula) ticks)
+      (ap object_terms whole ∙ objects-append prefix (drop p.variables objects)) solves in
+      let prefix_solves : Solves loose s (object_terms prefix) variable_count (goals_of s formula) ticks =
+      solves-prefix loose s valid (object_terms prefix) (object_terms (drop p.variables objects)) ticks variable_count
       (goals_of s formula) p over now long split_solves in
-      let ends : open_after loose s vars (goals_of s formula) (ticks ++ replicate k Open)
+      let ends : open_after loose s variable_count (goals_of s formula) (ticks ++ replicate k Open)
       ≡ Some (record { variables = p.variables; goals = [] }) =
-      open_after-joined loose s ticks (replicate k Open) vars (goals_of s formula) p (record { variables = p.variables; goals = [] }) now
+      open_after-joined loose s ticks (replicate k Open) variable_count (goals_of s formula) p (record { variables = p.variables; goals = [] }) now
       (opens-after loose s p.goals p.variables k refl) in
-      let solved : Solves loose s (object_terms front) vars (goals_of s formula) (ticks ++ replicate k Open) =
-      solves-joined loose s (object_terms front) ticks (replicate k Open) vars (goals_of s formula) p now front_solves
-      (opens-solve loose s (object_terms front) p.goals p.variables k refl) in
-      let again : front ≡ take vars front ++ drop vars front = sym (take-append-drop vars front) in
-      let first_long : length (take vars front) ≡ vars = length-take-le vars front (omega (arith, grown, front_long)) in
-      let sum : length (take vars front) + length (drop vars front) ≡ p.variables =
-      sym (length-append (take vars front) (drop vars front)) ∙ ap length (sym again) ∙ front_long in
-      let front_below : All (λ o. o < s.objects) front = All-take (λ o. o < s.objects) p.variables objects below in
-      let found = list-solved loose s valid formula vars scoped (ticks ++ replicate k Open) (take vars front) (drop vars front) first_long
-      (All-take (λ o. o < s.objects) vars front front_below) (All-drop (λ o. o < s.objects) vars front front_below)
+      let solved : Solves loose s (object_terms prefix) variable_count (goals_of s formula) (ticks ++ replicate k Open) =
+      solves-joined loose s (object_terms prefix) ticks (replicate k Open) variable_count (goals_of s formula) p now prefix_solves
+      (opens-solve loose s (object_terms prefix) p.goals p.variables k refl) in
+      let again : prefix ≡ take variable_count prefix ++ drop variable_count prefix = sym (take-append-drop variable_count prefix) in
+      let first_long : length (take variable_count prefix) ≡ variable_count = length-take-le variable_count prefix (omega (arith, grown, prefix_long)) in
+      let sum : length (take variable_count prefix) + length (drop variable_count prefix) ≡ p.variables =
+      sym (length-append (take variable_count prefix) (drop variable_count prefix)) ∙ ap length (sym again) ∙ prefix_long in
+      let prefix_below : All (λ o. o < s.objects) prefix = All-take (λ o. o < s.objects) p.variables objects below in
+      let found = list-solved loose s valid formula variable_count scoped (ticks ++ replicate k Open) (take variable_count prefix) (drop variable_count prefix) first_long
+      (All-take (λ o. o < s.objects) variable_count prefix prefix_below) (All-drop (λ o. o < s.objects) variable_count prefix prefix_below)
       (ends ∙ ap (λ n. Some (record { variables = n; goals = [] })) (sym sum))
-      (subst (λ (os : List ℕ). Solves loose s (object_terms os) vars (goals_of s formula) (ticks ++ replicate k Open)) again solved) in
-      (take vars front, found.0, found.1, found.2 ∙ ap (λ o. ticks ++ replicate (left_of o) Open) (sym now))
+      (subst (λ (os : List ℕ). Solves loose s (object_terms os) variable_count (goals_of s formula) (ticks ++ replicate k Open)) again solved) in
+      (take variable_count prefix, found.0, found.1, found.2 ∙ ap (λ o. ticks ++ replicate (left_of o) Open) (sym now))
 
   -- the shapes of unfinished lists are those of possible lists of ticks that are not finished
-  pub partial-from : (shape : List Tick) → IsPartialShape (rules_for loose s) s formula vars shape
-      → (ticks : List Tick) × (shape ≡ shape_of loose s formula vars ticks) × IsPossible loose s formula vars ticks
-      × (¬ IsFinished loose s formula vars ticks)
+  pub partial-from : (shape : List Tick) → IsPartialShape (rules_for loose s) s formula variable_count shape
+      → (ticks : List Tick) × (shape ≡ shape_of loose s formula variable_count ticks) × IsPossible loose s formula variable_count ticks
+      × (¬ IsFinished loose s formula variable_count ticks)
   partial-from shape (unfinished, (objects, ps, is, ticks_are)) =
       let pad = padded shape unfinished in
-      let solved = solves-list loose s valid formula vars scoped objects ps is in
-      let same : ticks_of ps ≡ pad.front ++ replicate pad.count Open = ticks_are ∙ pad.is in
-      let ends : open_after loose s vars (goals_of s formula) (pad.front ++ replicate pad.count Open)
+      let solved = solves-list loose s valid formula variable_count scoped objects ps is in
+      let same : ticks_of ps ≡ pad.prefix ++ replicate pad.count Open = ticks_are ∙ pad.is in
+      let ends : open_after loose s variable_count (goals_of s formula) (pad.prefix ++ replicate pad.count Open)
       ≡ Some (record { variables = length (objects ++ all_choices_of ps); goals = [] }) =
-      ap (λ ts. open_after loose s vars (goals_of s formula) ts) (sym same) ∙ solved.1 in
+      ap (λ ts. open_after loose s variable_count (goals_of s formula) ts) (sym same) ∙ solved.1 in
       let between =
-      open_after-split loose s pad.front (replicate pad.count Open) vars (goals_of s formula)
+      open_after-split loose s pad.prefix (replicate pad.count Open) variable_count (goals_of s formula)
       (record { variables = length (objects ++ all_choices_of ps); goals = [] }) ends in
       let count : length between.0.goals ≡ pad.count =
       opens-count loose s between.0.goals between.0.variables pad.count
       (record { variables = length (objects ++ all_choices_of ps); goals = [] }) between.2 refl in
-      let left : open_count loose s formula vars pad.front ≡ pad.count = ap left_of between.1 ∙ count in
+      let left : open_count loose s formula variable_count pad.prefix ≡ pad.count = ap left_of between.1 ∙ count in
       let few : between.0.variables ≤ length (objects ++ all_choices_of ps) =
       variables_grow loose s (replicate pad.count Open) between.0.variables between.0.goals
       (record { variables = length (objects ++ all_choices_of ps); goals = [] }) between.2 in
-      let all_solve : Solves loose s (object_terms (objects ++ all_choices_of ps)) vars (goals_of s formula)
-      (pad.front ++ replicate pad.count Open) =
-      subst (Solves loose s (object_terms (objects ++ all_choices_of ps)) vars (goals_of s formula)) same solved.0 in (
-        pad.front,
-        pad.is ∙ ap (λ k. pad.front ++ replicate k Open) (sym left),
+      let all_solve : Solves loose s (object_terms (objects ++ all_choices_of ps)) variable_count (goals_of s formula)
+      (pad.prefix ++ replicate pad.count Open) =
+      subst (Solves loose s (object_terms (objects ++ all_choices_of ps)) variable_count (goals_of s formula)) same solved.0 in (
+        pad.prefix,
+        pad.is ∙ ap (λ k. pad.prefix ++ replicate k Open) (sym left),
         (
           pad.closing,
           (
@@ -154,21 +154,21 @@ module _ (loose : Bool) (s : Setting) (valid : IsSetting s) (formula : List Atom
               All-append (λ o. o < s.objects) objects (all_choices_of ps) is.below
                   (choices-below-each (or_open (rules_for loose s)) s.axioms s.objects (choices_in loose s) []
                   (literals_of formula objects) ps is.proved),
-              solves-prefix loose s (object_terms (objects ++ all_choices_of ps)) pad.front (replicate pad.count Open) vars
+              solves-prefix loose s (object_terms (objects ++ all_choices_of ps)) pad.prefix (replicate pad.count Open) variable_count
                   (goals_of s formula) all_solve,
             ),
           ),
         ),
-        λ finished. let zero_left : open_count loose s formula vars pad.front ≡ 0 =
+        λ finished. let zero_left : open_count loose s formula variable_count pad.prefix ≡ 0 =
             finished in omega (arith, zero_left, left, pad.some_open),
       )
 
-  pub partial-to : (shape ticks : List Tick) → shape ≡ shape_of loose s formula vars ticks → IsPossible loose s formula vars ticks
-      → ¬ IsFinished loose s formula vars ticks → IsPartialShape (rules_for loose s) s formula vars shape
+  pub partial-to : (shape ticks : List Tick) → shape ≡ shape_of loose s formula variable_count ticks → IsPossible loose s formula variable_count ticks
+      → ¬ IsFinished loose s formula variable_count ticks → IsPartialShape (rules_for loose s) s formula variable_count shape
   partial-to shape ticks shape_is possible unfinished =
       let made = list-of ticks possible.1 in (
-        rw shape_is (padded-unfinished ticks (open_count loose s formula vars ticks)
-            (above (open_count loose s formula vars ticks) unfinished) possible.0),
+        rw shape_is (padded-unfinished ticks (open_count loose s formula variable_count ticks)
+            (above (open_count loose s formula variable_count ticks) unfinished) possible.0),
         (made.0, made.1, made.2, made.3 ∙ sym shape_is),
       )
     where
@@ -176,14 +176,14 @@ module _ (loose : Bool) (s : Setting) (valid : IsSetting s) (formula : List Atom
       above zero other = absurd (other refl)
       above (suc k) other = omega arith
 
-  pub partial-possible : (shape : List Tick) → IsPartialShape (rules_for loose s) s formula vars shape ↔
-      ((ticks : List Tick) × (shape ≡ shape_of loose s formula vars ticks) × IsPossible loose s formula vars ticks
-      × (¬ IsFinished loose s formula vars ticks))
+  pub partial-possible : (shape : List Tick) → IsPartialShape (rules_for loose s) s formula variable_count shape ↔
+      ((ticks : List Tick) × (shape ≡ shape_of loose s formula variable_count ticks) × IsPossible loose s formula variable_count ticks
+      × (¬ IsFinished loose s formula variable_count ticks))
   partial-possible shape = (partial-from shape, λ h. partial-to shape h.0 h.1 h.2 h.3)
 
   -- where no place is open, the proofs are finished ones
   pub closed-list : (objects : List ℕ) (ds : Derivations) → AllByRecursion IsClosing (ticks_of ds)
-      → IsList (or_open (rules_for loose s)) s formula vars objects ds → IsList (rules_for loose s) s formula vars objects ds
+      → IsList (or_open (rules_for loose s)) s formula variable_count objects ds → IsList (rules_for loose s) s formula variable_count objects ds
   closed-list objects ds closing is = record {
     count = is.count;
     below = is.below;
@@ -191,17 +191,17 @@ module _ (loose : Bool) (s : Setting) (valid : IsSetting s) (formula : List Atom
     low = is.low;
   }
 
-  pub choices-of-list : (objects : List ℕ) (ds : Derivations) → IsList (rules_for loose s) s formula vars objects ds
+  pub choices-of-list : (objects : List ℕ) (ds : Derivations) → IsList (rules_for loose s) s formula variable_count objects ds
       → All (λ o. o < s.objects) (all_choices_of ds)
   choices-of-list objects ds is =
       choices-below-each (rules_for loose s) s.axioms s.objects (choices_in loose s) [] (literals_of formula objects) ds is.proved
 
   -- a possible list that is finished is a list of finished proofs
-  pub possible-finished : (ticks : List Tick) → IsPossible loose s formula vars ticks → IsFinished loose s formula vars ticks
-      → (objects : List ℕ) × (ps : Derivations) × IsList (rules_for loose s) s formula vars objects ps × (ticks_of ps ≡ ticks)
+  pub possible-finished : (ticks : List Tick) → IsPossible loose s formula variable_count ticks → IsFinished loose s formula variable_count ticks
+      → (objects : List ℕ) × (ps : Derivations) × IsList (rules_for loose s) s formula variable_count objects ps × (ticks_of ps ≡ ticks)
   possible-finished ticks possible finished =
       let made = list-of ticks possible.1 in
-      let left : open_count loose s formula vars ticks ≡ 0 = finished in
+      let left : open_count loose s formula variable_count ticks ≡ 0 = finished in
       let same : ticks_of made.1 ≡ ticks = made.3 ∙ ap (λ k. ticks ++ replicate k Open) left ∙ append-nil ticks in (
         made.0,
         made.1,
@@ -209,8 +209,8 @@ module _ (loose : Bool) (s : Setting) (valid : IsSetting s) (formula : List Atom
         same,
       )
 
-  pub finished-opened : (objects : List ℕ) (ps : Derivations) → IsList (rules_for loose s) s formula vars objects ps
-      → IsList (or_open (rules_for loose s)) s formula vars objects ps
+  pub finished-opened : (objects : List ℕ) (ps : Derivations) → IsList (rules_for loose s) s formula variable_count objects ps
+      → IsList (or_open (rules_for loose s)) s formula variable_count objects ps
   finished-opened objects ps is = record {
     count = is.count;
     below = is.below;
@@ -221,17 +221,17 @@ module _ (loose : Bool) (s : Setting) (valid : IsSetting s) (formula : List Atom
     low = is.low;
   }
 
-  pub finished-ends : (objects : List ℕ) (ps : Derivations) → IsList (rules_for loose s) s formula vars objects ps
-      → open_after loose s vars (goals_of s formula) (ticks_of ps)
+  pub finished-ends : (objects : List ℕ) (ps : Derivations) → IsList (rules_for loose s) s formula variable_count objects ps
+      → open_after loose s variable_count (goals_of s formula) (ticks_of ps)
       ≡ Some (record { variables = length (objects ++ all_choices_of ps); goals = [] })
-  finished-ends objects ps is = (solves-list loose s valid formula vars scoped objects ps (finished-opened objects ps is)).1
+  finished-ends objects ps is = (solves-list loose s valid formula variable_count scoped objects ps (finished-opened objects ps is)).1
 
   -- a finished list of derivations is a possible list of ticks, and finished
-  pub finished-possible : (objects : List ℕ) (ps : Derivations) → IsList (rules_for loose s) s formula vars objects ps
-      → IsPossible loose s formula vars (ticks_of ps) × IsFinished loose s formula vars (ticks_of ps)
-      × Solves loose s (object_terms (objects ++ all_choices_of ps)) vars (goals_of s formula) (ticks_of ps)
+  pub finished-possible : (objects : List ℕ) (ps : Derivations) → IsList (rules_for loose s) s formula variable_count objects ps
+      → IsPossible loose s formula variable_count (ticks_of ps) × IsFinished loose s formula variable_count (ticks_of ps)
+      × Solves loose s (object_terms (objects ++ all_choices_of ps)) variable_count (goals_of s formula) (ticks_of ps)
   finished-possible objects ps is =
-      let solved = solves-list loose s valid formula vars scoped objects ps (finished-opened objects ps is) in (
+      let solved = solves-list loose s valid formula variable_count scoped objects ps (finished-opened objects ps is) in (
         (
           closings_of-each (rules_for loose s) s.axioms (never_open loose s) [] (literals_of formula objects) ps is.proved,
           (

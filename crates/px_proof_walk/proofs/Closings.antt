@@ -14,7 +14,7 @@ use Rattle.px_base.specs.Answers.{some_same}
 use Rattle.px_proof.specs.Proves.{IsObjectOrParameter, instance_of, parts_of}
 use Rattle.px_question.specs.Settings.{Setting}
 use Rattle.px_terms.specs.Substitution.{variables_from}
-use Rattle.px_proof_walk.specs.Pending.{Goal, Closing, Pending, Solves, open_after, closing_at, fresh_of, vars_of, goals_below, by_fact, by_ancestor, by_literal, by_step, has_room}
+use Rattle.px_proof_walk.specs.Pending.{Goal, Closing, Pending, Solves, open_after, closing_at, fresh_of, variable_count_of, goals_below, by_fact, by_ancestor, by_literal, by_step, has_room}
 use Rattle.px_proof_walk.specs.Scope.{IsClosingOf, HasGoalTerms, IsLitIn, IsLitOf, IsSetting}
 use Rattle.px_proof_walk.proofs.Every.{all-at, all-both, all-mapped, all-removed, all-weaker}
 use Rattle.px_proof_walk.proofs.Lifting.{open_after-step, variables_grow}
@@ -89,40 +89,40 @@ module _ (loose : Bool) (s : Setting) (valid : IsSetting s) (Over : ℕ → Term
         }
 
     step-over : (number place : ℕ) (clause : Clause) (at : Option Lit) (closing : Closing) → slice_get s.axioms number ≡ Some clause
-        → slice_get (instance_of clause.lits (variables_from n clause.vars)) place ≡ at
-        → by_literal goal (parts_of clause.lits (variables_from n clause.vars) place) at ≡ Some closing
-        → IsClosingOf (Over (n + clause.vars)) closing
+        → slice_get (instance_of clause.lits (variables_from n clause.variable_count)) place ≡ at
+        → by_literal goal (parts_of clause.lits (variables_from n clause.variable_count) place) at ≡ Some closing
+        → IsClosingOf (Over (n + clause.variable_count)) closing
     step-over number place clause None closing is e made = absurd (cc)
     step-over number place clause (Some lit) closing is e made =
-        let all : AllByRecursion (IsLitOf (Over (n + clause.vars))) (instance_of clause.lits (variables_from n clause.vars)) =
-        all-mapped (IsLitIn s.objects clause.vars) (IsLitOf (Over (n + clause.vars)))
-        (substitute_literal (variables_from n clause.vars)) clause.lits (new-lit_of s.objects Over terms n clause.vars)
+        let all : AllByRecursion (IsLitOf (Over (n + clause.variable_count))) (instance_of clause.lits (variables_from n clause.variable_count)) =
+        all-mapped (IsLitIn s.objects clause.variable_count) (IsLitOf (Over (n + clause.variable_count)))
+        (substitute_literal (variables_from n clause.variable_count)) clause.lits (new-lit_of s.objects Over terms n clause.variable_count)
         (valid.clauses number clause is) in
-        let same : record { equal_to = lit; parts = goals_below goal (parts_of clause.lits (variables_from n clause.vars) place) }
+        let same : record { equal_to = lit; parts = goals_below goal (parts_of clause.lits (variables_from n clause.variable_count) place) }
         ≡ closing = some_same made in
         rw (← same)
         (record {
-          equal_to = all-at (IsLitOf (Over (n + clause.vars))) (instance_of clause.lits (variables_from n clause.vars)) place lit all e;
+          equal_to = all-at (IsLitOf (Over (n + clause.variable_count))) (instance_of clause.lits (variables_from n clause.variable_count)) place lit all e;
           parts =
-              all-mapped (IsLitOf (Over (n + clause.vars))) (HasGoalTerms (Over (n + clause.vars)))
+              all-mapped (IsLitOf (Over (n + clause.variable_count))) (HasGoalTerms (Over (n + clause.variable_count)))
               (λ l. record { lit = l; path = goal.lit ∷ goal.path; budget = goal.budget - 1 })
-              (parts_of clause.lits (variables_from n clause.vars) place) (part-over (n + clause.vars) (omega arith))
-              (all-mapped (IsLitOf (Over (n + clause.vars))) (IsLitOf (Over (n + clause.vars))) complement_of
-              (remove (instance_of clause.lits (variables_from n clause.vars)) place) (λ l h. h)
-              (all-removed (IsLitOf (Over (n + clause.vars))) (instance_of clause.lits (variables_from n clause.vars)) place all));
+              (parts_of clause.lits (variables_from n clause.variable_count) place) (part-over (n + clause.variable_count) (omega arith))
+              (all-mapped (IsLitOf (Over (n + clause.variable_count))) (IsLitOf (Over (n + clause.variable_count))) complement_of
+              (remove (instance_of clause.lits (variables_from n clause.variable_count)) place) (λ l h. h)
+              (all-removed (IsLitOf (Over (n + clause.variable_count))) (instance_of clause.lits (variables_from n clause.variable_count)) place all));
         })
 
     clause-over : (number place : ℕ) (at : Option Clause) (closing : Closing) → slice_get s.axioms number ≡ at
-        → by_step goal (variables_from n (vars_of at)) place at ≡ Some closing → IsClosingOf (Over (n + vars_of at)) closing
+        → by_step goal (variables_from n (variable_count_of at)) place at ≡ Some closing → IsClosingOf (Over (n + variable_count_of at)) closing
     clause-over number place None closing e made = absurd (cc)
     clause-over number place (Some clause) closing e made = by_room (has_room goal clause) made
       where
-        by_room : (b : Bool) → cond b (by_literal goal (parts_of clause.lits (variables_from n clause.vars) place)
-            (slice_get (instance_of clause.lits (variables_from n clause.vars)) place)) None ≡ Some closing
-            → IsClosingOf (Over (n + clause.vars)) closing
+        by_room : (b : Bool) → cond b (by_literal goal (parts_of clause.lits (variables_from n clause.variable_count) place)
+            (slice_get (instance_of clause.lits (variables_from n clause.variable_count)) place)) None ≡ Some closing
+            → IsClosingOf (Over (n + clause.variable_count)) closing
         by_room false is = absurd (cc)
         by_room true is =
-            step-over number place clause (slice_get (instance_of clause.lits (variables_from n clause.vars)) place) closing e refl is
+            step-over number place clause (slice_get (instance_of clause.lits (variables_from n clause.variable_count)) place) closing e refl is
 
     gap-over : (b : Bool) (closing : Closing) → cond b (Some (record { equal_to = goal.lit; parts = [] })) None ≡ Some closing
         → IsClosingOf (Over (n + 0)) closing

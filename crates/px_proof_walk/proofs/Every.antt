@@ -31,9 +31,9 @@ all-at P [] k x all at = absurd (cc)
 all-at P (y ∷ ys) zero x all at = let same : y ≡ x = cc in rw (← same) all.0
 all-at P (y ∷ ys) (suc k) x all at = all-at P ys k x all.1 at
 
-pub all-front : {X : Type 0} (P : X → Type 0) (xs ys : List X) → AllByRecursion P (xs ++ ys) → AllByRecursion P xs
-all-front P [] ys all = tt
-all-front P (x ∷ xs) ys all = (all.0, all-front P xs ys all.1)
+pub all-prefix : {X : Type 0} (P : X → Type 0) (xs ys : List X) → AllByRecursion P (xs ++ ys) → AllByRecursion P xs
+all-prefix P [] ys all = tt
+all-prefix P (x ∷ xs) ys all = (all.0, all-prefix P xs ys all.1)
 
 pub all-rest : {X : Type 0} (P : X → Type 0) (xs ys : List X) → AllByRecursion P (xs ++ ys) → AllByRecursion P ys
 all-rest P [] ys all = all

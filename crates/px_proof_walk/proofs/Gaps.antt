@@ -20,7 +20,7 @@ use Rattle.px_question.specs.Answers.{IsList, object_terms, all_choices_of, lite
 use Rattle.px_question.specs.Gaps.{gaps_of, all_gaps_of}
 use Rattle.px_question.specs.Settings.{Setting}
 use Rattle.px_proof_walk.specs.GapAtoms.{gap_at, after_closing, gap_atoms}
-use Rattle.px_proof_walk.specs.Pending.{Goal, Closing, Pending, Solves, closing_at, closing_of, fresh_of, vars_of, goals_below, goals_of, open_after}
+use Rattle.px_proof_walk.specs.Pending.{Goal, Closing, Pending, Solves, closing_at, closing_of, fresh_of, variable_count_of, goals_below, goals_of, open_after}
 use Rattle.px_proof_walk.specs.Possible.{rules_for}
 use Rattle.px_proof_walk.specs.Scope.{IsAtomIn, IsSetting}
 use Rattle.px_proof_walk.proofs.Lifting.{goal_under, closing_under, same_closing, regrouped, longer, first_chosen, later_ends}
@@ -67,8 +67,8 @@ module _ (loose : Bool) (s : Setting) where
       let clause = proved.0.0 in
       let uses = proved.0.1 in
       let rest = all_choices_of (joined parts ps) in
-      let long : length (map object_of theta) ≡ vars_of (slice_get s.axioms number) =
-      length-map theta object_of ∙ uses.terms ∙ sym (ap vars_of uses.axiom_at) in
+      let long : length (map object_of theta) ≡ variable_count_of (slice_get s.axioms number) =
+      length-map theta object_of ∙ uses.terms ∙ sym (ap variable_count_of uses.axiom_at) in
       let whole : (map object_of theta ++ all_choices_of parts) ++ all_choices_of ps ≡ map object_of theta ++ rest =
       append_assoc (map object_of theta) (all_choices_of parts) (all_choices_of ps)
       ∙ ap (λ xs. map object_of theta ++ xs) (sym (choices-joined parts ps)) in
@@ -185,17 +185,17 @@ module _ (loose : Bool) (s : Setting) where
             ap (λ atoms. gap_at g t ++ atoms) (later closing now')
             ∙ sym (append_assoc (gap_at g t) (gap_atoms loose s (n + fresh_of s t) (closing.parts ++ start) ticks) (gap_at goal tick))
 
-module _ (loose : Bool) (s : Setting) (valid : IsSetting s) (formula : List Atom) (vars : ℕ)
-    (scoped : AllByRecursion (IsAtomIn s.objects vars) formula) where
-  pub gaps-are : (objects : List ℕ) (ds : Derivations) → IsList (or_open (rules_for loose s)) s formula vars objects ds
+module _ (loose : Bool) (s : Setting) (valid : IsSetting s) (formula : List Atom) (variable_count : ℕ)
+    (scoped : AllByRecursion (IsAtomIn s.objects variable_count) formula) where
+  pub gaps-are : (objects : List ℕ) (ds : Derivations) → IsList (or_open (rules_for loose s)) s formula variable_count objects ds
       → all_gaps_of ds ≡ map (substitute_atom (object_terms (objects ++ all_choices_of ds)))
-      (gap_atoms loose s vars (goals_of s formula) (ticks_of ds))
+      (gap_atoms loose s variable_count (goals_of s formula) (ticks_of ds))
   gaps-are objects ds is =
       let each = walk_each loose s (literals_of formula objects) ds is.proved in
       let trees =
       gaps_from_trees loose s (length (ticks_of ds)) (ground_goals s (literals_of formula objects)) ds (omega arith)
       (each-are s (rules_of loose s) (literals_of formula objects) ds each is.low) in
-      let solved = solves-list loose s valid formula vars scoped objects ds is in
+      let solved = solves-list loose s valid formula variable_count scoped objects ds is in
       let ends : open_after loose s (length objects) (goals_of s formula) (ticks_of ds)
       ≡ Some (record { variables = length objects + length (all_choices_of ds); goals = [] }) =
       ap (λ n. open_after loose s n (goals_of s formula) (ticks_of ds)) is.count ∙ solved.1
@@ -204,7 +204,7 @@ module _ (loose : Bool) (s : Setting) (valid : IsSetting s) (formula : List Atom
       subst (λ (n : ℕ). Solves loose s (object_terms (objects ++ all_choices_of ds)) n (goals_of s formula) (ticks_of ds))
       (sym is.count) solved.0 in
       trees ∙ ap (λ gs. run_gaps loose s gs (ticks_of ds) (all_choices_of ds))
-      (sym (goals_ground s formula vars objects (all_choices_of ds) is.count scoped))
+      (sym (goals_ground s formula variable_count objects (all_choices_of ds) is.count scoped))
       ∙ gaps_under loose s valid (ticks_of ds) objects (all_choices_of ds) (goals_of s formula) ends solves
       ∙ ap (λ n. map (substitute_atom (object_terms (objects ++ all_choices_of ds)))
       (gap_atoms loose s n (goals_of s formula) (ticks_of ds))) is.count

@@ -23,7 +23,7 @@ use Rattle.px_proof_walk.proofs.Gaps.{gaps-are, taken}
 use Rattle.px_proof_walk.proofs.Lifting.{variables_grow}
 use Rattle.px_proof_walk.proofs.Lists.{list-solved}
 use Rattle.px_proof_walk.proofs.Padding.{goes_on}
-use Rattle.px_proof_walk.proofs.Starts.{possible-front}
+use Rattle.px_proof_walk.proofs.Starts.{possible-prefix}
 
 no_goals : (p : Pending) → length p.goals ≡ 0 → p ≡ record { variables = p.variables; goals = [] }
 no_goals p empty = go p.goals refl empty
@@ -33,61 +33,61 @@ no_goals p empty = go p.goals refl empty
     go (g ∷ goals) is empty = absurd (omega (arith, empty, ap length is))
 
 -- the values of all variables after a finished list are those of the formula's, and then those of the steps'
-pub record AreParted (loose : Bool) (s : Setting) (formula : List Atom) (vars : ℕ) (ticks : List Tick) (values : List ℕ) : Type 0 where
-  pub whole : values ≡ take vars values ++ drop vars values
-  pub count : length (take vars values) ≡ vars
-  pub ends : open_after loose s vars (goals_of s formula) ticks
-      ≡ Some (record { variables = length (take vars values) + length (drop vars values); goals = [] })
+pub record AreParted (loose : Bool) (s : Setting) (formula : List Atom) (variable_count : ℕ) (ticks : List Tick) (values : List ℕ) : Type 0 where
+  pub whole : values ≡ take variable_count values ++ drop variable_count values
+  pub count : length (take variable_count values) ≡ variable_count
+  pub ends : open_after loose s variable_count (goals_of s formula) ticks
+      ≡ Some (record { variables = length (take variable_count values) + length (drop variable_count values); goals = [] })
 
-pub values-parted : (loose : Bool) (s : Setting) (formula : List Atom) (vars : ℕ) (ticks : List Tick) (values : List ℕ)
-    → IsPossible loose s formula vars ticks → IsFinished loose s formula vars ticks
-    → length values ≡ variables_in (open_after loose s vars (goals_of s formula) ticks) → AreParted loose s formula vars ticks values
-values-parted loose s formula vars ticks values possible finished count =
+pub values-parted : (loose : Bool) (s : Setting) (formula : List Atom) (variable_count : ℕ) (ticks : List Tick) (values : List ℕ)
+    → IsPossible loose s formula variable_count ticks → IsFinished loose s formula variable_count ticks
+    → length values ≡ variables_in (open_after loose s variable_count (goals_of s formula) ticks) → AreParted loose s formula variable_count ticks values
+values-parted loose s formula variable_count ticks values possible finished count =
     let p = possible.1.0 in
-    let now : open_after loose s vars (goals_of s formula) ticks ≡ Some p = possible.1.1 in
+    let now : open_after loose s variable_count (goals_of s formula) ticks ≡ Some p = possible.1.1 in
     let none_left : length p.goals ≡ 0 = ap left_of (sym now) ∙ finished in
     let long : length values ≡ p.variables = count ∙ ap variables_in now in
-    let grown : vars ≤ p.variables = variables_grow loose s ticks vars (goals_of s formula) p now in
-    let whole : values ≡ take vars values ++ drop vars values = sym (take-append-drop vars values) in
-    let sum : p.variables ≡ length (take vars values) + length (drop vars values) =
-    sym long ∙ ap length whole ∙ length-append (take vars values) (drop vars values) in
+    let grown : variable_count ≤ p.variables = variables_grow loose s ticks variable_count (goals_of s formula) p now in
+    let whole : values ≡ take variable_count values ++ drop variable_count values = sym (take-append-drop variable_count values) in
+    let sum : p.variables ≡ length (take variable_count values) + length (drop variable_count values) =
+    sym long ∙ ap length whole ∙ length-append (take variable_count values) (drop variable_count values) in
     record {
       whole = whole;
-      count = length-take-le vars values (omega (arith, long, grown));
+      count = length-take-le variable_count values (omega (arith, long, grown));
       ends = now ∙ ap (λ q. Some q) (no_goals p none_left) ∙ ap (λ n. Some (record { variables = n; goals = [] })) sum;
     }
 
-module _ (s : Setting) (valid : IsSetting s) (formula : List Atom) (vars : ℕ)
-    (scoped : AllByRecursion (IsAtomIn s.objects vars) formula) where
+module _ (s : Setting) (valid : IsSetting s) (formula : List Atom) (variable_count : ℕ)
+    (scoped : AllByRecursion (IsAtomIn s.objects variable_count) formula) where
   -- what a finished list gives is a gap list
-  pub gives-list : (ticks : List Tick) (objects : List ℕ) (gaps : List Atom) → Gives s formula vars ticks objects gaps
-      → IsGapList s formula vars objects gaps
+  pub gives-list : (ticks : List Tick) (objects : List ℕ) (gaps : List Atom) → Gives s formula variable_count ticks objects gaps
+      → IsGapList s formula variable_count objects gaps
   gives-list ticks objects gaps (possible, finished, (values, gives)) =
-      let parted = values-parted true s formula vars ticks values possible finished gives.count in
-      let found = list-solved true s valid formula vars scoped ticks (take vars values) (drop vars values) parted.count
-      (All-take (λ o. o < s.objects) vars values gives.below) (All-drop (λ o. o < s.objects) vars values gives.below) parted.ends
-      (subst (λ (os : List ℕ). Solves true s (object_terms os) vars (goals_of s formula) ticks) parted.whole gives.solves) in
-      let closed : IsList (loose_gaps_in s) s formula vars (take vars values) found.0 =
-      closed-list true s valid formula vars scoped (take vars values) found.0
+      let parted = values-parted true s formula variable_count ticks values possible finished gives.count in
+      let found = list-solved true s valid formula variable_count scoped ticks (take variable_count values) (drop variable_count values) parted.count
+      (All-take (λ o. o < s.objects) variable_count values gives.below) (All-drop (λ o. o < s.objects) variable_count values gives.below) parted.ends
+      (subst (λ (os : List ℕ). Solves true s (object_terms os) variable_count (goals_of s formula) ticks) parted.whole gives.solves) in
+      let closed : IsList (loose_gaps_in s) s formula variable_count (take variable_count values) found.0 =
+      closed-list true s valid formula variable_count scoped (take variable_count values) found.0
       (subst (AllByRecursion IsClosing) (sym found.2) possible.0) found.1 in
-      let atoms : all_gaps_of found.0 ≡ map (substitute_atom (object_terms values)) (gap_atoms true s vars (goals_of s formula) ticks) =
-      gaps-are true s valid formula vars scoped (take vars values) found.0 found.1
-      ∙ ap (λ ts. map (substitute_atom (object_terms (take vars values ++ all_choices_of found.0)))
-      (gap_atoms true s vars (goals_of s formula) ts)) found.2
-      ∙ ap (λ os. map (substitute_atom (object_terms os)) (gap_atoms true s vars (goals_of s formula) ticks))
-      (ap (λ os. take vars values ++ os) found.3 ∙ sym parted.whole) in (
+      let atoms : all_gaps_of found.0 ≡ map (substitute_atom (object_terms values)) (gap_atoms true s variable_count (goals_of s formula) ticks) =
+      gaps-are true s valid formula variable_count scoped (take variable_count values) found.0 found.1
+      ∙ ap (λ ts. map (substitute_atom (object_terms (take variable_count values ++ all_choices_of found.0)))
+      (gap_atoms true s variable_count (goals_of s formula) ts)) found.2
+      ∙ ap (λ os. map (substitute_atom (object_terms os)) (gap_atoms true s variable_count (goals_of s formula) ticks))
+      (ap (λ os. take variable_count values ++ os) found.3 ∙ sym parted.whole) in (
         found.0,
-        subst (λ (os : List ℕ). IsList (loose_gaps_in s) s formula vars os found.0) (sym gives.chosen) closed,
+        subst (λ (os : List ℕ). IsList (loose_gaps_in s) s formula variable_count os found.0) (sym gives.chosen) closed,
         λ atom. subst (λ (closed : List Atom). Contains gaps atom ↔ Contains closed atom) (sym atoms) (gives.same atom),
       )
 
   -- and each gap list is given by a finished list
-  pub list-gives : (objects : List ℕ) (gaps : List Atom) → IsGapList s formula vars objects gaps
-      → (ticks : List Tick) × Gives s formula vars ticks objects gaps
+  pub list-gives : (objects : List ℕ) (gaps : List Atom) → IsGapList s formula variable_count objects gaps
+      → (ticks : List Tick) × Gives s formula variable_count ticks objects gaps
   list-gives objects gaps (ds, is, same) =
-      let possible = finished-possible true s valid formula vars scoped objects ds is in
-      let ends = finished-ends true s valid formula vars scoped objects ds is in
-      let atoms = gaps-are true s valid formula vars scoped objects ds (finished-opened true s valid formula vars scoped objects ds is) in (
+      let possible = finished-possible true s valid formula variable_count scoped objects ds is in
+      let ends = finished-ends true s valid formula variable_count scoped objects ds is in
+      let atoms = gaps-are true s valid formula variable_count scoped objects ds (finished-opened true s valid formula variable_count scoped objects ds is) in (
         ticks_of ds,
         (
           possible.0,
@@ -98,9 +98,9 @@ module _ (s : Setting) (valid : IsSetting s) (formula : List Atom) (vars : ℕ)
               count = sym (ap variables_in ends);
               below =
                   All-append (λ o. o < s.objects) objects (all_choices_of ds) is.below
-                  (choices-of-list true s valid formula vars scoped objects ds is);
+                  (choices-of-list true s valid formula variable_count scoped objects ds is);
               solves = possible.2;
-              chosen = sym (taken objects (all_choices_of ds) vars is.count);
+              chosen = sym (taken objects (all_choices_of ds) variable_count is.count);
               same = λ atom. subst (λ (closed : List Atom). Contains gaps atom ↔ Contains closed atom) atoms (same atom);
             },
           ),
@@ -109,7 +109,7 @@ module _ (s : Setting) (valid : IsSetting s) (formula : List Atom) (vars : ℕ)
 
   -- a list of ticks is empty, or it has a last one
   abbrev HasLast : List Tick → Type 0
-  HasLast ticks = (front : List Tick) × (tick : Tick) × (ticks ≡ front ++ tick ∷ [])
+  HasLast ticks = (prefix : List Tick) × (tick : Tick) × (ticks ≡ prefix ++ tick ∷ [])
 
   last_tick : (ticks : List Tick) → (ticks ≡ []) ⊎ HasLast ticks
   last_tick [] = inl refl
@@ -120,13 +120,13 @@ module _ (s : Setting) (valid : IsSetting s) (formula : List Atom) (vars : ℕ)
       go (inr h) = (t ∷ h.0, h.1, ap (λ ts. t ∷ ts) h.2)
 
   -- a possible list with a last tick comes directly after one that goes on
-  pub child-of : (0 < vars → 0 < s.objects) → (front : List Tick) (tick : Tick) → IsPossible true s formula vars (front ++ tick ∷ [])
-      → IsGoingOn true s formula vars front
-  child-of some front tick possible =
-      (possible-front true s formula vars front tick [] some possible, goes_on true s formula vars front tick [] possible)
+  pub child-of : (0 < variable_count → 0 < s.objects) → (prefix : List Tick) (tick : Tick) → IsPossible true s formula variable_count (prefix ++ tick ∷ [])
+      → IsGoingOn true s formula variable_count prefix
+  child-of some prefix tick possible =
+      (possible-prefix true s formula variable_count prefix tick [] some possible, goes_on true s formula variable_count prefix tick [] possible)
 
   -- where the formula has an atom, no list is finished before its first tick
-  start-open : 0 < length formula → ¬ IsFinished true s formula vars []
+  start-open : 0 < length formula → ¬ IsFinished true s formula variable_count []
   start-open some finished = go formula some finished
     where
       go : (atoms : List Atom) → 0 < length atoms → ¬ (length (goals_of s atoms) ≡ 0)
@@ -134,28 +134,28 @@ module _ (s : Setting) (valid : IsSetting s) (formula : List Atom) (vars : ℕ)
       go (a ∷ atoms) some empty = omega (arith, empty)
 
   -- where all lists that go on have been seen, each gap list is given by one that comes directly after one of them
-  pub all-gathered : (0 < vars → 0 < s.objects) → 0 < length formula → (seen : List (List Tick))
-      → ((other : List Tick) → IsGoingOn true s formula vars other → Contains seen other)
-      → (objects : List ℕ) (gaps : List Atom) → IsGapList s formula vars objects gaps
-      → (front : List Tick) × (tick : Tick) × Contains seen front × Gives s formula vars (front ++ tick ∷ []) objects gaps
+  pub all-gathered : (0 < variable_count → 0 < s.objects) → 0 < length formula → (seen : List (List Tick))
+      → ((other : List Tick) → IsGoingOn true s formula variable_count other → Contains seen other)
+      → (objects : List ℕ) (gaps : List Atom) → IsGapList s formula variable_count objects gaps
+      → (prefix : List Tick) × (tick : Tick) × Contains seen prefix × Gives s formula variable_count (prefix ++ tick ∷ []) objects gaps
   all-gathered some has_atom seen covers objects gaps is =
       let found = list-gives objects gaps is in go found.0 found.1 (last_tick found.0)
     where
-      go : (ticks : List Tick) → Gives s formula vars ticks objects gaps → (ticks ≡ []) ⊎ HasLast ticks
-          → (front : List Tick) × (tick : Tick) × Contains seen front × Gives s formula vars (front ++ tick ∷ []) objects gaps
-      go ticks gives (inl e) = absurd (start-open has_atom (subst (IsFinished true s formula vars) e gives.1))
+      go : (ticks : List Tick) → Gives s formula variable_count ticks objects gaps → (ticks ≡ []) ⊎ HasLast ticks
+          → (prefix : List Tick) × (tick : Tick) × Contains seen prefix × Gives s formula variable_count (prefix ++ tick ∷ []) objects gaps
+      go ticks gives (inl e) = absurd (start-open has_atom (subst (IsFinished true s formula variable_count) e gives.1))
       go ticks gives (inr h) =
-          let here : Gives s formula vars (h.0 ++ h.1 ∷ []) objects gaps =
-          subst (λ (ts : List Tick). Gives s formula vars ts objects gaps) h.2 gives in
+          let here : Gives s formula variable_count (h.0 ++ h.1 ∷ []) objects gaps =
+          subst (λ (ts : List Tick). Gives s formula variable_count ts objects gaps) h.2 gives in
           (h.0, h.1, covers h.0 (child-of some h.0 h.1 here.0), here)
 
   -- without atoms, the one list of ticks is empty
-  pub none-gathered : length formula ≡ 0 → (objects : List ℕ) (gaps : List Atom) → IsGapList s formula vars objects gaps
-      ↔ ((length objects ≡ vars) × All (λ n. n < s.objects) objects × ((atom : Atom) → ¬ Contains gaps atom))
+  pub none-gathered : length formula ≡ 0 → (objects : List ℕ) (gaps : List Atom) → IsGapList s formula variable_count objects gaps
+      ↔ ((length objects ≡ variable_count) × All (λ n. n < s.objects) objects × ((atom : Atom) → ¬ Contains gaps atom))
   none-gathered empty objects gaps = no_atoms formula empty objects gaps
     where
-      no_atoms : (formula : List Atom) → length formula ≡ 0 → (objects : List ℕ) (gaps : List Atom) → IsGapList s formula vars objects gaps
-          ↔ ((length objects ≡ vars) × All (λ n. n < s.objects) objects × ((atom : Atom) → ¬ Contains gaps atom))
+      no_atoms : (formula : List Atom) → length formula ≡ 0 → (objects : List ℕ) (gaps : List Atom) → IsGapList s formula variable_count objects gaps
+          ↔ ((length objects ≡ variable_count) × All (λ n. n < s.objects) objects × ((atom : Atom) → ¬ Contains gaps atom))
       no_atoms [] empty objects gaps = (
         λ is. (is.1.count, is.1.below, λ atom has. nothing is.0 is.1.proved atom ((is.2 atom).0 has)),
         λ h. (

@@ -20,7 +20,7 @@ use Rattle.px_question.specs.Settings.{Setting}
 use Rattle.px_question.specs.Answers.{object_terms}
 use Rattle.px_terms.specs.Substitution.{variables_from}
 use Rattle.px_terms.proofs.VariableLemmas.{length-variables}
-use Rattle.px_proof_walk.specs.Pending.{Goal, Closing, Solves, Runs, Pending, open_after, fresh_of, vars_of, closing_of, closing_at, by_fact, by_ancestor, by_literal, by_step, has_room, goals_below}
+use Rattle.px_proof_walk.specs.Pending.{Goal, Closing, Solves, Runs, Pending, open_after, fresh_of, variable_count_of, closing_of, closing_at, by_fact, by_ancestor, by_literal, by_step, has_room, goals_below}
 use Rattle.px_proof_walk.specs.Scope.{IsSetting}
 
 abbrev pub goal_under : List Term → Goal → Goal
@@ -75,7 +75,7 @@ module _ (loose : Bool) (s : Setting) (valid : IsSetting s) (tau theta : List Te
   room_under false x y e = refl
 
   step_under : (number place : ℕ) (at : Option Clause) → slice_get s.axioms number ≡ at
-      → ((clause : Clause) → at ≡ Some clause → length theta ≡ clause.vars)
+      → ((clause : Clause) → at ≡ Some clause → length theta ≡ clause.variable_count)
       → by_step (goal_under tau goal) (map (substitute tau) theta) place at ≡ closing_under tau (by_step goal theta place at)
   step_under number place None e long = refl
   step_under number place (Some clause) e long =
@@ -91,7 +91,7 @@ module _ (loose : Bool) (s : Setting) (valid : IsSetting s) (tau theta : List Te
       → closing_of loose s (map (substitute tau) theta) (goal_under tau goal) tick ≡ closing_under tau (closing_of loose s theta goal tick)
   closing-under (Fact i) long = fact_under i (slice_get s.facts i) refl
   closing-under (Anc i) long = rw (slice_get-mapped (substitute_literal tau) goal.path i) (ancestor_under (slice_get goal.path i))
-  closing-under (Step number place) long = step_under number place (slice_get s.axioms number) refl (λ clause e. long ∙ ap vars_of e)
+  closing-under (Step number place) long = step_under number place (slice_get s.axioms number) refl (λ clause e. long ∙ ap variable_count_of e)
   closing-under Gap long =
       room_under (loose && goal.lit.positive && list_any (nat_eq goal.lit.atom.pred) s.added) _
       (Some (record { equal_to = goal.lit; parts = [] })) refl

@@ -23,7 +23,7 @@ use Rattle.px_proof_walk.specs.Pending.{Goal, Closing, Runs, Solves, open_after,
 use Rattle.px_proof_walk.specs.Scope.{IsSetting, IsAtomIn}
 use Rattle.px_terms.specs.Language.{IsPlainBelow}
 use Rattle.px_proof_walk.proofs.Every.{all-weaker}
-use Rattle.px_proof_walk.proofs.Scoping.{args-front, scoped-below}
+use Rattle.px_proof_walk.proofs.Scoping.{args-prefix, scoped-below}
 use Rattle.px_proof_walk.proofs.Lifting.{goal_under, closing_under, solves_from_runs, runs_from_solves, same_closing, regrouped, longer, open_after-step, length-objects, objects-append}
 use Rattle.px_proof_walk.proofs.Trees.{rules_of, AreProved, runs_from_trees, trees_from_runs}
 
@@ -69,19 +69,19 @@ module _ (s : Setting) where
   abbrev pub ground_goals : List Lit → List Goal
   ground_goals lits = map (λ l. record { lit = l; path = []; budget = s.height }) lits
 
-  pub goals_ground : (formula : List Atom) (vars : ℕ) (objects chosen : List ℕ) → length objects ≡ vars
-      → AllByRecursion (IsAtomIn s.objects vars) formula
+  pub goals_ground : (formula : List Atom) (variable_count : ℕ) (objects chosen : List ℕ) → length objects ≡ variable_count
+      → AllByRecursion (IsAtomIn s.objects variable_count) formula
       → map (goal_under (object_terms (objects ++ chosen))) (goals_of s formula) ≡ ground_goals (literals_of formula objects)
-  goals_ground [] vars objects chosen count scoped = refl
-  goals_ground (a ∷ formula) vars objects chosen count scoped =
+  goals_ground [] variable_count objects chosen count scoped = refl
+  goals_ground (a ∷ formula) variable_count objects chosen count scoped =
       let within : AllByRecursion (IsObjectOrParameter s.objects (length (object_terms objects))) a.args =
       rw (length-objects objects, count) scoped.0 in
       let same : map (substitute (object_terms (objects ++ chosen))) a.args ≡ map (substitute (object_terms objects)) a.args =
-      rw (objects-append objects chosen) (args-front (object_terms objects) (object_terms chosen) (length (object_terms objects))
+      rw (objects-append objects chosen) (args-prefix (object_terms objects) (object_terms chosen) (length (object_terms objects))
       (omega arith) a.args
       (all-weaker (IsObjectOrParameter s.objects (length (object_terms objects))) (IsPlainBelow (length (object_terms objects))) a.args
       (scoped-below s.objects (length (object_terms objects))) within)) in
-      rw (same, goals_ground formula vars objects chosen count scoped.1) refl
+      rw (same, goals_ground formula variable_count objects chosen count scoped.1) refl
 
   pub each-are : (rules : Rules) (lits : List Lit) (ps : Derivations) → ProvesEach rules s.axioms [] lits ps → greatest_height ps ≤ s.height
       → AreProved rules s.axioms (ground_goals lits) ps
@@ -130,32 +130,32 @@ module _ (s : Setting) where
           open_after-step loose s (length old) goal goals tick ticks closing is
           ∙ later closing.parts (rw (map-append (goal_under (object_terms (old ++ chosen))) closing.parts goals) closed.1)
 
-module _ (loose : Bool) (s : Setting) (valid : IsSetting s) (formula : List Atom) (vars : ℕ)
-    (scoped : AllByRecursion (IsAtomIn s.objects vars) formula) where
-  pub solves-list : (objects : List ℕ) (ps : Derivations) → IsList (or_open (rules_for loose s)) s formula vars objects ps
-      → Solves loose s (object_terms (objects ++ all_choices_of ps)) vars (goals_of s formula) (ticks_of ps)
-      × (open_after loose s vars (goals_of s formula) (ticks_of ps)
+module _ (loose : Bool) (s : Setting) (valid : IsSetting s) (formula : List Atom) (variable_count : ℕ)
+    (scoped : AllByRecursion (IsAtomIn s.objects variable_count) formula) where
+  pub solves-list : (objects : List ℕ) (ps : Derivations) → IsList (or_open (rules_for loose s)) s formula variable_count objects ps
+      → Solves loose s (object_terms (objects ++ all_choices_of ps)) variable_count (goals_of s formula) (ticks_of ps)
+      × (open_after loose s variable_count (goals_of s formula) (ticks_of ps)
       ≡ Some (record { variables = length (objects ++ all_choices_of ps); goals = [] }))
   solves-list objects ps is =
       let each = walk_each loose s (literals_of formula objects) ps is.proved in
       let runs : Runs loose s (map (goal_under (object_terms (objects ++ all_choices_of ps))) (goals_of s formula)) (ticks_of ps)
       (all_choices_of ps) =
-      rw (goals_ground s formula vars objects (all_choices_of ps) is.count scoped)
+      rw (goals_ground s formula variable_count objects (all_choices_of ps) is.count scoped)
       (runs_from_trees loose s (length (ticks_of ps)) (ground_goals s (literals_of formula objects)) ps (omega arith)
       (each-are s (rules_of loose s) (literals_of formula objects) ps each is.low)) in (
         rw is.count at (solves_from_runs loose s valid (ticks_of ps) objects (all_choices_of ps) (goals_of s formula) runs),
         rw is.count at (ends_from_runs s valid loose (ticks_of ps) objects (all_choices_of ps) (goals_of s formula) runs),
       )
 
-  pub list-solved : (ticks : List Tick) (objects chosen : List ℕ) → length objects ≡ vars → All (λ o. o < s.objects) objects
+  pub list-solved : (ticks : List Tick) (objects chosen : List ℕ) → length objects ≡ variable_count → All (λ o. o < s.objects) objects
       → All (λ o. o < s.objects) chosen
-      → open_after loose s vars (goals_of s formula) ticks ≡ Some (record { variables = length objects + length chosen; goals = [] })
-      → Solves loose s (object_terms (objects ++ chosen)) vars (goals_of s formula) ticks
-      → (ps : Derivations) × IsList (or_open (rules_for loose s)) s formula vars objects ps × (ticks_of ps ≡ ticks)
+      → open_after loose s variable_count (goals_of s formula) ticks ≡ Some (record { variables = length objects + length chosen; goals = [] })
+      → Solves loose s (object_terms (objects ++ chosen)) variable_count (goals_of s formula) ticks
+      → (ps : Derivations) × IsList (or_open (rules_for loose s)) s formula variable_count objects ps × (ticks_of ps ≡ ticks)
       × (all_choices_of ps ≡ chosen)
   list-solved ticks objects chosen count objects_below chosen_below ends solves =
       let runs : Runs loose s (ground_goals s (literals_of formula objects)) ticks chosen =
-      rw (goals_ground s formula vars objects chosen count scoped) at
+      rw (goals_ground s formula variable_count objects chosen count scoped) at
       (runs_from_solves loose s valid ticks objects chosen (goals_of s formula) chosen_below (rw count (rw count at ends))
       (rw count solves)) in
       let trees =

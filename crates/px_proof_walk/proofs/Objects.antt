@@ -136,18 +136,18 @@ length-projected objects [] = refl
 length-projected objects (t ∷ tau) = ap suc (length-projected objects tau)
 
 -- the goals of a formula have objects of the problem and its variables
-pub goals-in : (s : Setting) (vars : ℕ) (formula : List Atom) → AllByRecursion (IsAtomIn s.objects vars) formula
-    → AllByRecursion (IsGoalIn s.objects vars) (goals_of s formula)
-goals-in s vars [] within = tt
-goals-in s vars (a ∷ formula) within = (record { lit = within.0; path = tt }, goals-in s vars formula within.1)
+pub goals-in : (s : Setting) (variable_count : ℕ) (formula : List Atom) → AllByRecursion (IsAtomIn s.objects variable_count) formula
+    → AllByRecursion (IsGoalIn s.objects variable_count) (goals_of s formula)
+goals-in s variable_count [] within = tt
+goals-in s variable_count (a ∷ formula) within = (record { lit = within.0; path = tt }, goals-in s variable_count formula within.1)
 
 -- bindings that fit some substitution fit objects of the problem: the ticks are feasible
-pub feasible-from_bindings : (loose : Bool) (s : Setting) (formula : List Atom) (vars : ℕ) (ticks : List Tick) (p : Pending)
-    (changes : List Change) → IsSetting s → AllByRecursion (IsAtomIn s.objects vars) formula
-    → AllByRecursion (FactIsIn s) ticks → open_after loose s vars (goals_of s formula) ticks ≡ Some p → p.variables ≡ variables_of changes
-    → AreMatched loose s formula vars ticks changes → HasSolutions changes → (0 < p.variables → 0 < s.objects)
-    → IsFeasible loose s formula vars ticks
-feasible-from_bindings loose s formula vars ticks p changes valid scoped facts_in now count matched solvable some =
+pub feasible-from_bindings : (loose : Bool) (s : Setting) (formula : List Atom) (variable_count : ℕ) (ticks : List Tick) (p : Pending)
+    (changes : List Change) → IsSetting s → AllByRecursion (IsAtomIn s.objects variable_count) formula
+    → AllByRecursion (FactIsIn s) ticks → open_after loose s variable_count (goals_of s formula) ticks ≡ Some p → p.variables ≡ variables_of changes
+    → AreMatched loose s formula variable_count ticks changes → HasSolutions changes → (0 < p.variables → 0 < s.objects)
+    → IsFeasible loose s formula variable_count ticks
+feasible-from_bindings loose s formula variable_count ticks p changes valid scoped facts_in now count matched solvable some =
     let found = solvable (replicate (variables_of changes) (Obj 0)) (length-replicate (variables_of changes) (Obj 0)) in
     let long : p.variables ≤ length found.0 = omega (arith, count, found.1) in
     let solves = (matched found.0).0 found.2 in
@@ -158,6 +158,6 @@ feasible-from_bindings loose s formula vars ticks p changes valid scoped facts_i
         map (object_at s.objects) found.0,
         omega (arith, long, length-projected s.objects found.0),
         All-from_recursion (λ o. o < s.objects) (map (object_at s.objects) found.0) (all-below s.objects found.0 given),
-        solves-objects loose s valid found.0 ticks vars (goals_of s formula) p facts_in (goals-in s vars formula scoped) now long solves,
+        solves-objects loose s valid found.0 ticks variable_count (goals_of s formula) p facts_in (goals-in s variable_count formula scoped) now long solves,
       ),
     )

@@ -106,9 +106,9 @@ module _ (P : List Tick → Type 0) (shorter : IsPrefixClosed P) (start ticks ne
   pub turn-none : found ≡ false → new ≡ [] → NoneAfter P start
   turn-none not_found empty = let none = tried.no_more not_found in onward-none P shorter start ticks last way (sym none.0 ∙ empty) none.1
 
-  pub turn-retract : found ≡ false → (front : List Tick) (tick : Tick) → new ≡ front ++ tick ∷ [] → IsOnTheWay P start front (Some tick)
-  turn-retract not_found front tick is =
-      let none = tried.no_more not_found in onward-retract P shorter start front ticks tick last (sym none.0 ∙ is) way none.1
+  pub turn-retract : found ≡ false → (prefix : List Tick) (tick : Tick) → new ≡ prefix ++ tick ∷ [] → IsOnTheWay P start prefix (Some tick)
+  turn-retract not_found prefix tick is =
+      let none = tried.no_more not_found in onward-retract P shorter start prefix ticks tick last (sym none.0 ∙ is) way none.1
 
   pub turn-next : found ≡ true → IsNext P start new
   turn-next is_found =

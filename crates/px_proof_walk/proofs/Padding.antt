@@ -31,11 +31,11 @@ padded-before (u ∷ a) (t ∷ b) m n closing (inl h) place = inl h
 padded-before (u ∷ a) (t ∷ b) m n closing (inr h) place =
     inr (h.0, padded-before a b m n closing.1 h.1 (λ more v e. place more v (rw (h.0, e) refl)))
 
-module _ (loose : Bool) (s : Setting) (formula : List Atom) (vars : ℕ) where
+module _ (loose : Bool) (s : Setting) (formula : List Atom) (variable_count : ℕ) where
   -- a walk can go on only where a place is open
-  pub goes_on : (a : List Tick) (t : Tick) (more : List Tick) → IsPossible loose s formula vars (a ++ t ∷ more)
-      → 0 < open_count loose s formula vars a
-  goes_on a t more possible = by_ticks a vars (goals_of s formula) possible.1.0 possible.1.1
+  pub goes_on : (a : List Tick) (t : Tick) (more : List Tick) → IsPossible loose s formula variable_count (a ++ t ∷ more)
+      → 0 < open_count loose s formula variable_count a
+  goes_on a t more possible = by_ticks a variable_count (goals_of s formula) possible.1.0 possible.1.1
     where
       by_ticks : (a : List Tick) (n : ℕ) (start : List Goal) (p : Pending) → open_after loose s n start (a ++ t ∷ more) ≡ Some p
           → 0 < left_of (open_after loose s n start a)
@@ -54,24 +54,24 @@ module _ (loose : Bool) (s : Setting) (formula : List Atom) (vars : ℕ) where
               rw (open_after-step loose s n g start u a closing is)
               (later closing (sym (open_after-step loose s n g start u (a ++ t ∷ more) closing is) ∙ now))
 
-  pub shape-before : (a b : List Tick) → IsPossible loose s formula vars b → ShapeBefore a b
-      → ShapeBefore (shape_of loose s formula vars a) (shape_of loose s formula vars b)
+  pub shape-before : (a b : List Tick) → IsPossible loose s formula variable_count b → ShapeBefore a b
+      → ShapeBefore (shape_of loose s formula variable_count a) (shape_of loose s formula variable_count b)
   shape-before a b possible before = padded-before a b _ _ possible.0 before (λ more t e. goes_on a t more (rw e at possible))
 
   -- and the lists keep the order of their shapes
-  pub unshape : (a b : List Tick) → IsPossible loose s formula vars a → IsPossible loose s formula vars b
-      → ShapeBefore (shape_of loose s formula vars a) (shape_of loose s formula vars b) → ShapeBefore a b
+  pub unshape : (a b : List Tick) → IsPossible loose s formula variable_count a → IsPossible loose s formula variable_count b
+      → ShapeBefore (shape_of loose s formula variable_count a) (shape_of loose s formula variable_count b) → ShapeBefore a b
   unshape a b possible_a possible_b before = go (shape_trichotomy a b)
     where
       go : ShapeBefore a b ⊎ (a ≡ b) ⊎ ShapeBefore b a → ShapeBefore a b
       go (inl h) = h
-      go (inr (inl e)) = absurd (ShapeBefore-irrefl (shape_of loose s formula vars b) (rw e at before))
+      go (inr (inl e)) = absurd (ShapeBefore-irrefl (shape_of loose s formula variable_count b) (rw e at before))
       go (inr (inr h)) =
-          absurd (ShapeBefore-irrefl (shape_of loose s formula vars a)
-          (ShapeBefore-trans (shape_of loose s formula vars a) (shape_of loose s formula vars b)
-          (shape_of loose s formula vars a) before (shape-before b a possible_a h)))
+          absurd (ShapeBefore-irrefl (shape_of loose s formula variable_count a)
+          (ShapeBefore-trans (shape_of loose s formula variable_count a) (shape_of loose s formula variable_count b)
+          (shape_of loose s formula variable_count a) before (shape-before b a possible_a h)))
 
   -- where no place is open, the shape is the list itself
-  pub finished-shape : (ticks : List Tick) → IsFinished loose s formula vars ticks → shape_of loose s formula vars ticks ≡ ticks
+  pub finished-shape : (ticks : List Tick) → IsFinished loose s formula variable_count ticks → shape_of loose s formula variable_count ticks ≡ ticks
   finished-shape ticks finished =
-      let left : open_count loose s formula vars ticks ≡ 0 = finished in ap (λ k. ticks ++ replicate k Open) left ∙ append-nil ticks
+      let left : open_count loose s formula variable_count ticks ≡ 0 = finished in ap (λ k. ticks ++ replicate k Open) left ∙ append-nil ticks

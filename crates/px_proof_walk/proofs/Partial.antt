@@ -1,6 +1,6 @@
 -- Lists of ticks that go on with open places to the end.
 use Rattle.px_base.specs.Answers.{some_same}
-use Rattle.px_proof_walk.proofs.Every.{all-front, all-rest}
+use Rattle.px_proof_walk.proofs.Every.{all-prefix, all-rest}
 use Rattle.std.proofs.Common.{◌≡◌, ℕ, zero, suc, ◌+◌, ◌<◌, Bool, Option, Some, None, List, [], ◌∷◌, ◌++◌, length, replicate, refl, ap, sym, ◌∙◌, arith}
 use Rattle.std.specs.Prelude.{IsSomeAnd}
 use Rattle.std.specs.List.{AllByRecursion}
@@ -20,11 +20,11 @@ use Rattle.px_proof_walk.proofs.Lifting.{open_after-step}
 
 -- an unfinished shape is a list of closings, and then open places
 pub record IsPadded (shape : List Tick) : Type 0 where
-  pub front : List Tick
+  pub prefix : List Tick
   pub count : ℕ
   pub some_open : 0 < count
-  pub is : shape ≡ front ++ replicate count Open
-  pub closing : AllByRecursion IsClosing front
+  pub is : shape ≡ prefix ++ replicate count Open
+  pub closing : AllByRecursion IsClosing prefix
 
 only-open : (shape : List Tick) → OnlyOpen shape → (k : ℕ) × (shape ≡ replicate k Open)
 only-open [] only = (0, refl)
@@ -37,7 +37,7 @@ only-open (Gap ∷ shape) only = absurd only
 padded-more : (t : Tick) (shape : List Tick) → IsClosing t → IsPadded shape → IsPadded (t ∷ shape)
 padded-more t shape closing rest =
     record {
-      front = t ∷ rest.front;
+      prefix = t ∷ rest.prefix;
       count = rest.count;
       some_open = rest.some_open;
       is = ap (λ ts. t ∷ ts) rest.is;
@@ -49,7 +49,7 @@ padded [] unfinished = absurd unfinished
 padded (Open ∷ shape) unfinished =
     let rest =
     only-open shape unfinished in record {
-      front = [];
+      prefix = [];
       count = suc rest.0;
       some_open = omega arith;
       is = ap (λ ts. Open ∷ ts) rest.1;
@@ -64,14 +64,14 @@ opens-only : (k : ℕ) → OnlyOpen (replicate k Open)
 opens-only zero = tt
 opens-only (suc k) = opens-only k
 
-pub padded-unfinished : (front : List Tick) (k : ℕ) → 0 < k → AllByRecursion IsClosing front → IsUnfinished (front ++ replicate k Open)
+pub padded-unfinished : (prefix : List Tick) (k : ℕ) → 0 < k → AllByRecursion IsClosing prefix → IsUnfinished (prefix ++ replicate k Open)
 padded-unfinished [] zero some closing = absurd (omega (arith, some))
 padded-unfinished [] (suc k) some closing = opens-only k
-padded-unfinished (Open ∷ front) k some closing = absurd closing.0
-padded-unfinished (Fact i ∷ front) k some closing = padded-unfinished front k some closing.1
-padded-unfinished (Anc i ∷ front) k some closing = padded-unfinished front k some closing.1
-padded-unfinished (Step number place ∷ front) k some closing = padded-unfinished front k some closing.1
-padded-unfinished (Gap ∷ front) k some closing = padded-unfinished front k some closing.1
+padded-unfinished (Open ∷ prefix) k some closing = absurd closing.0
+padded-unfinished (Fact i ∷ prefix) k some closing = padded-unfinished prefix k some closing.1
+padded-unfinished (Anc i ∷ prefix) k some closing = padded-unfinished prefix k some closing.1
+padded-unfinished (Step number place ∷ prefix) k some closing = padded-unfinished prefix k some closing.1
+padded-unfinished (Gap ∷ prefix) k some closing = padded-unfinished prefix k some closing.1
 
 module _ (loose : Bool) (s : Setting) where
   -- open places take one goal each
@@ -174,7 +174,7 @@ module _ (rules : Rules) (axioms : List Clause) where
         → ProvesEach (or_open rules) axioms path lits ps → ProvesEach rules axioms path lits ps
     closed-proves-each path [] none closing each = tt
     closed-proves-each path (lit ∷ lits) (also p ps) closing each = (
-      closed-proves path lit p (all-front IsClosing (ticks p) (ticks_of ps) closing) each.0,
+      closed-proves path lit p (all-prefix IsClosing (ticks p) (ticks_of ps) closing) each.0,
       closed-proves-each path lits ps (all-rest IsClosing (ticks p) (ticks_of ps) closing) each.1,
     )
     closed-proves-each path [] (also p ps) closing each = absurd each

@@ -132,16 +132,16 @@ module _ (loose : Bool) (s : Setting) where
           (found.0, open_after-step n g start t ticks first first_is ∙ found.1, found.2)
 
 -- a list of ticks is feasible only where each shorter one is
-pub feasible-shorter : (loose : Bool) (s : Setting) (formula : List Atom) (vars : ℕ) → IsPrefixClosed (IsFeasible loose s formula vars)
-feasible-shorter loose s formula vars ticks tick more (p, now, (objects, enough, below, solves)) =
+pub feasible-shorter : (loose : Bool) (s : Setting) (formula : List Atom) (variable_count : ℕ) → IsPrefixClosed (IsFeasible loose s formula variable_count)
+feasible-shorter loose s formula variable_count ticks tick more (p, now, (objects, enough, below, solves)) =
     let whole : ticks ++ tick ∷ more ≡ (ticks ++ tick ∷ []) ++ more = sym (append_assoc ticks (tick ∷ []) more) in
-    let front = open_after-prefix loose s (ticks ++ tick ∷ []) more vars (goals_of s formula) p (rw whole at now) in (
-      front.0,
-      front.1,
+    let prefix = open_after-prefix loose s (ticks ++ tick ∷ []) more variable_count (goals_of s formula) p (rw whole at now) in (
+      prefix.0,
+      prefix.1,
       (
         objects,
-        omega (arith, front.2, enough),
+        omega (arith, prefix.2, enough),
         below,
-        solves-prefix loose s (object_terms objects) (ticks ++ tick ∷ []) more vars (goals_of s formula) (rw whole at solves),
+        solves-prefix loose s (object_terms objects) (ticks ++ tick ∷ []) more variable_count (goals_of s formula) (rw whole at solves),
       ),
     )

@@ -18,38 +18,38 @@ use Rattle.px_terms.specs.Validity.{IsValid, IsAxiomOf, IsAtomOf, IsTermOf}
 use Rattle.px_proof_walk.specs.Scope.{IsAtomIn, IsLitIn, IsSetting}
 use Rattle.px_proof_walk.proofs.Every.{all-recursion, all-weaker}
 
-term-in : (problem : Problem) (vars : ℕ) (t : Term) → IsTermOf problem vars t → IsObjectOrParameter problem.objects vars t
-term-in problem vars (Obj n) h = h
-term-in problem vars (Var v) h = h
-term-in problem vars Any h = h
+term-in : (problem : Problem) (variable_count : ℕ) (t : Term) → IsTermOf problem variable_count t → IsObjectOrParameter problem.objects variable_count t
+term-in problem variable_count (Obj n) h = h
+term-in problem variable_count (Var v) h = h
+term-in problem variable_count Any h = h
 
-pub atom-in : (problem : Problem) (vars : ℕ) (atom : Atom) → IsAtomOf problem vars atom → IsAtomIn problem.objects vars atom
-atom-in problem vars atom h =
-    all-weaker (IsTermOf problem vars) (IsObjectOrParameter problem.objects vars) atom.args (term-in problem vars)
-    (all-recursion (IsTermOf problem vars) atom.args h.1)
+pub atom-in : (problem : Problem) (variable_count : ℕ) (atom : Atom) → IsAtomOf problem variable_count atom → IsAtomIn problem.objects variable_count atom
+atom-in problem variable_count atom h =
+    all-weaker (IsTermOf problem variable_count) (IsObjectOrParameter problem.objects variable_count) atom.args (term-in problem variable_count)
+    (all-recursion (IsTermOf problem variable_count) atom.args h.1)
 
 -- the atoms of a formula of the problem are in scope
-pub formula-in : (problem : Problem) (vars : ℕ) (formula : List Atom) → All (IsAtomOf problem vars) formula
-    → AllByRecursion (IsAtomIn problem.objects vars) formula
-formula-in problem vars formula all =
-    all-weaker (IsAtomOf problem vars) (IsAtomIn problem.objects vars) formula (atom-in problem vars)
-    (all-recursion (IsAtomOf problem vars) formula all)
+pub formula-in : (problem : Problem) (variable_count : ℕ) (formula : List Atom) → All (IsAtomOf problem variable_count) formula
+    → AllByRecursion (IsAtomIn problem.objects variable_count) formula
+formula-in problem variable_count formula all =
+    all-weaker (IsAtomOf problem variable_count) (IsAtomIn problem.objects variable_count) formula (atom-in problem variable_count)
+    (all-recursion (IsAtomOf problem variable_count) formula all)
 
-some_below : (objects vars : ℕ) → (objects ≡ 0 → vars ≡ 0) → 0 < vars → 0 < objects
-some_below zero vars never some = omega (arith, never refl, some)
-some_below (suc n) vars never some = omega arith
+some_below : (objects variable_count : ℕ) → (objects ≡ 0 → variable_count ≡ 0) → 0 < variable_count → 0 < objects
+some_below zero variable_count never some = omega (arith, never refl, some)
+some_below (suc n) variable_count never some = omega arith
 
 -- what is read of a valid problem and a model is as the walk asks
 pub setting_of-is : (problem : Problem) (atoms : List Atom) → IsValid problem → IsModel atoms → IsSetting (setting_of problem atoms)
 setting_of-is problem atoms valid model = record {
   clauses = λ number clause at.
       let one : IsAxiomOf problem clause = All-got (IsAxiomOf problem) problem.axioms number clause valid.axioms at in
-      all-weaker (λ (lit : Lit). IsAtomOf problem clause.vars lit.atom) (IsLitIn problem.objects clause.vars) clause.lits
-      (λ lit. atom-in problem clause.vars lit.atom)
-      (all-recursion (λ (lit : Lit). IsAtomOf problem clause.vars lit.atom) clause.lits one.lits);
+      all-weaker (λ (lit : Lit). IsAtomOf problem clause.variable_count lit.atom) (IsLitIn problem.objects clause.variable_count) clause.lits
+      (λ lit. atom-in problem clause.variable_count lit.atom)
+      (all-recursion (λ (lit : Lit). IsAtomOf problem clause.variable_count lit.atom) clause.lits one.lits);
   facts = λ i atom at. all-recursion IsObject atom.args (All-got IsGround atoms i atom model.all_ground at);
   some_height = valid.height.0;
   some_object =
-      λ number clause at. some_below problem.objects clause.vars
-      (λ none_there. All-got (λ (c : Clause). c.vars ≡ 0) problem.axioms number clause (valid.no_objects none_there).1 at);
+      λ number clause at. some_below problem.objects clause.variable_count
+      (λ none_there. All-got (λ (c : Clause). c.variable_count ≡ 0) problem.axioms number clause (valid.no_objects none_there).1 at);
 }

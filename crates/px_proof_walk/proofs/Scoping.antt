@@ -72,43 +72,43 @@ module _ (s : Setting) (valid : IsSetting s) where
       closing-of_terms loose s valid IsPlainBelow (plain-terms s.objects) n goal over tick closing (facts-plain tick) is
 
 -- a term over the first variables doesn't read the later ones
-pub term-front : (xs ys : List Term) (n : ℕ) → n ≤ length xs → (t : Term) → IsPlainBelow n t → substitute (xs ++ ys) t ≡ substitute xs t
-term-front xs ys n long (Obj o) below = refl
-term-front xs ys n long Any below = refl
-term-front xs ys n long (Var v) below = go xs v (omega (arith, long, below))
+pub term-prefix : (xs ys : List Term) (n : ℕ) → n ≤ length xs → (t : Term) → IsPlainBelow n t → substitute (xs ++ ys) t ≡ substitute xs t
+term-prefix xs ys n long (Obj o) below = refl
+term-prefix xs ys n long Any below = refl
+term-prefix xs ys n long (Var v) below = go xs v (omega (arith, long, below))
   where
     go : (xs : List Term) (v : ℕ) → v < length xs → slice_index_or (xs ++ ys) v Any ≡ slice_index_or xs v Any
     go [] v within = absurd (omega (arith, within))
     go (x ∷ xs) zero within = refl
     go (x ∷ xs) (suc v) within = go xs v (omega (arith, within))
 
-pub args-front : (xs ys : List Term) (n : ℕ) → n ≤ length xs → (ts : List Term) → AllByRecursion (IsPlainBelow n) ts
+pub args-prefix : (xs ys : List Term) (n : ℕ) → n ≤ length xs → (ts : List Term) → AllByRecursion (IsPlainBelow n) ts
     → map (substitute (xs ++ ys)) ts ≡ map (substitute xs) ts
-args-front xs ys n long [] over = refl
-args-front xs ys n long (t ∷ ts) over = rw (term-front xs ys n long t over.0, args-front xs ys n long ts over.1) refl
+args-prefix xs ys n long [] over = refl
+args-prefix xs ys n long (t ∷ ts) over = rw (term-prefix xs ys n long t over.0, args-prefix xs ys n long ts over.1) refl
 
-pub lit-front : (xs ys : List Term) (n : ℕ) → n ≤ length xs → (l : Lit) → IsLitOver n l
+pub lit-prefix : (xs ys : List Term) (n : ℕ) → n ≤ length xs → (l : Lit) → IsLitOver n l
     → substitute_literal (xs ++ ys) l ≡ substitute_literal xs l
-lit-front xs ys n long l over = rw (args-front xs ys n long l.atom.args over) refl
+lit-prefix xs ys n long l over = rw (args-prefix xs ys n long l.atom.args over) refl
 
 module _ (loose : Bool) (s : Setting) (valid : IsSetting s) (xs ys : List Term) where
   -- a solution's front solves, as far as there are variables
-  pub solves-front : (ticks : List Tick) (n : ℕ) (goals : List Goal) (p : Pending) → AllByRecursion (IsGoalOver n) goals
+  pub solves-prefix : (ticks : List Tick) (n : ℕ) (goals : List Goal) (p : Pending) → AllByRecursion (IsGoalOver n) goals
       → open_after loose s n goals ticks ≡ Some p → p.variables ≤ length xs
       → Solves loose s (xs ++ ys) n goals ticks → Solves loose s xs n goals ticks
-  solves-front ticks n goals p over =
+  solves-prefix ticks n goals p over =
       solves-moved loose s valid IsPlainBelow (plain-terms s.objects) (xs ++ ys) xs (length xs)
-      (λ m long a b a_over b_over same. sym (lit-front xs ys m long a a_over) ∙ same ∙ lit-front xs ys m long b b_over)
+      (λ m long a b a_over b_over same. sym (lit-prefix xs ys m long a a_over) ∙ same ∙ lit-prefix xs ys m long b b_over)
       ticks n goals p (all-plain s valid ticks) over
 
 -- the goals of a formula are over its variables
-pub goals-over : (s : Setting) (vars : ℕ) (formula : List Atom) → AllByRecursion (IsAtomIn s.objects vars) formula
-    → AllByRecursion (IsGoalOver vars) (goals_of s formula)
-goals-over s vars [] scoped = tt
-goals-over s vars (a ∷ formula) scoped = (
+pub goals-over : (s : Setting) (variable_count : ℕ) (formula : List Atom) → AllByRecursion (IsAtomIn s.objects variable_count) formula
+    → AllByRecursion (IsGoalOver variable_count) (goals_of s formula)
+goals-over s variable_count [] scoped = tt
+goals-over s variable_count (a ∷ formula) scoped = (
   record {
-    lit = all-weaker (IsObjectOrParameter s.objects vars) (IsPlainBelow vars) a.args (scoped-below s.objects vars) scoped.0;
+    lit = all-weaker (IsObjectOrParameter s.objects variable_count) (IsPlainBelow variable_count) a.args (scoped-below s.objects variable_count) scoped.0;
     path = tt;
   },
-  goals-over s vars formula scoped.1,
+  goals-over s variable_count formula scoped.1,
 )

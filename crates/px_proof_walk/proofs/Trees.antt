@@ -21,7 +21,7 @@ use Rattle.px_proof.specs.Shapes.{ticks, ticks_of}
 use Rattle.px_terms.specs.Language.{IsObjectBelow, object_of}
 use Rattle.px_question.specs.Settings.{Setting, proofs_in}
 use Rattle.px_question.specs.Answers.{object_terms, choices_of, all_choices_of}
-use Rattle.px_proof_walk.specs.Pending.{Goal, Closing, Runs, vars_of, closing_of, by_fact, by_ancestor, by_step, by_literal, has_room, goals_below}
+use Rattle.px_proof_walk.specs.Pending.{Goal, Closing, Runs, variable_count_of, closing_of, by_fact, by_ancestor, by_step, by_literal, has_room, goals_below}
 
 -- which closings the walk makes
 abbrev pub rules_of : Bool → Setting → Rules
@@ -205,7 +205,7 @@ module _ (loose : Bool) (s : Setting) where
         all_choices_of (joined parts ps),
         append_assoc (map object_of theta) (all_choices_of parts) (all_choices_of ps)
             ∙ ap (λ xs. map object_of theta ++ xs) (sym (choices-joined parts ps)),
-        length-map theta object_of ∙ uses.terms ∙ sym (ap vars_of uses.axiom_at),
+        length-map theta object_of ∙ uses.terms ∙ sym (ap variable_count_of uses.axiom_at),
         objects-below s.objects theta uses.choices,
         rw (same, step_closing goal number theta place clause uses room) (refl, rw (ticks_of-joined parts ps) at later),
       )
@@ -322,7 +322,7 @@ module _ (loose : Bool) (s : Setting) where
       let is = step_inversion goal goals ts rest (object_terms theta) place (slice_get s.axioms number) closes in
       let uses : UsesClause (IsObjectBelow s.objects) s.axioms goal.lit number (object_terms theta) place is.0 = record {
         axiom_at = is.1;
-        terms = length-map theta (λ o. Obj o) ∙ long ∙ ap vars_of is.1;
+        terms = length-map theta (λ o. Obj o) ∙ long ∙ ap variable_count_of is.1;
         choices = All-map (IsObjectBelow s.objects) (λ o. Obj o) theta below;
         literal_at = is.2.1;
       } in

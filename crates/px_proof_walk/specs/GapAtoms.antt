@@ -35,17 +35,17 @@ variables_in None = 0
 variables_in (Some p) = p.variables
 
 -- with these values for its variables, the finished list of ticks gives the gap list of these objects and atoms
-pub record GivesUnder (s : Setting) (formula : List Atom) (vars : ℕ) (ticks : List Tick) (objects : List ℕ) (gaps : List Atom)
+pub record GivesUnder (s : Setting) (formula : List Atom) (variable_count : ℕ) (ticks : List Tick) (objects : List ℕ) (gaps : List Atom)
     (values : List ℕ) : Type 0 where
-  pub count : length values ≡ variables_in (open_after true s vars (goals_of s formula) ticks)
+  pub count : length values ≡ variables_in (open_after true s variable_count (goals_of s formula) ticks)
   pub below : All (λ n. n < s.objects) values
-  pub solves : Solves true s (object_terms values) vars (goals_of s formula) ticks
-  pub chosen : objects ≡ take vars values
+  pub solves : Solves true s (object_terms values) variable_count (goals_of s formula) ticks
+  pub chosen : objects ≡ take variable_count values
   pub same : (atom : Atom) → Contains gaps atom ↔ Contains (map (substitute_atom (object_terms values))
-      (gap_atoms true s vars (goals_of s formula) ticks)) atom
+      (gap_atoms true s variable_count (goals_of s formula) ticks)) atom
 
 -- the list of ticks is a finished one of loose gap proofs, and gives this gap list under some values
 abbrev pub Gives : Setting → List Atom → ℕ → List Tick → List ℕ → List Atom → Type 0
-Gives s formula vars ticks objects gaps =
-    IsPossible true s formula vars ticks × IsFinished true s formula vars ticks
-    × ((values : List ℕ) × GivesUnder s formula vars ticks objects gaps values)
+Gives s formula variable_count ticks objects gaps =
+    IsPossible true s formula variable_count ticks × IsFinished true s formula variable_count ticks
+    × ((values : List ℕ) × GivesUnder s formula variable_count ticks objects gaps values)

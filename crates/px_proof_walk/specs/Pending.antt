@@ -25,15 +25,15 @@ pub record Closing : Type 0 where
   pub parts : List Goal
 
 -- the variables of the clause, where there is one
-abbrev pub vars_of : Option Clause → ℕ
-vars_of None = 0
-vars_of (Some clause) = clause.vars
+abbrev pub variable_count_of : Option Clause → ℕ
+variable_count_of None = 0
+variable_count_of (Some clause) = clause.variable_count
 
 -- the new variables that the tick brings: those of the clause that it uses
 abbrev pub fresh_of : Setting → Tick → ℕ
 fresh_of s (Fact i) = 0
 fresh_of s (Anc i) = 0
-fresh_of s (Step number place) = vars_of (slice_get s.axioms number)
+fresh_of s (Step number place) = variable_count_of (slice_get s.axioms number)
 fresh_of s Gap = 0
 fresh_of s Open = 0
 
@@ -106,10 +106,10 @@ goals_of s formula = map (λ atom. record { lit = positive_of atom; path = []; b
 
 -- some objects make the closings right
 abbrev pub IsFeasible : Bool → Setting → List Atom → ℕ → List Tick → Type 0
-IsFeasible loose s formula vars ticks =
-    (p : Pending) × (open_after loose s vars (goals_of s formula) ticks ≡ Some p) ×
+IsFeasible loose s formula variable_count ticks =
+    (p : Pending) × (open_after loose s variable_count (goals_of s formula) ticks ≡ Some p) ×
     ((objects : List ℕ) × (p.variables ≤ length objects) × All (λ n. n < s.objects) objects
-    × Solves loose s (object_terms objects) vars (goals_of s formula) ticks)
+    × Solves loose s (object_terms objects) variable_count (goals_of s formula) ticks)
 
 -- under these objects the ticks close the goals rightly, without variables: the objects of each step are chosen at the step
 abbrev pub Runs : Bool → Setting → List Goal → List Tick → List ℕ → Type 0

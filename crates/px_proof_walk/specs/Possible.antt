@@ -23,7 +23,7 @@ IsClosing Gap = Unit {0}
 
 -- the ticks close places, and some objects make the closings right
 abbrev pub IsPossible : Bool → Setting → List Atom → ℕ → List Tick → Type 0
-IsPossible loose s formula vars ticks = AllByRecursion IsClosing ticks × IsFeasible loose s formula vars ticks
+IsPossible loose s formula variable_count ticks = AllByRecursion IsClosing ticks × IsFeasible loose s formula variable_count ticks
 
 abbrev pub left_of : Option Pending → ℕ
 left_of None = 0
@@ -31,10 +31,10 @@ left_of (Some p) = length p.goals
 
 -- how many places are open after the ticks
 abbrev pub open_count : Bool → Setting → List Atom → ℕ → List Tick → ℕ
-open_count loose s formula vars ticks = left_of (open_after loose s vars (goals_of s formula) ticks)
+open_count loose s formula variable_count ticks = left_of (open_after loose s variable_count (goals_of s formula) ticks)
 
 abbrev pub IsFinished : Bool → Setting → List Atom → ℕ → List Tick → Type 0
-IsFinished loose s formula vars ticks = open_count loose s formula vars ticks ≡ 0
+IsFinished loose s formula variable_count ticks = open_count loose s formula variable_count ticks ≡ 0
 
 -- the ticks, and a tick for each open place
 abbrev pub shape_with : List Tick → ℕ → List Tick
@@ -42,8 +42,8 @@ shape_with ticks places = ticks ++ replicate places Open
 
 -- the shape has a tick for each place that is open after the ticks
 abbrev pub shape_of : Bool → Setting → List Atom → ℕ → List Tick → List Tick
-shape_of loose s formula vars ticks = shape_with ticks (open_count loose s formula vars ticks)
+shape_of loose s formula variable_count ticks = shape_with ticks (open_count loose s formula variable_count ticks)
 
 -- possible, and some place is open
 abbrev pub IsGoingOn : Bool → Setting → List Atom → ℕ → List Tick → Type 0
-IsGoingOn loose s formula vars ticks = IsPossible loose s formula vars ticks × (0 < open_count loose s formula vars ticks)
+IsGoingOn loose s formula variable_count ticks = IsPossible loose s formula variable_count ticks × (0 < open_count loose s formula variable_count ticks)

@@ -26,19 +26,19 @@ pub record IsClosingOf (IsTerm : Term → Type 0) (closing : Closing) : Type 0 w
 
 -- the arguments are objects below the first number, or variables below the second
 abbrev pub IsAtomIn : ℕ → ℕ → Atom → Type 0
-IsAtomIn objects vars atom = AllByRecursion (IsObjectOrParameter objects vars) atom.args
+IsAtomIn objects variable_count atom = AllByRecursion (IsObjectOrParameter objects variable_count) atom.args
 
 abbrev pub IsLitIn : ℕ → ℕ → Lit → Type 0
-IsLitIn objects vars = IsLitOf (IsObjectOrParameter objects vars)
+IsLitIn objects variable_count = IsLitOf (IsObjectOrParameter objects variable_count)
 
 abbrev pub IsGoalIn : ℕ → ℕ → Goal → Type 0
-IsGoalIn objects vars = HasGoalTerms (IsObjectOrParameter objects vars)
+IsGoalIn objects variable_count = HasGoalTerms (IsObjectOrParameter objects variable_count)
 
 -- axioms have the problem's objects and their own variables, facts any objects and no variable; a proof may have some height, and
 -- there is an object where an axiom has a variable
 pub record IsSetting (s : Setting) : Type 0 where
   pub clauses : (number : ℕ) (clause : Clause) → slice_get s.axioms number ≡ Some clause
-      → AllByRecursion (IsLitIn s.objects clause.vars) clause.lits
+      → AllByRecursion (IsLitIn s.objects clause.variable_count) clause.lits
   pub facts : (i : ℕ) (atom : Atom) → slice_get s.facts i ≡ Some atom → AllByRecursion IsObject atom.args
   pub some_height : 0 < s.height
-  pub some_object : (number : ℕ) (clause : Clause) → slice_get s.axioms number ≡ Some clause → 0 < clause.vars → 0 < s.objects
+  pub some_object : (number : ℕ) (clause : Clause) → slice_get s.axioms number ≡ Some clause → 0 < clause.variable_count → 0 < s.objects

@@ -33,7 +33,7 @@ use Rattle.px_terms.specs.declared.term.Term.TheVariants.{Obj, Var, Any}
 use Rattle.px_unify.specs.Changes.{variables_of}
 use Rattle.px_proof_walk.specs.GapAtoms.{variables_in}
 use Rattle.px_terms.specs.Substitution.{variables_from}
-use Rattle.px_proof_walk.specs.Pending.{Goal, Closing, Pending, Solves, open_after, closing_at, fresh_of, goals_of, by_fact, by_step, vars_of}
+use Rattle.px_proof_walk.specs.Pending.{Goal, Closing, Pending, Solves, open_after, closing_at, fresh_of, goals_of, by_fact, by_step, variable_count_of}
 use Rattle.px_proof_walk.specs.Possible.{IsClosing, IsFinished, IsPossible}
 use Rattle.px_proof_walk.specs.Search.{ComesFirst}
 use Rattle.px_proof_walk.specs.Values.{AreValuesOfChanges, value_of}
@@ -47,14 +47,14 @@ use Rattle.px_proof_walk.proofs.Questions.{formula-in, setting_of-is}
 use Rattle.px_proof_walk.proofs.Values.{values-least, zero_at}
 
 -- a valid problem, a formula of it and a model are as the walk asks
-pub asked-of : (problem : Problem) (atoms formula : List Atom) (vars : ℕ) → IsValid problem → IsModel atoms
-    → All (IsAtomOf problem vars) formula → vars ≤ most_gap_variables → (0 < vars → 0 < problem.objects)
-    → IsProperQuestion (setting_of problem atoms) formula vars
-asked-of problem atoms formula vars valid model scope few some = record {
+pub asked-of : (problem : Problem) (atoms formula : List Atom) (variable_count : ℕ) → IsValid problem → IsModel atoms
+    → All (IsAtomOf problem variable_count) formula → variable_count ≤ most_gap_variables → (0 < variable_count → 0 < problem.objects)
+    → IsProperQuestion (setting_of problem atoms) formula variable_count
+asked-of problem atoms formula variable_count valid model scope few some = record {
   setting = setting_of-is problem atoms valid model;
-  scope = formula-in problem vars formula scope;
+  scope = formula-in problem variable_count formula scope;
   some_object = some;
-  clauses = λ k d within. (valid.axioms k d within).vars;
+  clauses = λ k d within. (valid.axioms k d within).variable_count;
   ascending = model.ascending;
   short = omega (arith, model.short);
   few_variables = few;
@@ -91,7 +91,7 @@ module _ (s : Setting) where
   tick-there n goal (Fact i) closing closes is = fact-there i (slice_get s.facts i) closing refl is
   tick-there n goal (Anc i) closing closes is = tt
   tick-there n goal (Step number place) closing closes is =
-      step-there goal (variables_from n (vars_of (slice_get s.axioms number))) number place (slice_get s.axioms number) closing refl is
+      step-there goal (variables_from n (variable_count_of (slice_get s.axioms number))) number place (slice_get s.axioms number) closing refl is
   tick-there n goal Gap closing closes is = absurd (cc)
   tick-there n goal Open closing closes is = closes
 
@@ -116,19 +116,19 @@ zero-of n (Obj k) = refl
 zero-of n (Var w) = sym (zero_at n w)
 zero-of n Any = refl
 
-module _ (s : Setting) (formula : List Atom) (vars : ℕ) (ticks : List Tick) (v : ProofStateValue) (asked : IsProperQuestion s formula vars)
-    (sound : IsSound false s formula vars ticks v) where
-  pub sum-is : variables_of v.changes ≡ vars + fresh_sum s ticks
+module _ (s : Setting) (formula : List Atom) (variable_count : ℕ) (ticks : List Tick) (v : ProofStateValue) (asked : IsProperQuestion s formula variable_count)
+    (sound : IsSound false s formula variable_count ticks v) where
+  pub sum-is : variables_of v.changes ≡ variable_count + fresh_sum s ticks
   sum-is =
-      variables-sum false s ticks vars (goals_of s formula)
+      variables-sum false s ticks variable_count (goals_of s formula)
       (record { variables = variables_of v.changes; goals = goals_at v.goals v.first }) sound.stands.pending
 
   pub all-there : AllByRecursion (IsThere s) ticks
   all-there =
-      ticks-there s ticks vars (goals_of s formula)
+      ticks-there s ticks variable_count (goals_of s formula)
       (record { variables = variables_of v.changes; goals = goals_at v.goals v.first }) sound.closing sound.stands.pending
 
-  module _ (first : ComesFirst (IsPossible false s formula vars) (IsFinished false s formula vars) s.limit ticks) (objects : List ℕ)
+  module _ (first : ComesFirst (IsPossible false s formula variable_count) (IsFinished false s formula variable_count) s.limit ticks) (objects : List ℕ)
       (least : AreLeast v.changes objects) where
     values : AreValuesOfChanges v.changes (replicate (variables_of v.changes) 0) objects
     values =
@@ -138,93 +138,93 @@ module _ (s : Setting) (formula : List Atom) (vars : ℕ) (ticks : List Tick) (v
               (at.root, at.same, at.is_root, at.object_is ∙ zero-of (variables_of v.changes) at.root);
         }
 
-    count : variables_of v.changes ≡ variables_in (open_after false s vars (goals_of s formula) ticks)
+    count : variables_of v.changes ≡ variables_in (open_after false s variable_count (goals_of s formula) ticks)
     count = sym (ap variables_in sound.stands.pending)
 
-    solved : All (λ n. n < s.objects) objects × Solves false s (object_terms objects) vars (goals_of s formula) ticks
-        × (length objects ≡ variables_in (open_after false s vars (goals_of s formula) ticks))
+    solved : All (λ n. n < s.objects) objects × Solves false s (object_terms objects) variable_count (goals_of s formula) ticks
+        × (length objects ≡ variables_in (open_after false s variable_count (goals_of s formula) ticks))
     solved =
-        values-solve false s formula vars ticks first.possible v.changes sound.stands.matched sound.solvable count
+        values-solve false s formula variable_count ticks first.possible v.changes sound.stands.matched sound.solvable count
         (replicate (variables_of v.changes) 0) objects (length-replicate (variables_of v.changes) 0)
-        (zero-below false s formula vars ticks first.possible v.changes sound.stands.matched sound.solvable count (variables_of v.changes))
+        (zero-below false s formula variable_count ticks first.possible v.changes sound.stands.matched sound.solvable count (variables_of v.changes))
         values
 
-    parted : AreParted false s formula vars ticks objects
-    parted = values-parted false s formula vars ticks objects first.possible first.finished solved.2
+    parted : AreParted false s formula variable_count ticks objects
+    parted = values-parted false s formula variable_count ticks objects first.possible first.finished solved.2
 
-    found : (ps : Derivations) × IsList (or_open (proofs_in s)) s formula vars (take vars objects) ps × (ticks_of ps ≡ ticks)
-        × (all_choices_of ps ≡ drop vars objects)
+    found : (ps : Derivations) × IsList (or_open (proofs_in s)) s formula variable_count (take variable_count objects) ps × (ticks_of ps ≡ ticks)
+        × (all_choices_of ps ≡ drop variable_count objects)
     found =
-        list-solved false s asked.setting formula vars asked.scope ticks (take vars objects) (drop vars objects) parted.count
-        (All-take (λ n. n < s.objects) vars objects solved.0) (All-drop (λ n. n < s.objects) vars objects solved.0) parted.ends
-        (subst (λ (os : List ℕ). Solves false s (object_terms os) vars (goals_of s formula) ticks) parted.whole solved.1)
+        list-solved false s asked.setting formula variable_count asked.scope ticks (take variable_count objects) (drop variable_count objects) parted.count
+        (All-take (λ n. n < s.objects) variable_count objects solved.0) (All-drop (λ n. n < s.objects) variable_count objects solved.0) parted.ends
+        (subst (λ (os : List ℕ). Solves false s (object_terms os) variable_count (goals_of s formula) ticks) parted.whole solved.1)
 
-    finished : IsList (proofs_in s) s formula vars (take vars objects) found.0
+    finished : IsList (proofs_in s) s formula variable_count (take variable_count objects) found.0
     finished = record {
       count = found.1.count;
       below = found.1.below;
       proved =
-          closed-proves-each (proofs_in s) s.axioms [] (literals_of formula (take vars objects)) found.0
+          closed-proves-each (proofs_in s) s.axioms [] (literals_of formula (take variable_count objects)) found.0
           (rw found.2 sound.closing) found.1.proved;
       low = found.1.low;
     }
 
-    all_objects : take vars objects ++ all_choices_of found.0 ≡ objects
-    all_objects = ap (λ ns. take vars objects ++ ns) found.3 ∙ sym parted.whole
+    all_objects : take variable_count objects ++ all_choices_of found.0 ≡ objects
+    all_objects = ap (λ ns. take variable_count objects ++ ns) found.3 ∙ sym parted.whole
 
-    rest : drop (length objects - fresh_sum s ticks) objects ≡ drop vars objects
+    rest : drop (length objects - fresh_sum s ticks) objects ≡ drop variable_count objects
     rest = ap (λ n. drop n objects) (omega (arith, least.long, sum-is))
 
     made : derivations (built s ticks (drop (length objects - fresh_sum s ticks) objects)) ≡ found.0
     made =
         ap (λ ns. derivations (built s ticks ns)) (rest ∙ sym found.3)
         ∙ ap (λ ts. derivations (built s ts (all_choices_of found.0))) (sym found.2)
-        ∙ built-is s (literals_of formula (take vars objects)) found.0 finished.proved
+        ∙ built-is s (literals_of formula (take variable_count objects)) found.0 finished.proved
 
     -- the answer is the first one
-    pub answer-first : (answered : List ℕ) (proofs : List Derivation) → answered ≡ take vars objects
-        → proofs ≡ built s ticks (drop (length objects - fresh_sum s ticks) objects) → IsFirst s formula vars answered (derivations proofs)
+    pub answer-first : (answered : List ℕ) (proofs : List Derivation) → answered ≡ take variable_count objects
+        → proofs ≡ built s ticks (drop (length objects - fresh_sum s ticks) objects) → IsFirst s formula variable_count answered (derivations proofs)
     answer-first answered proofs objects_are proofs_are =
         rw (objects_are, proofs_are, made)
-        (first-is s asked.setting formula vars asked.scope ticks (take vars objects) found.0 first finished found.2
+        (first-is s asked.setting formula variable_count asked.scope ticks (take variable_count objects) found.0 first finished found.2
         (λ others solves long. subst (λ (ns : List ℕ). AtMost ns others) (sym all_objects)
         (values-least v.changes (variables_of v.changes) objects others values (long ∙ ap length all_objects)
         ((sound.stands.matched (object_terms others)).1 solves))))
 
 -- the same of the state itself
-module _ (loose : Bool) (s : Setting) (formula : List Atom) (vars : ℕ) (v : ProofStateValue) (strict : loose ≡ false)
-    (standing : IsStanding loose s formula vars v) (choices : List Choice) (are : reverse choices ≡ v.choices) where
+module _ (loose : Bool) (s : Setting) (formula : List Atom) (variable_count : ℕ) (v : ProofStateValue) (strict : loose ≡ false)
+    (standing : IsStanding loose s formula variable_count v) (choices : List Choice) (are : reverse choices ≡ v.choices) where
   ticks-same : ticks_in v.choices ≡ map (λ (c : Choice). c.tick) choices
   ticks-same = ap ticks_in (sym are) ∙ ticks-map choices
 
-  sound : IsSound false s formula vars (map (λ (c : Choice). c.tick) choices) v
+  sound : IsSound false s formula variable_count (map (λ (c : Choice). c.tick) choices) v
   sound =
-      subst (λ (ts : List Tick). IsSound false s formula vars ts v) ticks-same
-      (subst (λ (b : Bool). IsSound b s formula vars (ticks_in v.choices) v) strict (standing-sound loose s formula vars v standing))
+      subst (λ (ts : List Tick). IsSound false s formula variable_count ts v) ticks-same
+      (subst (λ (b : Bool). IsSound b s formula variable_count (ticks_in v.choices) v) strict (standing-sound loose s formula variable_count v standing))
 
   pub given-there : AllByRecursion (IsThere s) (map (λ (c : Choice). c.tick) choices)
-  given-there = all-there s formula vars (map (λ (c : Choice). c.tick) choices) v standing.asked sound
+  given-there = all-there s formula variable_count (map (λ (c : Choice). c.tick) choices) v standing.asked sound
 
   pub given-room : (changes : List Change) (objects listed : List ℕ) → changes ≡ v.changes → AreLeast changes objects → listed ≡ objects
       → fresh_sum s (map (λ (c : Choice). c.tick) choices) ≤ length listed
   given-room changes objects listed changes_are least listed_are =
       let long : length objects ≡ variables_of v.changes = least.long ∙ ap variables_of changes_are in
-      omega (arith, long, ap length listed_are, sum-is s formula vars (map (λ (c : Choice). c.tick) choices) v standing.asked sound)
+      omega (arith, long, ap length listed_are, sum-is s formula variable_count (map (λ (c : Choice). c.tick) choices) v standing.asked sound)
 
   pub given-first : (limit : ℕ) → limit ≡ s.limit
-      → ComesFirst (IsPossible loose s formula vars) (IsFinished loose s formula vars) limit (ticks_in v.choices)
+      → ComesFirst (IsPossible loose s formula variable_count) (IsFinished loose s formula variable_count) limit (ticks_in v.choices)
       → (changes : List Change) (objects listed : List ℕ) → changes ≡ v.changes → AreLeast changes objects → listed ≡ objects
-      → (answered : List ℕ) (proofs made : List Derivation) → answered ≡ take vars objects → proofs ≡ made
+      → (answered : List ℕ) (proofs made : List Derivation) → answered ≡ take variable_count objects → proofs ≡ made
       → made ≡ built s (map (λ (c : Choice). c.tick) choices)
       (drop (length listed - fresh_sum s (map (λ (c : Choice). c.tick) choices)) listed)
-      → IsFirst s formula vars answered (derivations proofs)
+      → IsFirst s formula variable_count answered (derivations proofs)
   given-first limit limit_is first changes objects listed changes_are least listed_are answered proofs others objects_are proofs_are made_is
       =
-      answer-first s formula vars (map (λ (c : Choice). c.tick) choices) v standing.asked sound
-      (subst (λ (b : Bool). ComesFirst (IsPossible b s formula vars) (IsFinished b s formula vars) s.limit
+      answer-first s formula variable_count (map (λ (c : Choice). c.tick) choices) v standing.asked sound
+      (subst (λ (b : Bool). ComesFirst (IsPossible b s formula variable_count) (IsFinished b s formula variable_count) s.limit
       (map (λ (c : Choice). c.tick) choices)) strict
-      (subst (λ (ts : List Tick). ComesFirst (IsPossible loose s formula vars) (IsFinished loose s formula vars) s.limit ts) ticks-same
-      (subst (λ (n : ℕ). ComesFirst (IsPossible loose s formula vars) (IsFinished loose s formula vars) n (ticks_in v.choices)) limit_is
+      (subst (λ (ts : List Tick). ComesFirst (IsPossible loose s formula variable_count) (IsFinished loose s formula variable_count) s.limit ts) ticks-same
+      (subst (λ (n : ℕ). ComesFirst (IsPossible loose s formula variable_count) (IsFinished loose s formula variable_count) n (ticks_in v.choices)) limit_is
       first)))
       objects (subst (λ (cs : List Change). AreLeast cs objects) changes_are least) answered proofs objects_are
       (proofs_are ∙ made_is ∙ ap (λ ns. built s (map (λ (c : Choice). c.tick) choices)

@@ -53,54 +53,54 @@ ground-same tau (Obj o ∷ ts) ground = ap (λ ys. Obj o ∷ ys) (ground-same ta
 ground-same tau (Var v ∷ ts) ground = absurd ground.0
 ground-same tau (Any ∷ ts) ground = absurd ground.0
 
-module _ (loose : Bool) (s : Setting) (valid : IsSetting s) (formula : List Atom) (vars : ℕ) (ticks : List Tick) (old new : ProofStateValue)
-    (stands : Stands loose s formula vars ticks old)
+module _ (loose : Bool) (s : Setting) (valid : IsSetting s) (formula : List Atom) (variable_count : ℕ) (ticks : List Tick) (old new : ProofStateValue)
+    (stands : Stands loose s formula variable_count ticks old)
     (g : OpenGoal) (goal : Goal) (goals : List Goal) (open_is : goals_at old.goals old.first ≡ goal ∷ goals)
     (rest_is : goals_at old.goals g.next ≡ goals) (lit_is : g.lit ≡ goal.lit) where
-  now : open_after loose s vars (goals_of s formula) ticks ≡ Some (record { variables = variables_of old.changes; goals = goal ∷ goals })
+  now : open_after loose s variable_count (goals_of s formula) ticks ≡ Some (record { variables = variables_of old.changes; goals = goal ∷ goals })
   now = rw (← open_is) stands.pending
 
   -- a fact that closes the goal leaves what stands
-  pub fact-stands : (k : ℕ) → ComesFact s.objects s.facts old g k new → Stands loose s formula vars (ticks ++ Fact k ∷ []) new
+  pub fact-stands : (k : ℕ) → ComesFact s.objects s.facts old g k new → Stands loose s formula variable_count (ticks ++ Fact k ∷ []) new
   fact-stands k (fact, at, below, closes) =
       let is : closing_at loose s (variables_of old.changes) goal (Fact k) ≡ Some (record { equal_to = positive_of fact; parts = [] }) =
       rw at refl in
-      stands-closed loose s formula vars ticks old new stands (Fact k) goal goals (positive_of fact) g.next open_is rest_is is refl
+      stands-closed loose s formula variable_count ticks old new stands (Fact k) goal goals (positive_of fact) g.next open_is rest_is is refl
       (rw lit_is at closes)
 
-  pub ancestor-stands : (k : ℕ) → ComesAncestor goal.path old g k new → Stands loose s formula vars (ticks ++ Anc k ∷ []) new
+  pub ancestor-stands : (k : ℕ) → ComesAncestor goal.path old g k new → Stands loose s formula variable_count (ticks ++ Anc k ∷ []) new
   ancestor-stands k (above, at, closes) =
       let is : closing_at loose s (variables_of old.changes) goal (Anc k) ≡ Some (record { equal_to = complement_of above; parts = [] }) =
       rw at refl in
-      stands-closed loose s formula vars ticks old new stands (Anc k) goal goals (complement_of above) g.next open_is rest_is is refl
+      stands-closed loose s formula variable_count ticks old new stands (Anc k) goal goals (complement_of above) g.next open_is rest_is is refl
       (rw lit_is at closes)
 
   -- and one that never does leads nowhere
-  pub ancestor-nowhere : (k : ℕ) → NeverAncestor goal.path old g k → ¬ IsFeasible loose s formula vars (ticks ++ Anc k ∷ [])
+  pub ancestor-nowhere : (k : ℕ) → NeverAncestor goal.path old g k → ¬ IsFeasible loose s formula variable_count (ticks ++ Anc k ∷ [])
   ancestor-nowhere k never = go (slice_get goal.path k) refl
     where
-      go : (o : Option Lit) → slice_get goal.path k ≡ o → ¬ IsFeasible loose s formula vars (ticks ++ Anc k ∷ [])
-      go None at = none-at loose s formula vars ticks old old stands (Anc k) goal goals open_is (rw at refl)
+      go : (o : Option Lit) → slice_get goal.path k ≡ o → ¬ IsFeasible loose s formula variable_count (ticks ++ Anc k ∷ [])
+      go None at = none-at loose s formula variable_count ticks old old stands (Anc k) goal goals open_is (rw at refl)
       go (Some above) at =
-          none-agree loose s formula vars ticks old old stands (Anc k) goal goals open_is
+          none-agree loose s formula variable_count ticks old old stands (Anc k) goal goals open_is
           (record { equal_to = complement_of above; parts = [] }) (rw at refl) (rw lit_is at (never above at))
 
   -- a fact with other objects leads nowhere either
   pub fact-nowhere : IsLitIn s.objects (variables_of old.changes) goal.lit → (k : ℕ) → NeverFact s.objects s.facts old g k
-      → ¬ IsFeasible loose s formula vars (ticks ++ Fact k ∷ [])
+      → ¬ IsFeasible loose s formula variable_count (ticks ++ Fact k ∷ [])
   fact-nowhere scope k never feasible = go (slice_get s.facts k) refl feasible
     where
-      go : (o : Option Atom) → slice_get s.facts k ≡ o → ¬ IsFeasible loose s formula vars (ticks ++ Fact k ∷ [])
-      go None at given = none-at loose s formula vars ticks old old stands (Fact k) goal goals open_is (rw at refl) given
+      go : (o : Option Atom) → slice_get s.facts k ≡ o → ¬ IsFeasible loose s formula variable_count (ticks ++ Fact k ∷ [])
+      go None at given = none-at loose s formula variable_count ticks old old stands (Fact k) goal goals open_is (rw at refl) given
       go (Some fact) at (p, after, (objects, enough, below, solves)) =
           let is : closing_at loose s (variables_of old.changes) goal (Fact k) ≡ Some (record { equal_to = positive_of fact; parts = [] }) =
           rw at refl in
           let pushed =
-          open_after-push loose s (Fact k) goal goals (variables_of old.changes) ticks vars (goals_of s formula)
+          open_after-push loose s (Fact k) goal goals (variables_of old.changes) ticks variable_count (goals_of s formula)
           (record { equal_to = positive_of fact; parts = [] }) now is in
           let count : p.variables ≡ variables_of old.changes + 0 = ap (λ (q : Pending). q.variables) (some_same (sym after ∙ pushed)) in
           let both =
-          (solves-push loose s (Fact k) goal goals (variables_of old.changes) (object_terms objects) ticks vars
+          (solves-push loose s (Fact k) goal goals (variables_of old.changes) (object_terms objects) ticks variable_count
           (goals_of s formula) now).0 solves in
           let equal : substitute_literal (object_terms objects) goal.lit ≡ substitute_literal (object_terms objects) (positive_of fact) =
           rw is at both.1 in

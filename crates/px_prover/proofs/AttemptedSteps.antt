@@ -52,40 +52,40 @@ less_or_not m zero = inr (omega arith)
 less_or_not zero (suc n) = inl (omega arith)
 less_or_not (suc m) (suc n) = elim (less_or_not m n) [ inl h ↦ inl (omega (arith, h)) | inr h ↦ inr (omega (arith, h)) ]
 
-module _ (loose : Bool) (s : Setting) (formula : List Atom) (vars : ℕ) (ticks : List Tick) (old new : ProofStateValue)
-    (stands : Stands loose s formula vars ticks old)
+module _ (loose : Bool) (s : Setting) (formula : List Atom) (variable_count : ℕ) (ticks : List Tick) (old new : ProofStateValue)
+    (stands : Stands loose s formula variable_count ticks old)
     (g : OpenGoal) (goal : Goal) (goals : List Goal) (open_is : goals_at old.goals old.first ≡ goal ∷ goals)
     (rest_is : goals_at old.goals g.next ≡ goals)
     (lit_is : g.lit ≡ goal.lit) (path_is : path_at old.goals old.first ≡ goal.lit ∷ goal.path) (budget_is : g.budget ≡ goal.budget)
     (from place : ℕ) where
   -- a place that never does leads nowhere
   pub axiom-nowhere : (k : ℕ) → NeverAxiom s.axioms old g from place k → (start : ℕ) → IsFrom k from place start → (p : ℕ) → start ≤ p
-      → ¬ IsFeasible loose s formula vars (ticks ++ Step k p ∷ [])
+      → ¬ IsFeasible loose s formula variable_count (ticks ++ Step k p ∷ [])
   axiom-nowhere k never start begins p after = by_axiom (slice_get s.axioms k) refl
     where
       by_place : (clause : Clause) → slice_get s.axioms k ≡ Some clause → has_room goal clause ≡ true
-          → (p < length clause.lits) ⊎ (length clause.lits ≤ p) → ¬ IsFeasible loose s formula vars (ticks ++ Step k p ∷ [])
+          → (p < length clause.lits) ⊎ (length clause.lits ≤ p) → ¬ IsFeasible loose s formula variable_count (ticks ++ Step k p ∷ [])
       by_place clause at room (inl within) =
-          none-agree loose s formula vars ticks old old stands (Step k p) goal goals open_is
+          none-agree loose s formula variable_count ticks old old stands (Step k p) goal goals open_is
           (record {
             equal_to = new_literal (variables_of old.changes) clause p;
-            parts = goals_below goal (parts_of clause.lits (variables_from (variables_of old.changes) clause.vars) p);
+            parts = goals_below goal (parts_of clause.lits (variables_from (variables_of old.changes) clause.variable_count) p);
           })
           (step-closing loose s (variables_of old.changes) goal k p clause at room within)
           (rw lit_is at (never clause at start begins p after within (rw budget_is (true-room goal clause room))))
       by_place clause at room (inr past) =
-          none-at loose s formula vars ticks old old stands (Step k p) goal goals open_is
-          (let none = none-past clause.lits (variables_from (variables_of old.changes) clause.vars) p past in rw (at, room, none) refl)
+          none-at loose s formula variable_count ticks old old stands (Step k p) goal goals open_is
+          (let none = none-past clause.lits (variables_from (variables_of old.changes) clause.variable_count) p past in rw (at, room, none) refl)
 
       by_room : (clause : Clause) → slice_get s.axioms k ≡ Some clause → (b : Bool) → has_room goal clause ≡ b
-          → ¬ IsFeasible loose s formula vars (ticks ++ Step k p ∷ [])
+          → ¬ IsFeasible loose s formula variable_count (ticks ++ Step k p ∷ [])
       by_room clause at true room = by_place clause at room (less_or_not p (length clause.lits))
       by_room clause at false room =
-          none-at loose s formula vars ticks old old stands (Step k p) goal goals open_is
+          none-at loose s formula variable_count ticks old old stands (Step k p) goal goals open_is
           (step-none loose s (variables_of old.changes) goal k p clause at room)
 
-      by_axiom : (o : Option Clause) → slice_get s.axioms k ≡ o → ¬ IsFeasible loose s formula vars (ticks ++ Step k p ∷ [])
-      by_axiom None at = none-at loose s formula vars ticks old old stands (Step k p) goal goals open_is (rw at refl)
+      by_axiom : (o : Option Clause) → slice_get s.axioms k ≡ o → ¬ IsFeasible loose s formula variable_count (ticks ++ Step k p ∷ [])
+      by_axiom None at = none-at loose s formula variable_count ticks old old stands (Step k p) goal goals open_is (rw at refl)
       by_axiom (Some clause) at = by_room clause at (has_room goal clause) refl
 
   -- the axiom and the place that close the goal, and that the places before lead nowhere
@@ -97,8 +97,8 @@ module _ (loose : Bool) (s : Setting) (formula : List Atom) (vars : ℕ) (ticks 
     pub p : ℕ
     pub after : start ≤ p
     pub closes : ClosesByStep old new (Step k p) g clause p true
-    pub stays : Stands loose s formula vars (ticks ++ Step k p ∷ []) new
-    pub before : (q : ℕ) → start ≤ q → q < p → ¬ IsFeasible loose s formula vars (ticks ++ Step k q ∷ [])
+    pub stays : Stands loose s formula variable_count (ticks ++ Step k p ∷ []) new
+    pub before : (q : ℕ) → start ≤ q → q < p → ¬ IsFeasible loose s formula variable_count (ticks ++ Step k q ∷ [])
 
   pub axiom-first : (k : ℕ) → ComesAxiom s.axioms old g from place k new → ComesFirst k
   axiom-first k (clause, at, (start, begins, tried)) =
@@ -113,12 +113,12 @@ module _ (loose : Bool) (s : Setting) (formula : List Atom) (vars : ℕ) (ticks 
         after = found.1;
         closes = found.3.1;
         stays =
-            stands-stepped loose s formula vars ticks old new stands g goal goals open_is rest_is lit_is path_is budget_is k found.0 clause
+            stands-stepped loose s formula variable_count ticks old new stands g goal goals open_is rest_is lit_is path_is budget_is k found.0 clause
             at room found.2 found.3.1;
-        before = λ q after before. none-agree loose s formula vars ticks old old stands (Step k q) goal goals open_is
+        before = λ q after before. none-agree loose s formula variable_count ticks old old stands (Step k q) goal goals open_is
             (record {
               equal_to = new_literal (variables_of old.changes) clause q;
-              parts = goals_below goal (parts_of clause.lits (variables_from (variables_of old.changes) clause.vars) q);
+              parts = goals_below goal (parts_of clause.lits (variables_from (variables_of old.changes) clause.variable_count) q);
             })
             (step-closing loose s (variables_of old.changes) goal k q clause at room (omega (arith, before, found.2)))
             (rw lit_is at (found.4 q after before found.3.0));

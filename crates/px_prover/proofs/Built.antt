@@ -53,7 +53,7 @@ abbrev mutual
   IsMade s (fact leaf) = (leaf.column ≡ 0) × (slice_get s.facts leaf.index ≡ Some leaf.atom)
   IsMade s (ancestor i) = Unit {0}
   IsMade s (step number theta place parts) =
-      (clause : Clause) × (slice_get s.axioms number ≡ Some clause) × (length theta ≡ clause.vars) × All (IsObjectBelow s.objects) theta
+      (clause : Clause) × (slice_get s.axioms number ≡ Some clause) × (length theta ≡ clause.variable_count) × All (IsObjectBelow s.objects) theta
       × (length (listed parts) ≡ length clause.lits - 1) × AreMade s parts
   IsMade s (gap atom) = ⊥
   IsMade s open_place = ⊥
@@ -112,11 +112,11 @@ terms-of n (t ∷ theta) are =
     one (Var v) is = absurd is
     one Any is = absurd is
 
-take-front : {X : Type 0} (n : ℕ) (xs ys : List X) → length xs ≡ n → take n (xs ++ ys) ≡ xs
-take-front n xs ys long = ap (λ m. take m (xs ++ ys)) (sym long) ∙ take-append_seam xs ys
+take-prefix : {X : Type 0} (n : ℕ) (xs ys : List X) → length xs ≡ n → take n (xs ++ ys) ≡ xs
+take-prefix n xs ys long = ap (λ m. take m (xs ++ ys)) (sym long) ∙ take-append_seam xs ys
 
-drop-front : {X : Type 0} (n : ℕ) (xs ys : List X) → length xs ≡ n → drop n (xs ++ ys) ≡ ys
-drop-front n xs ys long = ap (λ m. drop m (xs ++ ys)) (sym long) ∙ drop-append_seam xs ys
+drop-prefix : {X : Type 0} (n : ℕ) (xs ys : List X) → length xs ≡ n → drop n (xs ++ ys) ≡ ys
+drop-prefix n xs ys long = ap (λ m. drop m (xs ++ ys)) (sym long) ∙ drop-append_seam xs ys
 
 ticks-pos : (s : Setting) (d : Derivation) → 0 < length (ticks d)
 ticks-pos s (fact leaf) = omega arith
@@ -145,7 +145,7 @@ module _ (s : Setting) where
   built-made (suc fuel) (also (ancestor k) ds) enough made = ap (λ es. ancestor k ∷ es) (built-made fuel ds (omega (arith, enough)) made.1)
   built-made (suc fuel) (also (step number theta place parts) ds) enough made =
       let clause = made.0.0 in
-      let long : length (map object_of theta) ≡ clause.vars = length-map theta object_of ∙ made.0.2 in
+      let long : length (map object_of theta) ≡ clause.variable_count = length-map theta object_of ∙ made.0.2 in
       let later : built s (ticks_of parts ++ ticks_of ds) (all_choices_of parts ++ all_choices_of ds) ≡ listed parts ++ listed ds =
       rw (← ticks-joined parts ds, ← choices-joined parts ds, ← listed-joined parts ds)
       (built-made fuel (joined parts ds) (omega (arith, enough, ap length (ticks-joined parts ds)))
@@ -153,15 +153,15 @@ module _ (s : Setting) where
       let chosen : (map object_of theta ++ all_choices_of parts) ++ all_choices_of ds
       ≡ map object_of theta ++ (all_choices_of parts ++ all_choices_of ds) =
       append_assoc (map object_of theta) (all_choices_of parts) (all_choices_of ds) in
-      let first : take clause.vars (map object_of theta ++ (all_choices_of parts ++ all_choices_of ds)) ≡ map object_of theta =
-      take-front clause.vars (map object_of theta) (all_choices_of parts ++ all_choices_of ds) long in
-      let rest : drop clause.vars (map object_of theta ++ (all_choices_of parts ++ all_choices_of ds))
+      let first : take clause.variable_count (map object_of theta ++ (all_choices_of parts ++ all_choices_of ds)) ≡ map object_of theta =
+      take-prefix clause.variable_count (map object_of theta) (all_choices_of parts ++ all_choices_of ds) long in
+      let rest : drop clause.variable_count (map object_of theta ++ (all_choices_of parts ++ all_choices_of ds))
       ≡ all_choices_of parts ++ all_choices_of ds =
-      drop-front clause.vars (map object_of theta) (all_choices_of parts ++ all_choices_of ds) long in
+      drop-prefix clause.variable_count (map object_of theta) (all_choices_of parts ++ all_choices_of ds) long in
       let taken : take (length clause.lits - 1) (listed parts ++ listed ds) ≡ listed parts =
-      take-front (length clause.lits - 1) (listed parts) (listed ds) made.0.4 in
+      take-prefix (length clause.lits - 1) (listed parts) (listed ds) made.0.4 in
       let dropped : drop (length clause.lits - 1) (listed parts ++ listed ds) ≡ listed ds =
-      drop-front (length clause.lits - 1) (listed parts) (listed ds) made.0.4 in
+      drop-prefix (length clause.lits - 1) (listed parts) (listed ds) made.0.4 in
       rw (made.0.1, chosen, first, rest, later, taken, dropped, terms-of s.objects theta made.0.3, derivations-listed parts) refl
   built-made (suc fuel) (also (gap a) ds) enough made = absurd made.0
   built-made (suc fuel) (also open_place ds) enough made = absurd made.0

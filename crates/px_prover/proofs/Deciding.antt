@@ -14,13 +14,13 @@ use Rattle.px_proof_walk.specs.Search.{ComesFirst, NoneComes, LimitComes}
 use Rattle.px_proof_walk.proofs.Bridge.{possible-finished, finished-possible}
 use Rattle.px_proof_walk.proofs.Outcomes.{first-few, limit-is, none-few, none-unprovable, not_seen}
 
-module _ (s : Setting) (formula : List Atom) (vars : ℕ) (asked : IsProperQuestion s formula vars) where
-  module _ (ticks : List Tick) (first : ComesFirst (IsPossible false s formula vars) (IsFinished false s formula vars) s.limit ticks)
-      (objects : List ℕ) (ds : Derivations) (answer : IsFirst s formula vars objects ds) where
+module _ (s : Setting) (formula : List Atom) (variable_count : ℕ) (asked : IsProperQuestion s formula variable_count) where
+  module _ (ticks : List Tick) (first : ComesFirst (IsPossible false s formula variable_count) (IsFinished false s formula variable_count) s.limit ticks)
+      (objects : List ℕ) (ds : Derivations) (answer : IsFirst s formula variable_count objects ds) where
     -- the first answer has the ticks of the first finished list
     same-ticks : ticks_of ds ≡ ticks
     same-ticks =
-        let made = possible-finished false s asked.setting formula vars asked.scope ticks first.possible first.finished in
+        let made = possible-finished false s asked.setting formula variable_count asked.scope ticks first.possible first.finished in
         go (ticks_of made.1) made.3 (cases (ticks_of ds) (ticks_of made.1)
         (AtMost (objects ++ all_choices_of ds) (made.0 ++ all_choices_of made.1)) (answer.least made.0 made.1 made.2))
       where
@@ -31,27 +31,27 @@ module _ (s : Setting) (formula : List Atom) (vars : ℕ) (asked : IsProperQuest
         go : (found : List Tick) → found ≡ ticks → ShapeBefore (ticks_of ds) found ⊎ (ticks_of ds ≡ found) → ticks_of ds ≡ ticks
         go found is (inr e) = e ∙ is
         go found is (inl h) =
-            let possible = finished-possible false s asked.setting formula vars asked.scope objects ds answer.finished in
-            absurd (not_seen (IsFinished false s formula vars) (ticks_of ds) first.few.0
+            let possible = finished-possible false s asked.setting formula variable_count asked.scope objects ds answer.finished in
+            absurd (not_seen (IsFinished false s formula variable_count) (ticks_of ds) first.few.0
             (first.few.2.covers (ticks_of ds) possible.0 (subst (λ (ts : List Tick). ShapeBefore (ticks_of ds) ts) is h))
             first.few.2.unfinished possible.1)
 
-    pub decided-few : AreFewBefore s formula vars ds
-    decided-few = first-few s asked.setting formula vars asked.scope ticks ds first same-ticks
+    pub decided-few : AreFewBefore s formula variable_count ds
+    decided-few = first-few s asked.setting formula variable_count asked.scope ticks ds first same-ticks
 
-    pub decided-unlimited : (shapes : List (List Tick)) → ¬ IsLimited s formula vars shapes
-    decided-unlimited shapes limited = few_or_limited.before s formula vars shapes objects ds answer.finished decided-few limited
+    pub decided-unlimited : (shapes : List (List Tick)) → ¬ IsLimited s formula variable_count shapes
+    decided-unlimited shapes limited = few_or_limited.before s formula variable_count shapes objects ds answer.finished decided-few limited
 
-  module _ (none : NoneComes (IsPossible false s formula vars) (IsFinished false s formula vars) s.limit) where
-    pub decided-none : ¬ IsAnswer s formula vars
-    decided-none = none-unprovable s asked.setting formula vars asked.scope none
+  module _ (none : NoneComes (IsPossible false s formula variable_count) (IsFinished false s formula variable_count) s.limit) where
+    pub decided-none : ¬ IsAnswer s formula variable_count
+    decided-none = none-unprovable s asked.setting formula variable_count asked.scope none
 
-    pub decided-none_few : AreFewShapes s formula vars
-    decided-none_few = none-few s asked.setting formula vars asked.scope none
+    pub decided-none_few : AreFewShapes s formula variable_count
+    decided-none_few = none-few s asked.setting formula variable_count asked.scope none
 
-    pub decided-none_unlimited : (shapes : List (List Tick)) → ¬ IsLimited s formula vars shapes
-    decided-none_unlimited shapes limited = few_or_limited.proofs s formula vars shapes decided-none_few limited
+    pub decided-none_unlimited : (shapes : List (List Tick)) → ¬ IsLimited s formula variable_count shapes
+    decided-none_unlimited shapes limited = few_or_limited.proofs s formula variable_count shapes decided-none_few limited
 
-  pub decided-limit : (shapes seen : List (List Tick)) → shapes ≡ map (shape_of false s formula vars) seen
-      → LimitComes (IsPossible false s formula vars) (IsFinished false s formula vars) s.limit seen → IsLimited s formula vars shapes
-  decided-limit shapes seen are limit = rw are (limit-is s asked.setting formula vars asked.scope seen limit)
+  pub decided-limit : (shapes seen : List (List Tick)) → shapes ≡ map (shape_of false s formula variable_count) seen
+      → LimitComes (IsPossible false s formula variable_count) (IsFinished false s formula variable_count) s.limit seen → IsLimited s formula variable_count shapes
+  decided-limit shapes seen are limit = rw are (limit-is s asked.setting formula variable_count asked.scope seen limit)

@@ -23,16 +23,16 @@ pub filled-test : {X : Type 0} (xs : List X) (b : Bool) → b ≡ (length xs == 
 filled-test [] b is says = let both : false ≡ true = sym says ∙ is in absurd (cc)
 filled-test (x ∷ xs) b is says = omega arith
 
-module _ (s : Setting) (formula : List Atom) (vars : ℕ) (asked : IsProperQuestion s formula vars) where
-  pub decided-few_gaps : (seen : List (List Tick)) → AreAll (IsGoingOn true s formula vars) s.limit seen → AreFewGapShapes s formula vars
-  decided-few_gaps seen all = gap-all-few s asked.setting formula vars asked.scope seen all
+module _ (s : Setting) (formula : List Atom) (variable_count : ℕ) (asked : IsProperQuestion s formula variable_count) where
+  pub decided-few_gaps : (seen : List (List Tick)) → AreAll (IsGoingOn true s formula variable_count) s.limit seen → AreFewGapShapes s formula variable_count
+  decided-few_gaps seen all = gap-all-few s asked.setting formula variable_count asked.scope seen all
 
-  pub decided-gap_limit : (shapes seen : List (List Tick)) → shapes ≡ map (shape_of true s formula vars) seen
-      → LimitComes (IsGoingOn true s formula vars) (λ ticks. ⊥) s.limit seen → IsGapLimited s formula vars shapes
-  decided-gap_limit shapes seen are limit = rw are (gap-limit-is s asked.setting formula vars asked.scope seen limit)
+  pub decided-gap_limit : (shapes seen : List (List Tick)) → shapes ≡ map (shape_of true s formula variable_count) seen
+      → LimitComes (IsGoingOn true s formula variable_count) (λ ticks. ⊥) s.limit seen → IsGapLimited s formula variable_count shapes
+  decided-gap_limit shapes seen are limit = rw are (gap-limit-is s asked.setting formula variable_count asked.scope seen limit)
 
   -- without atoms no list is unfinished
-  pub decided-without_few : length formula ≡ 0 → 0 < s.limit → AreFewGapShapes s formula vars
+  pub decided-without_few : length formula ≡ 0 → 0 < s.limit → AreFewGapShapes s formula variable_count
   decided-without_few empty some =
       record {
         seen = [];
@@ -46,6 +46,6 @@ module _ (s : Setting) (formula : List Atom) (vars : ℕ) (asked : IsProperQuest
       shapeless shape (also d ds) each is unfinished = each
 
       go : (formula : List Atom) → length formula ≡ 0 → (shape : List Tick) (objects : List ℕ) (ds : Derivations)
-          → IsList (or_open (loose_gaps_in s)) s formula vars objects ds → ticks_of ds ≡ shape → ¬ IsUnfinished shape
+          → IsList (or_open (loose_gaps_in s)) s formula variable_count objects ds → ticks_of ds ≡ shape → ¬ IsUnfinished shape
       go [] empty shape objects ds list is unfinished = shapeless shape ds list.proved is unfinished
       go (a ∷ atoms) empty shape objects ds list is unfinished = absurd (omega (arith, empty))

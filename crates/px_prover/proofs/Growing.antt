@@ -31,14 +31,14 @@ fact-in s k fact at below a is =
     rw (← same) (all-weaker (IsObjectBelow s.objects) (IsObjectOrParameter s.objects 0) fact.args (IsName-from_object s.objects)
     (all-recursion (IsObjectBelow s.objects) fact.args below))
 
-module _ (loose : Bool) (s : Setting) (formula : List Atom) (vars : ℕ) (ticks : List Tick) (old new : ProofStateValue) (goal : OpenGoal)
-    (ready : IsReadyToTry loose s formula vars ticks old goal) (tick : Tick)
-    (closes_place : IsClosing tick) (fact_is_in : FactIsIn s tick) (stands : Stands loose s formula vars (ticks ++ tick ∷ []) new) where
+module _ (loose : Bool) (s : Setting) (formula : List Atom) (variable_count : ℕ) (ticks : List Tick) (old new : ProofStateValue) (goal : OpenGoal)
+    (ready : IsReadyToTry loose s formula variable_count ticks old goal) (tick : Tick)
+    (closes_place : IsClosing tick) (fact_is_in : FactIsIn s tick) (stands : Stands loose s formula variable_count (ticks ++ tick ∷ []) new) where
   more : length (ticks ++ tick ∷ []) ≡ length ticks + 1
   more = length-append ticks (tick ∷ [])
 
   -- a closing without parts
-  pub longer-closed : (lit : Lit) → ClosesBy old new tick goal.lit lit goal.next true → IsLonger loose s formula vars ticks old tick new
+  pub longer-closed : (lit : Lit) → ClosesBy old new tick goal.lit lit goal.next true → IsLonger loose s formula variable_count ticks old tick new
   longer-closed lit closes =
       let pushed = closes.pushed refl in
       let goals_same : new.goals ≡ old.goals = ap (λ (v : ProofStateValue). v.goals) pushed in
@@ -50,7 +50,7 @@ module _ (loose : Bool) (s : Setting) (formula : List Atom) (vars : ℕ) (ticks 
           facts_in = all-push (FactIsIn s) ticks tick ready.sound.facts_in fact_is_in;
           closing = all-push IsClosing ticks tick ready.sound.closing closes_place;
           arena = rw goals_same ready.sound.arena;
-          within = rw (goals_same, first_is) (ready-next loose s formula vars ticks old goal ready);
+          within = rw (goals_same, first_is) (ready-next loose s formula variable_count ticks old goal ready);
           solvable = closes.is_match.solvable refl;
           few = omega (arith, grows.variables, ready.sound.few, more);
         };
@@ -62,9 +62,9 @@ module _ (loose : Bool) (s : Setting) (formula : List Atom) (vars : ℕ) (ticks 
       }
 
   -- a closing by a clause
-  pub longer-stepped : (clause : Clause) (place : ℕ) → clause.vars ≤ most_formula_variables
+  pub longer-stepped : (clause : Clause) (place : ℕ) → clause.variable_count ≤ most_formula_variables
       → ClosesByStep old new tick goal clause place true
-      → IsLonger loose s formula vars ticks old tick new
+      → IsLonger loose s formula variable_count ticks old tick new
   longer-stepped clause place few closes =
       let grown = closes.grown refl in
       record {

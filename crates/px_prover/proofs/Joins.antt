@@ -36,7 +36,7 @@ module _ (q : ProofQuestion) (old mid : ProofStateValue) (goal : OpenGoal) where
         (ComesFact (setting_in q).objects (setting_in q).facts old goal) from (length (setting_in q).facts) old mid false
         → TriesSince q (Anc 0) mid new found → TriesSince q (Fact from) old new found
     join-fact from range later =
-        fact-join q.loose (setting_in q) q.formula.now q.vars (ticks_in old.choices) old goal ready from mid range new found
+        fact-join q.loose (setting_in q) q.formula.now q.variable_count (ticks_in old.choices) old goal ready from mid range new found
         (tried-same (Anc 0) new found (range.no_more refl).0 later)
 
     pub join-ancestor : (from : ℕ)
@@ -44,7 +44,7 @@ module _ (q : ProofQuestion) (old mid : ProofStateValue) (goal : OpenGoal) where
         (length (path_at old.goals goal.above)) old mid false
         → TriesSince q (Step 0 0) mid new found → TriesSince q (Anc from) old new found
     join-ancestor from range later =
-        ancestor-join q.loose (setting_in q) q.formula.now q.vars (ticks_in old.choices) old goal ready from mid range new found
+        ancestor-join q.loose (setting_in q) q.formula.now q.variable_count (ticks_in old.choices) old goal ready from mid range new found
         (tried-same (Step 0 0) new found (range.no_more refl).0 later)
 
     pub join-axiom : (from place : ℕ)
@@ -52,7 +52,7 @@ module _ (q : ProofQuestion) (old mid : ProofStateValue) (goal : OpenGoal) where
         (length (setting_in q).axioms) old mid false
         → TriesSince q Gap mid new found → TriesSince q (Step from place) old new found
     join-axiom from place range later =
-        axiom-join q.loose (setting_in q) q.formula.now q.vars (ticks_in old.choices) old goal ready from place mid range new found
+        axiom-join q.loose (setting_in q) q.formula.now q.variable_count (ticks_in old.choices) old goal ready from place mid range new found
         (tried-same Gap new found (range.no_more refl).0 later)
 
 -- the test of the predicates that operators add
@@ -111,21 +111,21 @@ all-on a b c e f g = rw (e, f, g) refl
 module _ (q : ProofQuestion) (old : ProofStateValue) (goal : OpenGoal) (ready : IsReadyIn q old goal) where
   pub gap-not_loose : q.loose ≡ false → TriesSince q Gap old old false
   gap-not_loose e =
-      gap-none q.loose (setting_in q) q.formula.now q.vars (ticks_in old.choices) old goal ready
+      gap-none q.loose (setting_in q) q.formula.now q.variable_count (ticks_in old.choices) old goal ready
       (first-off q.loose goal.lit.positive (list_any (nat_eq goal.lit.atom.pred) (setting_in q).added) e)
 
   pub gap-denied : goal.lit.positive ≡ false → TriesSince q Gap old old false
   gap-denied e =
-      gap-none q.loose (setting_in q) q.formula.now q.vars (ticks_in old.choices) old goal ready
+      gap-none q.loose (setting_in q) q.formula.now q.variable_count (ticks_in old.choices) old goal ready
       (second-off q.loose goal.lit.positive (list_any (nat_eq goal.lit.atom.pred) (setting_in q).added) e)
 
   pub gap-not_added : list_any (nat_eq goal.lit.atom.pred) (setting_in q).added ≡ false → TriesSince q Gap old old false
   gap-not_added e =
-      gap-none q.loose (setting_in q) q.formula.now q.vars (ticks_in old.choices) old goal ready
+      gap-none q.loose (setting_in q) q.formula.now q.variable_count (ticks_in old.choices) old goal ready
       (third-off q.loose goal.lit.positive (list_any (nat_eq goal.lit.atom.pred) (setting_in q).added) e)
 
   pub gap-tried : q.loose ≡ true → goal.lit.positive ≡ true → list_any (nat_eq goal.lit.atom.pred) (setting_in q).added ≡ true
       → (new : ProofStateValue) (found : Bool) → ClosesBy old new Gap goal.lit goal.lit goal.next found → TriesSince q Gap old new found
   gap-tried e f g new found closes =
-      gap-closed q.loose (setting_in q) q.formula.now q.vars (ticks_in old.choices) old goal ready
+      gap-closed q.loose (setting_in q) q.formula.now q.variable_count (ticks_in old.choices) old goal ready
       (all-on q.loose goal.lit.positive (list_any (nat_eq goal.lit.atom.pred) (setting_in q).added) e f g) new found closes

@@ -32,9 +32,9 @@ last-there found k last pattern at same =
     (k, slice_get_within found k pattern here, get_or_from_slice_get found k pattern pattern here)
 
 -- no more terms are kept than there are variables
-pub few-kept : (with_terms : Bool) (vars : ℕ) → cond with_terms vars 0 ≤ vars
-few-kept true vars = omega arith
-few-kept false vars = omega arith
+pub few-kept : (with_terms : Bool) (variable_count : ℕ) → cond with_terms variable_count 0 ≤ variable_count
+few-kept true variable_count = omega arith
+few-kept false variable_count = omega arith
 
 pub ok-weaker : {X E : Type 0} (r : Result X E) (P Q : X → Type 0) → ((x : X) → P x → Q x) → IfOk r P → IfOk r Q
 ok-weaker (Ok x) P Q f h = f x h

@@ -76,18 +76,18 @@ module _ (loose : Bool) (s : Setting) where
           ap left_of (open_after-step loose s n g goals t (ticks ++ u ∷ []) closing is)
           ∙ next closing (sym (open_after-step loose s n g goals t ticks closing is) ∙ now) few
 
-module _ (s : Setting) (formula : List Atom) (vars : ℕ) (v : ProofStateValue) (standing : IsStanding true s formula vars v)
+module _ (s : Setting) (formula : List Atom) (variable_count : ℕ) (v : ProofStateValue) (standing : IsStanding true s formula variable_count v)
     (few : length (goals_at v.goals v.first) ≤ 1) where
-  stuck : (u : Tick) → IsWhole true s u → ¬ IsGoingOn true s formula vars (ticks_in v.choices ++ u ∷ [])
+  stuck : (u : Tick) → IsWhole true s u → ¬ IsGoingOn true s formula variable_count (ticks_in v.choices ++ u ∷ [])
   stuck u whole going =
       let none =
-      none-open true s (ticks_in v.choices) u whole vars (goals_of s formula)
+      none-open true s (ticks_in v.choices) u whole variable_count (goals_of s formula)
       (record { variables = variables_of v.changes; goals = goals_at v.goals v.first })
-      (standing-sound true s formula vars v standing).stands.pending few in
+      (standing-sound true s formula variable_count v standing).stands.pending few in
       omega (arith, none, going.1)
 
   -- so what goes on comes after the ancestors
-  pub going-later : (most : ℕ) (u : Tick) → IsGoingOn true s formula vars (ticks_in v.choices ++ u ∷ []) → IsAfter (Some (Anc most)) u
+  pub going-later : (most : ℕ) (u : Tick) → IsGoingOn true s formula variable_count (ticks_in v.choices ++ u ∷ []) → IsAfter (Some (Anc most)) u
   going-later most (Fact i) going = absurd (stuck (Fact i) (λ n g closing is. fact-whole (slice_get s.facts i) closing is) going)
   going-later most (Anc i) going = absurd (stuck (Anc i) (λ n g closing is. ancestor-whole (slice_get g.path i) closing is) going)
   going-later most (Step number place) going = inl (omega arith)

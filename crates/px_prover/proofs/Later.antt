@@ -112,10 +112,10 @@ none-after Gap closing (inl h) = omega (arith, h)
 none-after Gap closing (inr (inl h)) = omega (arith, h.1)
 none-after Gap closing (inr (inr h)) = omega (arith, h.2)
 
-module _ (loose : Bool) (s : Setting) (formula : List Atom) (vars : ℕ) (ticks : List Tick) (old new : ProofStateValue) (found : Bool) where
+module _ (loose : Bool) (s : Setting) (formula : List Atom) (variable_count : ℕ) (ticks : List Tick) (old new : ProofStateValue) (found : Bool) where
   pub later-begins : (last : Option Tick) (start : Tick) → Begins last start
-      → TriesAmong (IsSince start) loose s formula vars ticks old new found
-      → TriesAmong (IsAfter last) loose s formula vars ticks old new found
+      → TriesAmong (IsSince start) loose s formula variable_count ticks old new found
+      → TriesAmong (IsAfter last) loose s formula variable_count ticks old new found
   later-begins last start begins tried = record {
     least =
         λ is_found. let h =
@@ -129,9 +129,9 @@ module _ (loose : Bool) (s : Setting) (formula : List Atom) (vars : ℕ) (ticks 
         λ is_not. let h = tried.no_more is_not in (h.0, λ u after leads. h.1 u (begins.to u (last-closing ticks u leads.0) after) leads);
   }
 
-pub later-none : (loose : Bool) (s : Setting) (formula : List Atom) (vars : ℕ) (ticks : List Tick) (old : ProofStateValue)
-    → TriesAmong (IsAfter (Some Gap)) loose s formula vars ticks old old false
-later-none loose s formula vars ticks old = record {
+pub later-none : (loose : Bool) (s : Setting) (formula : List Atom) (variable_count : ℕ) (ticks : List Tick) (old : ProofStateValue)
+    → TriesAmong (IsAfter (Some Gap)) loose s formula variable_count ticks old old false
+later-none loose s formula variable_count ticks old = record {
   least = λ is_found. absurd (cc);
   no_more = λ is_not. (refl, λ u after leads. none-after u (last-closing ticks u leads.0) after);
 }

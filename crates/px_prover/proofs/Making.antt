@@ -19,7 +19,7 @@ use Rattle.px_proof.specs.declared.shape.Tick.{Tick}
 use Rattle.px_question.specs.Settings.{Setting}
 use Rattle.px_proof_state.specs.declared.open.Choice.{Choice}
 use Rattle.px_unify.specs.declared.change.Change.{Change}
-use Rattle.px_proof_walk.specs.Pending.{fresh_of, vars_of}
+use Rattle.px_proof_walk.specs.Pending.{fresh_of, variable_count_of}
 
 -- ---- objects
 
@@ -205,22 +205,22 @@ parts-are axioms number lits within are =
     ap (λ (ls : List Lit). length ls - 1) (are no_clause) ∙ ap parts_count (sym (slice_get-read axioms number no_clause within))
   where
     no_clause : Clause
-    no_clause = record { vars = 0; lits = [] }
+    no_clause = record { variable_count = 0; lits = [] }
 
-pub vars-are : (axioms : List Clause) (number vars : ℕ) → number < length axioms → ((d : Clause) → vars ≡ (get_or axioms number d).vars)
-    → vars ≡ vars_of (slice_get axioms number)
-vars-are axioms number vars within are = are no_clause ∙ ap vars_of (sym (slice_get-read axioms number no_clause within))
+pub variable_count-are : (axioms : List Clause) (number variable_count : ℕ) → number < length axioms → ((d : Clause) → variable_count ≡ (get_or axioms number d).variable_count)
+    → variable_count ≡ variable_count_of (slice_get axioms number)
+variable_count-are axioms number variable_count within are = are no_clause ∙ ap variable_count_of (sym (slice_get-read axioms number no_clause within))
   where
     no_clause : Clause
-    no_clause = record { vars = 0; lits = [] }
+    no_clause = record { variable_count = 0; lits = [] }
 
 -- the objects of a step
-pub objects-are : (objects : List ℕ) (start vars end : ℕ) → start + vars ≡ end
-    → take (end - start) (drop start objects) ≡ take vars (drop start objects)
-objects-are objects start vars end is = ap (λ n. take n (drop start objects)) (omega (arith, is))
+pub objects-are : (objects : List ℕ) (start variable_count end : ℕ) → start + variable_count ≡ end
+    → take (end - start) (drop start objects) ≡ take variable_count (drop start objects)
+objects-are objects start variable_count end is = ap (λ n. take n (drop start objects)) (omega (arith, is))
 
 -- an axiom has a literal
 pub lits-some : (axioms : List Clause) (number : ℕ) (lits : List Lit) → IsArena axioms → number < length axioms
     → ((d : Clause) → lits ≡ (get_or axioms number d).lits) → 1 ≤ length lits
 lits-some axioms number lits arena within are =
-    omega (arith, (arena.each number (record { vars = 0; lits = [] }) within).size.0, ap length (are (record { vars = 0; lits = [] })))
+    omega (arith, (arena.each number (record { variable_count = 0; lits = [] }) within).size.0, ap length (are (record { variable_count = 0; lits = [] })))

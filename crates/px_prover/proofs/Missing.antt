@@ -31,7 +31,7 @@ use Rattle.px_proof_walk.specs.Scope.{IsGoalIn}
 use Rattle.px_proof_walk.proofs.Gaps.{gap_atoms-push}
 use Rattle.px_proof_walk.proofs.Objects.{goals-in}
 
--- ---- fronts of lists
+-- ---- prefixes of lists
 
 get-take : {X : Type 0} (xs : List X) (n k : ℕ) → k < n → slice_get (take n xs) k ≡ slice_get xs k
 get-take [] zero k less = absurd (omega (arith, less))
@@ -61,13 +61,13 @@ variable-more m n le (Obj k) below = tt
 variable-more m n le (Var v) below = omega (arith, le, below)
 variable-more m n le Any below = tt
 
-module _ (s : Setting) (formula : List Atom) (vars : ℕ) where
+module _ (s : Setting) (formula : List Atom) (variable_count : ℕ) where
   -- the goal was the first one that was open after the ticks, and its arguments are over the first variables, of the given number
   pub record WasFirst (ticks : List Tick) (variables : ℕ) (g : OpenGoal) : Type 0 where
     pub last : ℕ
     pub path : List Lit
     pub rest : List Goal
-    pub pending : open_after true s vars (goals_of s formula) ticks
+    pub pending : open_after true s variable_count (goals_of s formula) ticks
         ≡ Some (record { variables = last; goals = record { lit = g.lit; path = path; budget = g.budget } ∷ rest })
     pub below : All (IsVariableBelow variables) g.lit.atom.args
 
@@ -77,9 +77,9 @@ module _ (s : Setting) (formula : List Atom) (vars : ℕ) where
     pub within : first ≤ length goals
     pub each : (g : OpenGoal) → slice_get goals (first - 1) ≡ Some g → WasFirst ticks variables g
 
-  module _ (asked : IsProperQuestion s formula vars) where
+  module _ (asked : IsProperQuestion s formula variable_count) where
     was-here : (c : Choice) (rest : List Choice) (changes : List Change) (goals : List OpenGoal) (first : ℕ)
-        → WasSound true s formula vars (c ∷ rest) changes goals first → WasOpen (ticks_in rest) (variables_of changes) goals c.first
+        → WasSound true s formula variable_count (c ∷ rest) changes goals first → WasOpen (ticks_in rest) (variables_of changes) goals c.first
     was-here c rest changes goals first was =
         let some : 0 < c.first = some_first c.first refl in
         record {
@@ -112,13 +112,13 @@ module _ (s : Setting) (formula : List Atom) (vars : ℕ) where
               };
         }
       where
-        before : IsSound true s formula vars (ticks_in rest)
+        before : IsSound true s formula variable_count (ticks_in rest)
             (record { changes = take c.mark changes; goals = take c.goals goals; first = c.first; choices = rest })
-        before = sound-now true s formula vars rest (take c.mark changes) (take c.goals goals) c.first was.3
+        before = sound-now true s formula variable_count rest (take c.mark changes) (take c.goals goals) c.first was.3
 
         some_first : (n : ℕ) → c.first ≡ n → 0 < c.first
         some_first zero is =
-            absurd (none-long true s formula vars (ticks_in rest) c.tick vars (goals_of s formula)
+            absurd (none-long true s formula variable_count (ticks_in rest) c.tick variable_count (goals_of s formula)
             (record { variables = variables_of (take c.mark changes); goals = goals_at (take c.goals goals) c.first })
             (record { variables = variables_of changes; goals = goals_at goals first }) before.stands.pending
             (ap (goals_at (take c.goals goals)) is ∙ goals_at-nothing (take c.goals goals)) was.0.stands.pending)
@@ -126,21 +126,21 @@ module _ (s : Setting) (formula : List Atom) (vars : ℕ) where
 
         all_in : AllByRecursion (IsGoalIn s.objects (variables_of (take c.mark changes))) (goals_at (take c.goals goals) c.first)
         all_in =
-            open-in true s asked.setting (ticks_in rest) vars (goals_of s formula)
+            open-in true s asked.setting (ticks_in rest) variable_count (goals_of s formula)
             (record { variables = variables_of (take c.mark changes); goals = goals_at (take c.goals goals) c.first }) before.facts_in
-            (goals-in s vars formula asked.scope) before.stands.pending
+            (goals-in s variable_count formula asked.scope) before.stands.pending
 
         head-in : (gs : List Goal) (g : Goal) (rest : List Goal) → gs ≡ g ∷ rest
             → AllByRecursion (IsGoalIn s.objects (variables_of (take c.mark changes))) gs
             → IsGoalIn s.objects (variables_of (take c.mark changes)) g
         head-in gs g rest is all = (rw is at all).0
 
-    was-at : (front : List Choice) (c : Choice) (rest : List Choice) (changes : List Change) (goals : List OpenGoal) (first : ℕ)
-        → WasSound true s formula vars (front ++ c ∷ rest) changes goals first
+    was-at : (prefix : List Choice) (c : Choice) (rest : List Choice) (changes : List Change) (goals : List OpenGoal) (first : ℕ)
+        → WasSound true s formula variable_count (prefix ++ c ∷ rest) changes goals first
         → WasOpen (ticks_in rest) (variables_of changes) goals c.first
     was-at [] c rest changes goals first was = was-here c rest changes goals first was
-    was-at (d ∷ front) c rest changes goals first was =
-        let was_open = was-at front c rest (take d.mark changes) (take d.goals goals) d.first was.3 in
+    was-at (d ∷ prefix) c rest changes goals first was =
+        let was_open = was-at prefix c rest (take d.mark changes) (take d.goals goals) d.first was.3 in
         record {
           some = was_open.some;
           within = omega (arith, was_open.within, length-take d.goals goals);
@@ -169,13 +169,13 @@ module _ (s : Setting) (formula : List Atom) (vars : ℕ) where
         ∙ ap (λ (ys : List Choice). reverse (drop (i + 1) xs) ++ ys) (reverse-append (take i xs) (c ∷ []))
 
     -- where each choice was made a goal was open
-    pub missing-open : (xs : List Choice) (v : ProofStateValue) → IsStanding true s formula vars v → reverse xs ≡ v.choices
+    pub missing-open : (xs : List Choice) (v : ProofStateValue) → IsStanding true s formula variable_count v → reverse xs ≡ v.choices
         → (i : ℕ) (c : Choice) → i < length xs → c ≡ get_or xs i c
         → WasOpen (map (λ (x : Choice). x.tick) (take i xs)) (variables_of v.changes) v.goals c.first
     missing-open xs v standing are i c within is =
         subst (λ (ts : List Tick). WasOpen ts (variables_of v.changes) v.goals c.first) (ticks-map (take i xs))
         (was-at (reverse (drop (i + 1) xs)) c (reverse (take i xs)) v.changes v.goals v.first
-        (subst (λ (cs : List Choice). WasSound true s formula vars cs v.changes v.goals v.first)
+        (subst (λ (cs : List Choice). WasSound true s formula variable_count cs v.changes v.goals v.first)
         (sym are ∙ reverse-at xs i c within is) standing.was))
 
   -- ---- the atoms
@@ -198,14 +198,14 @@ module _ (s : Setting) (formula : List Atom) (vars : ℕ) where
   gap_at-below Open g variables below k d within = absurd (omega (arith, within))
 
   pub missing-start : (variables : ℕ) (xs : List Choice) (atoms : List Atom) → atoms ≡ []
-      → AreMissing s formula vars (map (λ (x : Choice). x.tick) (take 0 xs)) variables atoms
+      → AreMissing s formula variable_count (map (λ (x : Choice). x.tick) (take 0 xs)) variables atoms
   missing-start variables xs atoms empty = record { atoms = empty; below = λ k d within. absurd (omega (arith, within, ap length empty)) }
 
   pub missing-next : (xs : List Choice) (i : ℕ) (c : Choice) (variables : ℕ) (g : OpenGoal) (old new : List Atom) → i < length xs
       → c ≡ get_or xs i c → WasFirst (map (λ (x : Choice). x.tick) (take i xs)) variables g
-      → AreMissing s formula vars (map (λ (x : Choice). x.tick) (take i xs)) variables old
+      → AreMissing s formula variable_count (map (λ (x : Choice). x.tick) (take i xs)) variables old
       → new ≡ old ++ gap_at (record { lit = g.lit; path = []; budget = g.budget }) c.tick
-      → AreMissing s formula vars (map (λ (x : Choice). x.tick) (take (i + 1) xs)) variables new
+      → AreMissing s formula variable_count (map (λ (x : Choice). x.tick) (take (i + 1) xs)) variables new
   missing-next xs i c variables g old new within is was missing new_is =
       let ticks : List Tick = map (λ (x : Choice). x.tick) (take i xs) in
       let more : map (λ (x : Choice). x.tick) (take (i + 1) xs) ≡ ticks ++ c.tick ∷ [] =
@@ -216,16 +216,16 @@ module _ (s : Setting) (formula : List Atom) (vars : ℕ) where
       record {
         atoms =
             grown ∙ ap (λ (xs : List Atom). xs ++ gap_at goal c.tick) missing.atoms
-            ∙ sym (gap_atoms-push true s c.tick goal was.rest was.last ticks vars (goals_of s formula) was.pending)
-            ∙ ap (gap_atoms true s vars (goals_of s formula)) (sym more);
+            ∙ sym (gap_atoms-push true s c.tick goal was.rest was.last ticks variable_count (goals_of s formula) was.pending)
+            ∙ ap (gap_atoms true s variable_count (goals_of s formula)) (sym more);
         below = subst (λ (xs : List Atom). All (λ (atom : Atom). All (IsVariableBelow variables) atom.args) xs) (sym grown)
             (All-append (λ (atom : Atom). All (IsVariableBelow variables) atom.args) old (gap_at goal c.tick) missing.below
             (gap_at-below c.tick goal variables was.below));
       }
 
   pub missing-end : (xs : List Choice) (i : ℕ) (variables : ℕ) (choices : List Choice) (atoms : List Atom) → length xs ≤ i
-      → reverse xs ≡ choices → AreMissing s formula vars (map (λ (x : Choice). x.tick) (take i xs)) variables atoms
-      → AreMissing s formula vars (ticks_in choices) variables atoms
+      → reverse xs ≡ choices → AreMissing s formula variable_count (map (λ (x : Choice). x.tick) (take i xs)) variables atoms
+      → AreMissing s formula variable_count (ticks_in choices) variables atoms
   missing-end xs i variables choices atoms past are missing =
-      subst (λ (ts : List Tick). AreMissing s formula vars ts variables atoms)
+      subst (λ (ts : List Tick). AreMissing s formula variable_count ts variables atoms)
       (ap (map (λ (x : Choice). x.tick)) (take_all i xs past) ∙ sym (ticks-map xs) ∙ ap ticks_in are) missing

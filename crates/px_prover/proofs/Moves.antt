@@ -29,19 +29,19 @@ use Rattle.px_proof_walk.specs.Possible.{IsPossible, IsFinished, open_count, lef
 use Rattle.px_proof_walk.specs.Trail.{IsVisit, tick_or_none}
 use Rattle.px_proof_walk.proofs.Objects.{feasible-from_bindings}
 
-module _ (loose : Bool) (s : Setting) (formula : List Atom) (vars : ℕ) where
+module _ (loose : Bool) (s : Setting) (formula : List Atom) (variable_count : ℕ) where
   pub sound-now : (choices : List Choice) (changes : List Change) (goals : List OpenGoal) (first : ℕ)
-      → WasSound loose s formula vars choices changes goals first
-      → IsSound loose s formula vars (ticks_in choices) (record { changes = changes; goals = goals; first = first; choices = choices })
+      → WasSound loose s formula variable_count choices changes goals first
+      → IsSound loose s formula variable_count (ticks_in choices) (record { changes = changes; goals = goals; first = first; choices = choices })
   sound-now [] changes goals first was = was
   sound-now (c ∷ rest) changes goals first was = was.0
 
-  pub standing-sound : (v : ProofStateValue) → IsStanding loose s formula vars v → IsSound loose s formula vars (ticks_in v.choices) v
+  pub standing-sound : (v : ProofStateValue) → IsStanding loose s formula variable_count v → IsSound loose s formula variable_count (ticks_in v.choices) v
   standing-sound v standing = sound-now v.choices v.changes v.goals v.first standing.was
 
-  pub standing-ready : (v : ProofStateValue) (goal : OpenGoal) → IsStanding loose s formula vars v → 0 < v.first
+  pub standing-ready : (v : ProofStateValue) (goal : OpenGoal) → IsStanding loose s formula variable_count v → 0 < v.first
       → slice_get v.goals (v.first - 1) ≡ Some goal → length (ticks_in v.choices) < s.limit
-      → IsReadyToTry loose s formula vars (ticks_in v.choices) v goal
+      → IsReadyToTry loose s formula variable_count (ticks_in v.choices) v goal
   standing-ready v goal standing some at room =
       record {
         asked = standing.asked;
@@ -52,45 +52,45 @@ module _ (loose : Bool) (s : Setting) (formula : List Atom) (vars : ℕ) where
       }
 
   -- a sound state shows its ticks possible
-  pub sound-possible : (ticks : List Tick) (v : ProofStateValue) → IsProperQuestion s formula vars → IsSound loose s formula vars ticks v
-      → IsPossible loose s formula vars ticks
+  pub sound-possible : (ticks : List Tick) (v : ProofStateValue) → IsProperQuestion s formula variable_count → IsSound loose s formula variable_count ticks v
+      → IsPossible loose s formula variable_count ticks
   sound-possible ticks v asked sound =
       let p : Pending = record { variables = variables_of v.changes; goals = goals_at v.goals v.first } in (
         sound.closing,
-        feasible-from_bindings loose s formula vars ticks p v.changes asked.setting asked.scope sound.facts_in sound.stands.pending refl
+        feasible-from_bindings loose s formula variable_count ticks p v.changes asked.setting asked.scope sound.facts_in sound.stands.pending refl
             sound.stands.matched sound.solvable
-            (object-there loose s asked.setting ticks vars (goals_of s formula) p sound.stands.pending asked.some_object),
+            (object-there loose s asked.setting ticks variable_count (goals_of s formula) p sound.stands.pending asked.some_object),
       )
 
-  ticks-longer : (ticks : List Tick) (old new : ProofStateValue) (tick : Tick) → IsLonger loose s formula vars ticks old tick new
+  ticks-longer : (ticks : List Tick) (old new : ProofStateValue) (tick : Tick) → IsLonger loose s formula variable_count ticks old tick new
       → ticks_in new.choices ≡ ticks_in old.choices ++ tick ∷ []
   ticks-longer ticks old new tick longer = ap ticks_in longer.chosen
 
   was-longer : (choices : List Choice) (old new : ProofStateValue) (c : Choice) → choices ≡ c ∷ old.choices → c.mark ≤ length new.changes
       → c.goals ≤ length new.goals
       → take c.mark new.changes ≡ old.changes → take c.goals new.goals ≡ old.goals → c.first ≡ old.first
-      → IsSound loose s formula vars (ticks_in choices)
+      → IsSound loose s formula variable_count (ticks_in choices)
       (record { changes = new.changes; goals = new.goals; first = new.first; choices = choices })
-      → WasSound loose s formula vars old.choices old.changes old.goals old.first
-      → WasSound loose s formula vars choices new.changes new.goals new.first
+      → WasSound loose s formula variable_count old.choices old.changes old.goals old.first
+      → WasSound loose s formula variable_count choices new.changes new.goals new.first
   was-longer choices old new c is mark goals changes_are goals_are first_is sound was =
       rw is (rw is at sound, mark, goals, rw (changes_are, goals_are, first_is) was)
 
   -- after one more tick it is still one of the question
-  pub standing-longer : (old new : ProofStateValue) (tick : Tick) → IsStanding loose s formula vars old
-      → IsLonger loose s formula vars (ticks_in old.choices) old tick new → IsStanding loose s formula vars new
+  pub standing-longer : (old new : ProofStateValue) (tick : Tick) → IsStanding loose s formula variable_count old
+      → IsLonger loose s formula variable_count (ticks_in old.choices) old tick new → IsStanding loose s formula variable_count new
   standing-longer old new tick standing longer = record {
     asked = standing.asked;
     was = was-longer new.choices old new (choice_by tick old) longer.chosen longer.more_changes longer.more_goals longer.changes
         longer.goals refl
-        (subst (λ (ts : List Tick). IsSound loose s formula vars ts new)
+        (subst (λ (ts : List Tick). IsSound loose s formula variable_count ts new)
         (sym (ticks-longer (ticks_in old.choices) old new tick longer)) longer.sound) standing.was;
   }
 
   -- what an attempt says of the lists
-  pub later-tried : (last : Option Tick) (old new : ProofStateValue) (found : Bool) → IsStanding loose s formula vars old
-      → TriesAmong (IsAfter last) loose s formula vars (ticks_in old.choices) old new found
-      → TriesAfter (IsPossible loose s formula vars) (ticks_in old.choices) (ticks_in new.choices) last found
+  pub later-tried : (last : Option Tick) (old new : ProofStateValue) (found : Bool) → IsStanding loose s formula variable_count old
+      → TriesAmong (IsAfter last) loose s formula variable_count (ticks_in old.choices) old new found
+      → TriesAfter (IsPossible loose s formula variable_count) (ticks_in old.choices) (ticks_in new.choices) last found
   later-tried last old new found standing tried = record {
     least = λ is_found.
         let h = tried.least is_found in
@@ -99,16 +99,16 @@ module _ (loose : Bool) (s : Setting) (formula : List Atom) (vars : ℕ) where
     no_more = λ is_not. let h = tried.no_more is_not in (ap (λ (v : ProofStateValue). ticks_in v.choices) h.0, h.1);
   }
 
-  pub later-standing : (last : Option Tick) (old new : ProofStateValue) (found : Bool) → IsStanding loose s formula vars old
-      → TriesAmong (IsAfter last) loose s formula vars (ticks_in old.choices) old new found → IsStanding loose s formula vars new
+  pub later-standing : (last : Option Tick) (old new : ProofStateValue) (found : Bool) → IsStanding loose s formula variable_count old
+      → TriesAmong (IsAfter last) loose s formula variable_count (ticks_in old.choices) old new found → IsStanding loose s formula variable_count new
   later-standing last old new true standing tried = let h = tried.least refl in standing-longer old new h.0 standing h.2
   later-standing last old new false standing tried =
-      subst (λ (v : ProofStateValue). IsStanding loose s formula vars v) (sym (tried.no_more refl).0) standing
+      subst (λ (v : ProofStateValue). IsStanding loose s formula variable_count v) (sym (tried.no_more refl).0) standing
 
   -- ---- what is open
 
-  pub count-open : (v : ProofStateValue) → IsStanding loose s formula vars v
-      → open_count loose s formula vars (ticks_in v.choices) ≡ length (goals_at v.goals v.first)
+  pub count-open : (v : ProofStateValue) → IsStanding loose s formula variable_count v
+      → open_count loose s formula variable_count (ticks_in v.choices) ≡ length (goals_at v.goals v.first)
   count-open v standing = ap left_of (standing-sound v standing).stands.pending
 
   pub none-long : (ticks : List Tick) (u : Tick) (n : ℕ) (goals : List Goal) (p q : Pending) → open_after loose s n goals ticks ≡ Some p
@@ -129,14 +129,14 @@ module _ (loose : Bool) (s : Setting) (formula : List Atom) (vars : ℕ) where
           (sym (open_after-step loose s n g goals t (ticks ++ u ∷ []) closing is) ∙ later)
 
   -- where nothing is open nothing comes
-  pub finished-tried : (v : ProofStateValue) (last : Option Tick) → IsStanding loose s formula vars v → v.first ≡ 0
-      → TriesAfter (IsPossible loose s formula vars) (ticks_in v.choices) (ticks_in v.choices) last false
+  pub finished-tried : (v : ProofStateValue) (last : Option Tick) → IsStanding loose s formula variable_count v → v.first ≡ 0
+      → TriesAfter (IsPossible loose s formula variable_count) (ticks_in v.choices) (ticks_in v.choices) last false
   finished-tried v last standing none = record {
     least = λ is_found. absurd (cc);
     no_more = λ is_not. (
       refl,
       λ u after leads.
-          none-long (ticks_in v.choices) u vars (goals_of s formula)
+          none-long (ticks_in v.choices) u variable_count (goals_of s formula)
           (record { variables = variables_of v.changes; goals = goals_at v.goals v.first }) leads.1.0
           (standing-sound v standing).stands.pending
           (ap (goals_at v.goals) none ∙ goals_at-nothing v.goals) leads.1.1,
@@ -157,32 +157,32 @@ module _ (loose : Bool) (s : Setting) (formula : List Atom) (vars : ℕ) where
           let both = older (v.first - 1) g at in
           rw (ap (goals_at v.goals) place ∙ goals_at-index v.goals (v.first - 1) g at both.1 both.0) (omega arith)
 
-  pub finished-is : (v : ProofStateValue) → IsStanding loose s formula vars v → (v.first ≡ 0)
-      ↔ IsFinished loose s formula vars (ticks_in v.choices)
+  pub finished-is : (v : ProofStateValue) → IsStanding loose s formula variable_count v → (v.first ≡ 0)
+      ↔ IsFinished loose s formula variable_count (ticks_in v.choices)
   finished-is v standing = (
     λ none. count-open v standing ∙ ap length (ap (goals_at v.goals) none ∙ goals_at-nothing v.goals),
     λ finished. by_first v.first refl finished,
   )
     where
-      by_first : (n : ℕ) → v.first ≡ n → IsFinished loose s formula vars (ticks_in v.choices) → v.first ≡ 0
+      by_first : (n : ℕ) → v.first ≡ n → IsFinished loose s formula variable_count (ticks_in v.choices) → v.first ≡ 0
       by_first zero is finished = is
       by_first (suc n) is finished =
           let sound = standing-sound v standing in
-          let zero_open : open_count loose s formula vars (ticks_in v.choices) ≡ 0 = finished in
+          let zero_open : open_count loose s formula variable_count (ticks_in v.choices) ≡ 0 = finished in
           absurd (omega (arith, goals-there v sound.arena (omega (arith, is)) sound.within, count-open v standing, zero_open))
 
   -- ---- going back
 
   can : (choices : List Choice) (v : ProofStateValue) → v.choices ≡ choices
-      → WasSound loose s formula vars choices v.changes v.goals v.first → CanRetract v
+      → WasSound loose s formula variable_count choices v.changes v.goals v.first → CanRetract v
   can [] v is was = rw is tt
   can (c ∷ rest) v is was = rw is (was.1, was.2)
 
-  pub standing-can : (v : ProofStateValue) → IsStanding loose s formula vars v → CanRetract v
+  pub standing-can : (v : ProofStateValue) → IsStanding loose s formula variable_count v → CanRetract v
   standing-can v standing = can v.choices v refl standing.was
 
-  pub standing-retracted : (old new : ProofStateValue) (c : Choice) (rest : List Choice) → IsStanding loose s formula vars old
-      → old.choices ≡ c ∷ rest → new ≡ retracted old c rest → IsStanding loose s formula vars new
+  pub standing-retracted : (old new : ProofStateValue) (c : Choice) (rest : List Choice) → IsStanding loose s formula variable_count old
+      → old.choices ≡ c ∷ rest → new ≡ retracted old c rest → IsStanding loose s formula variable_count new
   standing-retracted old new c rest standing is new_is = rw new_is (record { asked = standing.asked; was = (rw is at standing.was).3 })
 
   -- ---- the start
@@ -191,13 +191,13 @@ module _ (loose : Bool) (s : Setting) (formula : List Atom) (vars : ℕ) where
   formula-goals [] = refl
   formula-goals (a ∷ atoms) = ap (λ gs. record { lit = positive_of a; path = []; budget = s.height } ∷ gs) (formula-goals atoms)
 
-  pub opening-sound : (v : ProofStateValue) → IsOpening formula vars s.height v → IsSound loose s formula vars [] v
+  pub opening-sound : (v : ProofStateValue) → IsOpening formula variable_count s.height v → IsSound loose s formula variable_count [] v
   opening-sound v opening =
-      let variables : variables_of v.changes ≡ vars = ap variables_of opening.variables ∙ variables-fresh [] vars ∙ omega arith in
+      let variables : variables_of v.changes ≡ variable_count = ap variables_of opening.variables ∙ variables-fresh [] variable_count ∙ omega arith in
       record {
         stands = record {
           pending = λ i. Some (record { variables = sym variables i; goals = sym (opening.opened ∙ formula-goals formula) i });
-          matched = λ tau. (λ fits. tt, λ solves. rw opening.variables (All-replicate (Meets tau) vars Fresh tt));
+          matched = λ tau. (λ fits. tt, λ solves. rw opening.variables (All-replicate (Meets tau) variable_count Fresh tt));
         };
         facts_in = tt;
         closing = tt;
@@ -207,14 +207,14 @@ module _ (loose : Bool) (s : Setting) (formula : List Atom) (vars : ℕ) where
         few = omega (arith, variables);
       }
 
-  pub opening-standing : (v : ProofStateValue) → IsProperQuestion s formula vars → IsOpening formula vars s.height v
-      → IsStanding loose s formula vars v
+  pub opening-standing : (v : ProofStateValue) → IsProperQuestion s formula variable_count → IsOpening formula variable_count s.height v
+      → IsStanding loose s formula variable_count v
   opening-standing v asked opening = record { asked = asked; was = go v.choices opening.choices }
     where
-      sound : IsSound loose s formula vars [] v
+      sound : IsSound loose s formula variable_count [] v
       sound = opening-sound v opening
 
-      go : (choices : List Choice) → choices ≡ [] → WasSound loose s formula vars choices v.changes v.goals v.first
+      go : (choices : List Choice) → choices ≡ [] → WasSound loose s formula variable_count choices v.changes v.goals v.first
       go [] is =
           let same : v.choices ≡ [] = opening.choices in
           record {
@@ -250,13 +250,13 @@ pub open-none : (arena : List OpenGoal) (at : ℕ) → at ≡ 0 → length (goal
 open-none arena at none = ap length (ap (goals_at arena) none ∙ goals_at-nothing arena)
 
 -- the visit is that of the ticks of the choices
-pub visit-made : (loose : Bool) (s : Setting) (formula : List Atom) (vars : ℕ) (v : ProofStateValue) → IsStanding loose s formula vars v
+pub visit-made : (loose : Bool) (s : Setting) (formula : List Atom) (variable_count : ℕ) (v : ProofStateValue) → IsStanding loose s formula variable_count v
     → (choices : List Choice) → reverse choices ≡ v.choices → (kept : ℕ) (last : Option Tick) (places : ℕ) → kept ≡ length choices - 1
     → map (λ (c : Choice). c.tick) choices ≡ take (length choices - 1) (map (λ (c : Choice). c.tick) choices) ++ tick_or_none last
     → places ≡ length (goals_at v.goals v.first)
-    → IsVisit (ticks_in v.choices) (open_count loose s formula vars (ticks_in v.choices))
+    → IsVisit (ticks_in v.choices) (open_count loose s formula variable_count (ticks_in v.choices))
     (record { kept = kept; last = last; places = places })
-visit-made loose s formula vars v standing choices are kept last places kept_is ends places_are =
+visit-made loose s formula variable_count v standing choices are kept last places kept_is ends places_are =
     let ticks_are : map (λ (c : Choice). c.tick) choices ≡ ticks_in v.choices = sym (ticks-map choices) ∙ ap ticks_in are in
     let count : length choices ≡ length (ticks_in v.choices) =
     sym (length-map choices (λ (c : Choice). c.tick)) ∙ ap length ticks_are in
@@ -265,5 +265,5 @@ visit-made loose s formula vars v standing choices are kept last places kept_is 
       ends =
           subst (λ (ts : List Tick). ts ≡ take kept ts ++ tick_or_none last) ticks_are
           (ends ∙ ap (λ n. take n (map (λ (c : Choice). c.tick) choices) ++ tick_or_none last) (sym kept_is));
-      left = places_are ∙ sym (count-open loose s formula vars v standing);
+      left = places_are ∙ sym (count-open loose s formula variable_count v standing);
     }

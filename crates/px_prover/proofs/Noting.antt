@@ -189,9 +189,9 @@ arguments-below n atoms i x terms within is terms_are all =
 
 -- ---- both
 
-pub over-both : (roots : List Term) (vars : ℕ) (atoms : List Atom) (old mid new : List ℕ) → old ≡ []
-    → NotesEnds (IsFirstVariable vars) roots old mid → NotesEnds (IsArgument atoms) roots mid new
-    → NotesEnds (IsOver vars atoms) roots [] new
-over-both roots vars atoms old mid new empty first second =
-    subst (λ (xs : List ℕ). NotesEnds (IsOver vars atoms) roots xs new) empty
-    (ends-both (IsFirstVariable vars) (IsArgument atoms) (IsOver vars atoms) roots old mid new first second (λ t. (λ h. h, λ h. h)))
+pub over-both : (roots : List Term) (variable_count : ℕ) (atoms : List Atom) (old mid new : List ℕ) → old ≡ []
+    → NotesEnds (IsFirstVariable variable_count) roots old mid → NotesEnds (IsArgument atoms) roots mid new
+    → NotesEnds (IsOver variable_count atoms) roots [] new
+over-both roots variable_count atoms old mid new empty first second =
+    subst (λ (xs : List ℕ). NotesEnds (IsOver variable_count atoms) roots xs new) empty
+    (ends-both (IsFirstVariable variable_count) (IsArgument atoms) (IsOver variable_count atoms) roots old mid new first second (λ t. (λ h. h, λ h. h)))

@@ -27,7 +27,7 @@ other-open arena at g older some within is next =
     (slice_get-get_or arena (g.next - 1) g (omega (arith, here.1, within, next, some))) in
     omega (arith, here.0, there.0)
 
-module _ (loose : Bool) (s : Setting) (formula : List Atom) (vars : ℕ) where
+module _ (loose : Bool) (s : Setting) (formula : List Atom) (variable_count : ℕ) where
   -- a closing leaves open what comes after the first place
   still-open : (ticks : List Tick) (u : Tick) (n : ℕ) (goals : List Goal) (p q : Pending) → open_after loose s n goals ticks ≡ Some p
       → 1 < length p.goals → open_after loose s n goals (ticks ++ u ∷ []) ≡ Some q → 0 < length q.goals
@@ -54,28 +54,28 @@ module _ (loose : Bool) (s : Setting) (formula : List Atom) (vars : ℕ) where
           next closing (sym (open_after-step loose s n g goals t ticks closing is) ∙ now) two
           (sym (open_after-step loose s n g goals t (ticks ++ u ∷ []) closing is) ∙ later)
 
-  none-finished : (v : ProofStateValue) → IsStanding loose s formula vars v → 1 < length (goals_at v.goals v.first) → (u : Tick)
-      → IsPossible loose s formula vars (ticks_in v.choices ++ u ∷ []) → ¬ IsFinished loose s formula vars (ticks_in v.choices ++ u ∷ [])
+  none-finished : (v : ProofStateValue) → IsStanding loose s formula variable_count v → 1 < length (goals_at v.goals v.first) → (u : Tick)
+      → IsPossible loose s formula variable_count (ticks_in v.choices ++ u ∷ []) → ¬ IsFinished loose s formula variable_count (ticks_in v.choices ++ u ∷ [])
   none-finished v standing two u possible finished =
-      let none : left_of (open_after loose s vars (goals_of s formula) (ticks_in v.choices ++ u ∷ [])) ≡ 0 = finished in
+      let none : left_of (open_after loose s variable_count (goals_of s formula) (ticks_in v.choices ++ u ∷ [])) ≡ 0 = finished in
       let some =
-      still-open (ticks_in v.choices) u vars (goals_of s formula)
+      still-open (ticks_in v.choices) u variable_count (goals_of s formula)
       (record { variables = variables_of v.changes; goals = goals_at v.goals v.first }) possible.1.0
-      (standing-sound loose s formula vars v standing).stands.pending two possible.1.1 in
+      (standing-sound loose s formula variable_count v standing).stands.pending two possible.1.1 in
       omega (arith, some, sym (ap left_of possible.1.1) ∙ none)
 
 -- so there is nothing to gather
-pub nothing-more : (kept : ℕ) (s : Setting) (formula : List Atom) (vars : ℕ) (v : ProofStateValue) → IsStanding true s formula vars v
+pub nothing-more : (kept : ℕ) (s : Setting) (formula : List Atom) (variable_count : ℕ) (v : ProofStateValue) → IsStanding true s formula variable_count v
     → 1 < length (goals_at v.goals v.first) → (seen : List (List Tick)) (found : List GapPattern)
-    → ArePatternsOf kept s formula vars seen found → ArePatternsOf kept s formula vars (seen ++ ticks_in v.choices ∷ []) found
-nothing-more kept s formula vars v standing two seen found are =
-    patterns-more kept s formula vars seen (ticks_in v.choices) found found are (
+    → ArePatternsOf kept s formula variable_count seen found → ArePatternsOf kept s formula variable_count (seen ++ ticks_in v.choices ∷ []) found
+nothing-more kept s formula variable_count v standing two seen found are =
+    patterns-more kept s formula variable_count seen (ticks_in v.choices) found found are (
       λ all. all,
       λ objects gaps. (
         λ offered. inl offered,
         λ offered. elim offered [
           | inl before ↦ before
-          | inr gives ↦ absurd (none-finished true s formula vars v standing two gives.0 gives.1.1.0 gives.1.1.1)
+          | inr gives ↦ absurd (none-finished true s formula variable_count v standing two gives.0 gives.1.1.0 gives.1.1.1)
         ],
       ),
     )

@@ -15,9 +15,9 @@ use Rattle.px_terms.specs.declared.atom.Atom.{Atom}
 
 pub pattern_eq-decides : (first second : GapPattern) → Decides ((pattern_equality.ghosts).eq first second) (first ≡ second)
 pattern_eq-decides a b =
-    Decides-like _ (λ e i. record { vars = e.0 i; terms = e.1.0 i; atoms = e.1.1 i })
-    (λ e. (ap (λ (p : GapPattern). p.vars) e, (ap (λ (p : GapPattern). p.terms) e, ap (λ (p : GapPattern). p.atoms) e)))
-    (Decides-and _ _ (Decides-eqb a.vars b.vars) (Decides-and _ _ (pointwise_decides term_eq-decides a.terms b.terms)
+    Decides-like _ (λ e i. record { variable_count = e.0 i; terms = e.1.0 i; atoms = e.1.1 i })
+    (λ e. (ap (λ (p : GapPattern). p.variable_count) e, (ap (λ (p : GapPattern). p.terms) e, ap (λ (p : GapPattern). p.atoms) e)))
+    (Decides-and _ _ (Decides-eqb a.variable_count b.variable_count) (Decides-and _ _ (pointwise_decides term_eq-decides a.terms b.terms)
     (pointwise_decides atom_eq-decides a.atoms b.atoms)))
 
 -- the same patterns, in any order and number
@@ -30,9 +30,9 @@ module _ (old new : List GapPattern) (same : (pattern : GapPattern) → Contains
   same-offers limit objects gaps =
       (λ h. (h.0, (same h.0).0 h.1, h.2), λ h. (h.0, (same h.0).1 h.1, h.2))
 
-  pub patterns-same : (kept : ℕ) (s : Setting) (formula : List Atom) (vars : ℕ) → AreKeptPatterns kept s formula vars old
-      → AreKeptPatterns kept s formula vars new
-  patterns-same kept s formula vars are = record {
+  pub patterns-same : (kept : ℕ) (s : Setting) (formula : List Atom) (variable_count : ℕ) → AreKeptPatterns kept s formula variable_count old
+      → AreKeptPatterns kept s formula variable_count new
+  patterns-same kept s formula variable_count are = record {
     form = same-form s.objects kept are.form;
     exact = λ objects gaps.
         let both = same-offers s.objects objects gaps in (
@@ -41,9 +41,9 @@ module _ (old new : List GapPattern) (same : (pattern : GapPattern) → Contains
         );
   }
 
-  pub pruned-same : (kept : ℕ) (s : Setting) (formula : List Atom) (vars : ℕ) (seen : List (List Tick))
-      → ArePatternsOf kept s formula vars seen old → ArePatternsOf kept s formula vars seen new
-  pruned-same kept s formula vars seen are = record {
+  pub pruned-same : (kept : ℕ) (s : Setting) (formula : List Atom) (variable_count : ℕ) (seen : List (List Tick))
+      → ArePatternsOf kept s formula variable_count seen old → ArePatternsOf kept s formula variable_count seen new
+  pruned-same kept s formula variable_count seen are = record {
     form = same-form s.objects kept are.form;
     offers = λ objects gaps.
         let both = same-offers s.objects objects gaps in (

@@ -22,9 +22,9 @@ each_of_problem problem listed (atom ∷ atoms) [] each = absurd each
 each_of_problem problem listed (atom ∷ atoms) (d ∷ ds) each =
     All-cons (IsDerivationOf problem 0) d ds each.0.here.of_problem (each_of_problem problem listed atoms ds each.1)
 
-pub answer-of_problem : (problem : Problem) (listed formula : List Atom) (vars : ℕ) (objects : List ℕ) (ds : List Derivation)
-    → IsValid problem → All (IsAtomOf problem vars) formula
-    → IsFirst (setting_of problem listed) formula vars objects (derivations ds) → All (IsDerivationOf problem 0) ds
-answer-of_problem problem listed formula vars objects ds valid scope first =
+pub answer-of_problem : (problem : Problem) (listed formula : List Atom) (variable_count : ℕ) (objects : List ℕ) (ds : List Derivation)
+    → IsValid problem → All (IsAtomOf problem variable_count) formula
+    → IsFirst (setting_of problem listed) formula variable_count objects (derivations ds) → All (IsDerivationOf problem 0) ds
+answer-of_problem problem listed formula variable_count objects ds valid scope first =
     each_of_problem problem listed (map (substitute_atom (object_terms objects)) formula) ds
-    (answers-make_rows.under problem listed formula vars objects ds valid.axioms scope first.finished)
+    (answers-make_rows.under problem listed formula variable_count objects ds valid.axioms scope first.finished)

@@ -26,8 +26,8 @@ use Rattle.px_proof_walk.proofs.Objects.{goals-in}
 abbrev pub goal_in : ProofStateValue → OpenGoal → Goal
 goal_in old g = record { lit = g.lit; path = path_at old.goals g.above; budget = g.budget }
 
-module _ (loose : Bool) (s : Setting) (formula : List Atom) (vars : ℕ) (ticks : List Tick) (old : ProofStateValue) (goal : OpenGoal)
-    (ready : IsReadyToTry loose s formula vars ticks old goal) where
+module _ (loose : Bool) (s : Setting) (formula : List Atom) (variable_count : ℕ) (ticks : List Tick) (old : ProofStateValue) (goal : OpenGoal)
+    (ready : IsReadyToTry loose s formula variable_count ticks old goal) where
   older : (goal.above ≤ old.first - 1) × (goal.next ≤ old.first - 1)
   older = ready.sound.arena (old.first - 1) goal ready.at
 
@@ -49,9 +49,9 @@ module _ (loose : Bool) (s : Setting) (formula : List Atom) (vars : ℕ) (ticks 
 
   all_in : AllByRecursion (IsGoalIn s.objects (variables_of old.changes)) (goals_at old.goals old.first)
   all_in =
-      open-in loose s ready.asked.setting ticks vars (goals_of s formula)
+      open-in loose s ready.asked.setting ticks variable_count (goals_of s formula)
       (record { variables = variables_of old.changes; goals = goals_at old.goals old.first }) ready.sound.facts_in
-      (goals-in s vars formula ready.asked.scope) ready.sound.stands.pending
+      (goals-in s variable_count formula ready.asked.scope) ready.sound.stands.pending
 
   head-in : (gs : List Goal) (g : Goal) (rest : List Goal) → gs ≡ g ∷ rest
       → AllByRecursion (IsGoalIn s.objects (variables_of old.changes)) gs → IsGoalIn s.objects (variables_of old.changes) g
@@ -72,19 +72,19 @@ module _ (loose : Bool) (s : Setting) (formula : List Atom) (vars : ℕ) (ticks 
   pub ready-near : length (path_at old.goals goal.above) ≤ u32_max
   ready-near =
       let near = head-near (0 + length ticks) (goals_at old.goals old.first) (goal_in old goal) (goals_at old.goals goal.next) ready-open
-      (open-near loose s ticks vars 0 (goals_of s formula)
+      (open-near loose s ticks variable_count 0 (goals_of s formula)
       (record { variables = variables_of old.changes; goals = goals_at old.goals old.first })
       (goals-near loose s formula) ready.sound.stands.pending) in
       omega (arith, near, ready.room)
 
   fit-at : (number : ℕ) (clause : Clause) → slice_get s.axioms number ≡ Some clause → IsFit (variables_of old.changes) clause
   fit-at number clause is =
-      let few : clause.vars ≤ most_formula_variables =
-      All-got (λ (c : Clause). c.vars ≤ most_formula_variables) s.axioms number clause ready.asked.clauses is in
+      let few : clause.variable_count ≤ most_formula_variables =
+      All-got (λ (c : Clause). c.variable_count ≤ most_formula_variables) s.axioms number clause ready.asked.clauses is in
       record {
         few = few;
         small = omega (arith, few, ready.sound.few, ready.asked.few_variables, ready.room);
-        plain = lits-plain s.objects clause.vars clause.lits (ready.asked.setting.clauses number clause is);
+        plain = lits-plain s.objects clause.variable_count clause.lits (ready.asked.setting.clauses number clause is);
       }
 
   pub ready-fit : All (IsFit (variables_of old.changes)) s.axioms

@@ -15,7 +15,7 @@ use Rattle.px_terms.specs.declared.clause.Lit.{Lit}
 use Rattle.px_terms.specs.declared.term.Term.{Term}
 use Rattle.px_terms.specs.declared.term.Term.TheVariants.{Obj, Var, Any}
 use Rattle.px_terms.specs.Substitution.{variables_from}
-use Rattle.px_proof_walk.specs.Pending.{Goal, Closing, Pending, open_after, closing_at, fresh_of, vars_of, goals_of, goals_below, by_fact, by_ancestor, by_literal, by_step, has_room}
+use Rattle.px_proof_walk.specs.Pending.{Goal, Closing, Pending, open_after, closing_at, fresh_of, variable_count_of, goals_of, goals_below, by_fact, by_ancestor, by_literal, by_step, has_room}
 use Rattle.px_proof_walk.specs.Scope.{IsSetting, IsLitIn, IsGoalIn}
 use Rattle.px_proof_walk.proofs.Every.{all-both, all-weaker}
 use Rattle.px_proof_walk.proofs.Lifting.{open_after-step}
@@ -73,7 +73,7 @@ module _ (loose : Bool) (s : Setting) (valid : IsSetting s) where
   object-there (tick ∷ ticks) n (goal ∷ goals) p ends given some =
       go (closing_at loose s n goal tick) refl (λ closing. object-there ticks (n + fresh_of s tick) (closing.parts ++ goals) p)
     where
-      by_clause : (number : ℕ) (o : Option Clause) → slice_get s.axioms number ≡ o → 0 < vars_of o → 0 < s.objects
+      by_clause : (number : ℕ) (o : Option Clause) → slice_get s.axioms number ≡ o → 0 < variable_count_of o → 0 < s.objects
       by_clause number None is there = absurd (omega (arith, there))
       by_clause number (Some clause) is there = valid.some_object number clause is there
 
@@ -139,7 +139,7 @@ module _ (loose : Bool) (s : Setting) (n : ℕ) (goal : Goal) (k : ℕ) (near : 
   closing-near (Fact i) closing is = fact-near (slice_get s.facts i) closing is
   closing-near (Anc i) closing is = ancestor-near (slice_get goal.path i) closing is
   closing-near (Step number place) closing is =
-      step-near (variables_from n (vars_of (slice_get s.axioms number))) place (slice_get s.axioms number) closing is
+      step-near (variables_from n (variable_count_of (slice_get s.axioms number))) place (slice_get s.axioms number) closing is
   closing-near Gap closing is = same-near (loose && goal.lit.positive && list_any (nat_eq goal.lit.atom.pred) s.added) closing is
   closing-near Open closing is = same-near true closing is
 

@@ -168,24 +168,24 @@ step-since from place k start p after begins past = elim (less_same_more from k)
 past-none : {X : Type 0} (xs : List X) (k : ℕ) (x : X) → length xs ≤ k → ¬ (slice_get xs k ≡ Some x)
 past-none xs k x past at = omega (arith, past, slice_get-within xs k x at)
 
-module _ (loose : Bool) (s : Setting) (formula : List Atom) (vars : ℕ) (ticks : List Tick) (old : ProofStateValue) (goal : OpenGoal)
-    (ready : IsReadyToTry loose s formula vars ticks old goal) where
+module _ (loose : Bool) (s : Setting) (formula : List Atom) (variable_count : ℕ) (ticks : List Tick) (old : ProofStateValue) (goal : OpenGoal)
+    (ready : IsReadyToTry loose s formula variable_count ticks old goal) where
   open_is : goals_at old.goals old.first ≡ goal_in old goal ∷ goals_at old.goals goal.next
-  open_is = ready-open loose s formula vars ticks old goal ready
+  open_is = ready-open loose s formula variable_count ticks old goal ready
 
   path_is : path_at old.goals old.first ≡ goal.lit ∷ path_at old.goals goal.above
-  path_is = ready-path loose s formula vars ticks old goal ready
+  path_is = ready-path loose s formula variable_count ticks old goal ready
 
   abbrev pub Leads : Tick → Type 0
-  Leads u = IsPossible loose s formula vars (ticks ++ u ∷ [])
+  Leads u = IsPossible loose s formula variable_count (ticks ++ u ∷ [])
 
   abbrev pub Tried : Tick → ProofStateValue → Bool → Type 0
-  Tried start new found = TriesAmong (IsSince start) loose s formula vars ticks old new found
+  Tried start new found = TriesAmong (IsSince start) loose s formula variable_count ticks old new found
 
   -- the first number of a kind that leads to a list comes before the later numbers and the later kinds
   found-number : (kind : ℕ → Tick) (from k : ℕ) (after : Tick) (new : ProofStateValue) → from ≤ k
       → ((u : Tick) → IsSince (kind from) u → ((j : ℕ) × (u ≡ kind j) × (from ≤ j)) ⊎ IsSince after u)
-      → ((i j : ℕ) → i ≤ j → IsSince (kind i) (kind j)) → IsLonger loose s formula vars ticks old (kind k) new
+      → ((i j : ℕ) → i ≤ j → IsSince (kind i) (kind j)) → IsLonger loose s formula variable_count ticks old (kind k) new
       → ((j : ℕ) → from ≤ j → j < k → ¬ Leads (kind j)) → tick_kind (kind k) < tick_kind after → Tried (kind from) new true
   found-number kind from k after new reached split since longer never earlier = record {
     least = λ is_found. (kind k, since from k reached, longer, λ u start leads. go u (split u start) leads);
@@ -216,9 +216,9 @@ module _ (loose : Bool) (s : Setting) (formula : List Atom) (vars : ℕ) (ticks 
 
   fact-off : (from j : ℕ) → ((i : ℕ) → from ≤ i → i < length s.facts → NeverFact s.objects s.facts old goal i) → from ≤ j → ¬ Leads (Fact j)
   fact-off from j never after leads =
-      fact-nowhere loose s ready.asked.setting formula vars ticks old old ready.sound.stands goal (goal_in old goal)
+      fact-nowhere loose s ready.asked.setting formula variable_count ticks old old ready.sound.stands goal (goal_in old goal)
       (goals_at old.goals goal.next) open_is refl refl
-      (ready-in loose s formula vars ticks old goal ready).lit j
+      (ready-in loose s formula variable_count ticks old goal ready).lit j
       (elim (cases_lt j (length s.facts)) [ inl h ↦ never j after h | inr past ↦ λ fact at. absurd (past-none s.facts j fact past at) ])
       leads.1
 
@@ -228,13 +228,13 @@ module _ (loose : Bool) (s : Setting) (formula : List Atom) (vars : ℕ) (ticks 
   fact-found from new range =
       let h = range.least refl in
       let stands =
-      fact-stands loose s ready.asked.setting formula vars ticks old new ready.sound.stands goal (goal_in old goal)
+      fact-stands loose s ready.asked.setting formula variable_count ticks old new ready.sound.stands goal (goal_in old goal)
       (goals_at old.goals goal.next) open_is refl refl h.0 h.3 in
       found-number (λ j. Fact j) from h.0 (Anc 0) new h.1 (since-fact from) fact-since
-      (longer-closed loose s formula vars ticks old new goal ready (Fact h.0) tt (fact-in s h.0 h.3.0 h.3.1 h.3.2) stands
+      (longer-closed loose s formula variable_count ticks old new goal ready (Fact h.0) tt (fact-in s h.0 h.3.0 h.3.1 h.3.2) stands
       (positive_of h.3.0) h.3.3)
-      (λ j after before leads. fact-nowhere loose s ready.asked.setting formula vars ticks old old ready.sound.stands goal
-      (goal_in old goal) (goals_at old.goals goal.next) open_is refl refl (ready-in loose s formula vars ticks old goal ready).lit j
+      (λ j after before leads. fact-nowhere loose s ready.asked.setting formula variable_count ticks old old ready.sound.stands goal
+      (goal_in old goal) (goals_at old.goals goal.next) open_is refl refl (ready-in loose s formula variable_count ticks old goal ready).lit j
       (h.4 j after before) leads.1) (omega arith)
 
   pub fact-join : (from : ℕ) (mid : ProofStateValue)
@@ -249,7 +249,7 @@ module _ (loose : Bool) (s : Setting) (formula : List Atom) (vars : ℕ) (ticks 
   ancestor-off : (from j : ℕ) → ((i : ℕ) → from ≤ i → i < length (path_at old.goals goal.above)
       → NeverAncestor (path_at old.goals goal.above) old goal i) → from ≤ j → ¬ Leads (Anc j)
   ancestor-off from j never after leads =
-      ancestor-nowhere loose s ready.asked.setting formula vars ticks old old ready.sound.stands goal (goal_in old goal)
+      ancestor-nowhere loose s ready.asked.setting formula variable_count ticks old old ready.sound.stands goal (goal_in old goal)
       (goals_at old.goals goal.next) open_is refl refl j
       (elim (cases_lt j (length (path_at old.goals goal.above))) [
         | inl h ↦ never j after h
@@ -264,11 +264,11 @@ module _ (loose : Bool) (s : Setting) (formula : List Atom) (vars : ℕ) (ticks 
   ancestor-found from new range =
       let h = range.least refl in
       let stands =
-      ancestor-stands loose s ready.asked.setting formula vars ticks old new ready.sound.stands goal (goal_in old goal)
+      ancestor-stands loose s ready.asked.setting formula variable_count ticks old new ready.sound.stands goal (goal_in old goal)
       (goals_at old.goals goal.next) open_is refl refl h.0 h.3 in
       found-number (λ j. Anc j) from h.0 (Step 0 0) new h.1 (since-ancestor from) anc-since
-      (longer-closed loose s formula vars ticks old new goal ready (Anc h.0) tt tt stands (complement_of h.3.0) h.3.2)
-      (λ j after before leads. ancestor-nowhere loose s ready.asked.setting formula vars ticks old old ready.sound.stands goal
+      (longer-closed loose s formula variable_count ticks old new goal ready (Anc h.0) tt tt stands (complement_of h.3.0) h.3.2)
+      (λ j after before leads. ancestor-nowhere loose s ready.asked.setting formula variable_count ticks old old ready.sound.stands goal
       (goal_in old goal) (goals_at old.goals goal.next) open_is refl refl j (h.4 j after before) leads.1) (omega arith)
 
   pub ancestor-join : (from : ℕ) (mid : ProofStateValue)
@@ -284,7 +284,7 @@ module _ (loose : Bool) (s : Setting) (formula : List Atom) (vars : ℕ) (ticks 
   axiom-off : (from place c p : ℕ) → NeverAxiom s.axioms old goal from place c → StandsAt from place c p → ¬ Leads (Step c p)
   axiom-off from place c p never at leads =
       let begin = begin-at from place c p at in
-      axiom-nowhere loose s formula vars ticks old old ready.sound.stands goal (goal_in old goal)
+      axiom-nowhere loose s formula variable_count ticks old old ready.sound.stands goal (goal_in old goal)
       (goals_at old.goals goal.next) open_is refl refl path_is refl from place c never begin.0 begin.1 p begin.2 leads.1
 
   pub axiom-found : (from place : ℕ) (new : ProofStateValue)
@@ -294,13 +294,13 @@ module _ (loose : Bool) (s : Setting) (formula : List Atom) (vars : ℕ) (ticks 
     least = λ is_found.
         let h = range.least refl in
         let first =
-        axiom-first loose s formula vars ticks old new ready.sound.stands goal (goal_in old goal)
+        axiom-first loose s formula variable_count ticks old new ready.sound.stands goal (goal_in old goal)
         (goals_at old.goals goal.next) open_is refl refl path_is refl from place h.0 h.3 in
-        let few : first.clause.vars ≤ most_formula_variables =
-        All-got (λ (c : Clause). c.vars ≤ most_formula_variables) s.axioms h.0 first.clause ready.asked.clauses first.is_at in (
+        let few : first.clause.variable_count ≤ most_formula_variables =
+        All-got (λ (c : Clause). c.variable_count ≤ most_formula_variables) s.axioms h.0 first.clause ready.asked.clauses first.is_at in (
           Step h.0 first.p,
           step-since from place h.0 first.start first.p h.1 first.begins first.after,
-          longer-stepped loose s formula vars ticks old new goal ready
+          longer-stepped loose s formula variable_count ticks old new goal ready
               (Step h.0 first.p) tt tt first.stays first.clause first.p few first.closes,
           λ u since leads. go h.0 first.start first.p first.begins
               (λ c p at before. axiom-off from place c p (h.4 c (at-least from place c p at) before) at) first.before u
@@ -310,7 +310,7 @@ module _ (loose : Bool) (s : Setting) (formula : List Atom) (vars : ℕ) (ticks 
   }
     where
       go : (k start p : ℕ) → IsFrom k from place start → ((c q : ℕ) → StandsAt from place c q → c < k → ¬ Leads (Step c q))
-          → ((q : ℕ) → start ≤ q → q < p → ¬ IsFeasible loose s formula vars (ticks ++ Step k q ∷ []))
+          → ((q : ℕ) → start ≤ q → q < p → ¬ IsFeasible loose s formula variable_count (ticks ++ Step k q ∷ []))
           → (u : Tick) → ((c : ℕ) × (q : ℕ) × (u ≡ Step c q) × StandsAt from place c q) ⊎ IsSince Gap u → Leads u → IsSince (Step k p) u
       go k start p begins earlier before u (inl (c, q, e, at)) leads = rw e (elim (less_same_more k c) [
         | inl h ↦ inr (inr (inl (refl, h)))
@@ -353,7 +353,7 @@ module _ (loose : Bool) (s : Setting) (formula : List Atom) (vars : ℕ) (ticks 
     where
       off : (u : Tick) → u ≡ Gap → ¬ Leads u
       off u e leads =
-          none-at loose s formula vars ticks old old ready.sound.stands Gap (goal_in old goal) (goals_at old.goals goal.next) open_is
+          none-at loose s formula variable_count ticks old old ready.sound.stands Gap (goal_in old goal) (goals_at old.goals goal.next) open_is
           (rw is refl) (rw e at leads).1
 
   pub gap-closed : (loose && goal.lit.positive && list_any (nat_eq goal.lit.atom.pred) s.added) ≡ true
@@ -363,11 +363,11 @@ module _ (loose : Bool) (s : Setting) (formula : List Atom) (vars : ℕ) (ticks 
         let closing : closing_at loose s (variables_of old.changes) (goal_in old goal) Gap
         ≡ Some (record { equal_to = goal.lit; parts = [] }) = rw is refl in
         let stands =
-        stands-closed loose s formula vars ticks old new ready.sound.stands Gap (goal_in old goal)
+        stands-closed loose s formula variable_count ticks old new ready.sound.stands Gap (goal_in old goal)
         (goals_at old.goals goal.next) goal.lit goal.next open_is refl closing refl closes in (
           Gap,
           inl refl,
-          longer-closed loose s formula vars ticks old new goal ready Gap tt tt stands goal.lit closes,
+          longer-closed loose s formula variable_count ticks old new goal ready Gap tt tt stands goal.lit closes,
           λ u since leads. inl (sym (since-gap u since)),
         );
     no_more = λ is_not. absurd (cc);
@@ -381,5 +381,5 @@ module _ (loose : Bool) (s : Setting) (formula : List Atom) (vars : ℕ) (ticks 
       off u e leads =
           let closing : closing_at loose s (variables_of old.changes) (goal_in old goal) Gap
           ≡ Some (record { equal_to = goal.lit; parts = [] }) = rw is refl in
-          none-closed loose s formula vars ticks old new ready.sound.stands Gap (goal_in old goal)
+          none-closed loose s formula variable_count ticks old new ready.sound.stands Gap (goal_in old goal)
           (goals_at old.goals goal.next) goal.lit goal.next open_is refl closing refl closes (rw e at leads).1

@@ -11,7 +11,7 @@ use Rattle.px_proof.specs.Proves.{instance_of, parts_of}
 use Rattle.px_unify.specs.Changes.{Fits, variables_of}
 use Rattle.px_question.specs.Settings.{Setting}
 use Rattle.px_terms.specs.Substitution.{variables_from}
-use Rattle.px_proof_walk.specs.Pending.{Goal, Closing, open_after, closing_at, fresh_of, vars_of, goals_of, goals_below, has_room, IsFeasible}
+use Rattle.px_proof_walk.specs.Pending.{Goal, Closing, open_after, closing_at, fresh_of, variable_count_of, goals_of, goals_below, has_room, IsFeasible}
 use Rattle.px_proof_walk.proofs.Pushing.{open_after-push}
 use Rattle.px_proof_walk.proofs.Attempts.{matched-push, infeasible-clash, infeasible-none}
 use Rattle.px_proof_state.specs.declared.open.OpenGoal.{OpenGoal}
@@ -32,10 +32,10 @@ pub step-closing : (loose : Bool) (s : Setting) (n : ℕ) (goal : Goal) (number 
     → closing_at loose s n goal (Step number place)
     ≡ Some (record {
       equal_to = new_literal n clause place;
-      parts = goals_below goal (parts_of clause.lits (variables_from n clause.vars) place);
+      parts = goals_below goal (parts_of clause.lits (variables_from n clause.variable_count) place);
     })
 step-closing loose s n goal number place clause is room within =
-    let literal = slice_get-literal clause.lits (variables_from n clause.vars) place no_literal within in
+    let literal = slice_get-literal clause.lits (variables_from n clause.variable_count) place no_literal within in
     rw (is, room, literal) refl
 
 -- and that it doesn't without room, or where there is none
@@ -47,10 +47,10 @@ goals-same : (goal : Goal) (path : List Lit) (budget : ℕ) (lits : List Lit) �
     → goals_under path budget lits ≡ goals_below goal lits
 goals-same goal path budget lits path_is budget_is = rw (path_is, budget_is) refl
 
-module _ (loose : Bool) (s : Setting) (formula : List Atom) (vars : ℕ) (ticks : List Tick) (old new : ProofStateValue)
-    (stands : Stands loose s formula vars ticks old)
+module _ (loose : Bool) (s : Setting) (formula : List Atom) (variable_count : ℕ) (ticks : List Tick) (old new : ProofStateValue)
+    (stands : Stands loose s formula variable_count ticks old)
     (tick : Tick) (goal : Goal) (goals : List Goal) (open_is : goals_at old.goals old.first ≡ goal ∷ goals) where
-  now : open_after loose s vars (goals_of s formula) ticks ≡ Some (record { variables = variables_of old.changes; goals = goal ∷ goals })
+  now : open_after loose s variable_count (goals_of s formula) ticks ≡ Some (record { variables = variables_of old.changes; goals = goal ∷ goals })
   now = rw (← open_is) stands.pending
 
   -- a state in which the closing's literal is equal to the goal's and its parts come first
@@ -58,28 +58,28 @@ module _ (loose : Bool) (s : Setting) (formula : List Atom) (vars : ℕ) (ticks 
       → ((tau : List Term) → Fits tau new.changes
       ↔ (Fits tau old.changes × (substitute_literal tau goal.lit ≡ substitute_literal tau closing.equal_to)))
       → variables_of new.changes ≡ variables_of old.changes + fresh_of s tick → goals_at new.goals new.first ≡ closing.parts ++ goals
-      → Stands loose s formula vars (ticks ++ tick ∷ []) new
+      → Stands loose s formula variable_count (ticks ++ tick ∷ []) new
   stands-longer closing is agree variables parts = record {
     pending =
-        rw (parts, variables) (open_after-push loose s tick goal goals (variables_of old.changes) ticks vars
+        rw (parts, variables) (open_after-push loose s tick goal goals (variables_of old.changes) ticks variable_count
         (goals_of s formula) closing now is);
     matched =
-        matched-push loose s formula vars (variables_of old.changes) goal goals ticks old.changes tick now stands.matched new.changes
+        matched-push loose s formula variable_count (variables_of old.changes) goal goals ticks old.changes tick now stands.matched new.changes
         closing is agree;
   }
 
-  pub none-at : closing_at loose s (variables_of old.changes) goal tick ≡ None → ¬ IsFeasible loose s formula vars (ticks ++ tick ∷ [])
-  none-at is = infeasible-none loose s formula vars (variables_of old.changes) goal goals ticks old.changes tick now stands.matched is
+  pub none-at : closing_at loose s (variables_of old.changes) goal tick ≡ None → ¬ IsFeasible loose s formula variable_count (ticks ++ tick ∷ [])
+  none-at is = infeasible-none loose s formula variable_count (variables_of old.changes) goal goals ticks old.changes tick now stands.matched is
 
   pub none-agree : (closing : Closing) → closing_at loose s (variables_of old.changes) goal tick ≡ Some closing
       → ((tau : List Term) → Fits tau old.changes → ¬ (substitute_literal tau goal.lit ≡ substitute_literal tau closing.equal_to))
-      → ¬ IsFeasible loose s formula vars (ticks ++ tick ∷ [])
+      → ¬ IsFeasible loose s formula variable_count (ticks ++ tick ∷ [])
   none-agree closing is never =
-      infeasible-clash loose s formula vars (variables_of old.changes) goal goals ticks old.changes tick now stands.matched closing is never
+      infeasible-clash loose s formula variable_count (variables_of old.changes) goal goals ticks old.changes tick now stands.matched closing is never
 
 -- the same for a step
-module _ (loose : Bool) (s : Setting) (formula : List Atom) (vars : ℕ) (ticks : List Tick) (old new : ProofStateValue)
-    (stands : Stands loose s formula vars ticks old)
+module _ (loose : Bool) (s : Setting) (formula : List Atom) (variable_count : ℕ) (ticks : List Tick) (old new : ProofStateValue)
+    (stands : Stands loose s formula variable_count ticks old)
     (g : OpenGoal) (goal : Goal) (goals : List Goal) (open_is : goals_at old.goals old.first ≡ goal ∷ goals)
     (rest_is : goals_at old.goals g.next ≡ goals)
     (lit_is : g.lit ≡ goal.lit) (path_is : path_at old.goals old.first ≡ goal.lit ∷ goal.path) (budget_is : g.budget ≡ goal.budget)
@@ -88,24 +88,24 @@ module _ (loose : Bool) (s : Setting) (formula : List Atom) (vars : ℕ) (ticks 
   is : closing_at loose s (variables_of old.changes) goal (Step number place)
       ≡ Some (record {
         equal_to = new_literal (variables_of old.changes) clause place;
-        parts = goals_below goal (parts_of clause.lits (variables_from (variables_of old.changes) clause.vars) place);
+        parts = goals_below goal (parts_of clause.lits (variables_from (variables_of old.changes) clause.variable_count) place);
       })
   is = step-closing loose s (variables_of old.changes) goal number place clause axiom_is room within
 
   pub stands-stepped : ClosesByStep old new (Step number place) g clause place true
-      → Stands loose s formula vars (ticks ++ Step number place ∷ []) new
+      → Stands loose s formula variable_count (ticks ++ Step number place ∷ []) new
   stands-stepped closes =
-      let fresh : fresh_of s (Step number place) ≡ clause.vars = ap vars_of axiom_is in
+      let fresh : fresh_of s (Step number place) ≡ clause.variable_count = ap variable_count_of axiom_is in
       let parts : goals_at new.goals new.first
-      ≡ goals_below goal (parts_of clause.lits (variables_from (variables_of old.changes) clause.vars) place) ++ goals =
+      ≡ goals_below goal (parts_of clause.lits (variables_from (variables_of old.changes) clause.variable_count) place) ++ goals =
       closes.opened refl
       ∙ ap (λ gs. gs ++ goals_at old.goals g.next) (goals-same goal (path_at old.goals old.first) (g.budget - 1)
-      (parts_of clause.lits (variables_from (variables_of old.changes) clause.vars) place) path_is (ap (λ b. b - 1) budget_is))
-      ∙ ap (λ gs. goals_below goal (parts_of clause.lits (variables_from (variables_of old.changes) clause.vars) place) ++ gs) rest_is in
-      stands-longer loose s formula vars ticks old new stands (Step number place) goal goals open_is
+      (parts_of clause.lits (variables_from (variables_of old.changes) clause.variable_count) place) path_is (ap (λ b. b - 1) budget_is))
+      ∙ ap (λ gs. goals_below goal (parts_of clause.lits (variables_from (variables_of old.changes) clause.variable_count) place) ++ gs) rest_is in
+      stands-longer loose s formula variable_count ticks old new stands (Step number place) goal goals open_is
       (record {
         equal_to = new_literal (variables_of old.changes) clause place;
-        parts = goals_below goal (parts_of clause.lits (variables_from (variables_of old.changes) clause.vars) place);
+        parts = goals_below goal (parts_of clause.lits (variables_from (variables_of old.changes) clause.variable_count) place);
       })
       is
       (rw lit_is at (closes.is_match.agree refl))
@@ -113,12 +113,12 @@ module _ (loose : Bool) (s : Setting) (formula : List Atom) (vars : ℕ) (ticks 
       parts
 
   pub none-stepped : ClosesByStep old new (Step number place) g clause place false
-      → ¬ IsFeasible loose s formula vars (ticks ++ Step number place ∷ [])
+      → ¬ IsFeasible loose s formula variable_count (ticks ++ Step number place ∷ [])
   none-stepped closes =
-      none-agree loose s formula vars ticks old new stands (Step number place) goal goals open_is
+      none-agree loose s formula variable_count ticks old new stands (Step number place) goal goals open_is
       (record {
         equal_to = new_literal (variables_of old.changes) clause place;
-        parts = goals_below goal (parts_of clause.lits (variables_from (variables_of old.changes) clause.vars) place);
+        parts = goals_below goal (parts_of clause.lits (variables_from (variables_of old.changes) clause.variable_count) place);
       })
       is
       (rw lit_is at (closes.is_match.never refl))

@@ -98,7 +98,7 @@ tuples-only objects (suc n) t has =
     (omega (arith, length_push r.0 r.1, before.0), All-push (λ x. x < objects) r.0 r.1 before.1 r.3)
 
 -- a list with an item has a last one
-has-end : (x : ℕ) (xs : List ℕ) → (front : List ℕ) × (last : ℕ) × (front ++ last ∷ [] ≡ x ∷ xs)
+has-end : (x : ℕ) (xs : List ℕ) → (prefix : List ℕ) × (last : ℕ) × (prefix ++ last ∷ [] ≡ x ∷ xs)
 has-end x [] = ([], x, refl)
 has-end x (y ∷ xs) = let r = has-end y xs in (x ∷ r.0, r.1, ap (λ (zs : List ℕ). x ∷ zs) r.2)
 
@@ -111,8 +111,8 @@ tuples-have objects (suc n) (x ∷ t) long below =
     let end = has-end x t in
     let all : All (λ y. y < objects) (end.0 ++ end.1 ∷ []) = subst (All (λ y. y < objects)) (sym end.2) below in
     let shorter : length end.0 ≡ n = omega (arith, length_push end.0 end.1, ap length end.2 ∙ long) in
-    let front : All (λ y. y < objects) end.0 =
+    let prefix : All (λ y. y < objects) end.0 =
     All-each (λ y. y < objects) end.0 (λ y has. All-at (λ z. z < objects) (end.0 ++ end.1 ∷ []) y all
     (Contains-append_left end.0 (end.1 ∷ []) y has)) in
     let last : end.1 < objects = All-at (λ z. z < objects) (end.0 ++ end.1 ∷ []) end.1 all (Contains-push end.0 end.1) in
-    rw (← end.2) (all-has objects (tuples_of objects n) end.0 end.1 (tuples-have objects n end.0 shorter front) last)
+    rw (← end.2) (all-has objects (tuples_of objects n) end.0 end.1 (tuples-have objects n end.0 shorter prefix) last)

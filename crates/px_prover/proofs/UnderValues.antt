@@ -44,21 +44,21 @@ values-under values (t ∷ ts) below =
     λ i. here i ∷ rest i
 
 module _ (pattern : GapPattern) (values : List ℕ) where
-  pub terms-within : (read : List Term) → IsOverItsVariables pattern → length values ≡ pattern.vars → read ≡ pattern.terms
+  pub terms-within : (read : List Term) → IsOverItsVariables pattern → length values ≡ pattern.variable_count → read ≡ pattern.terms
       → All (IsVariableBelow (length values)) read
   terms-within read over count is =
       subst (λ (n : ℕ). All (IsVariableBelow n) read) (sym count)
-      (subst (λ (ts : List Term). All (IsVariableBelow pattern.vars) ts) (sym is) over.terms)
+      (subst (λ (ts : List Term). All (IsVariableBelow pattern.variable_count) ts) (sym is) over.terms)
 
-  pub atoms-within : (read : List Atom) (terms : List Term) → IsOverItsVariables pattern → length values ≡ pattern.vars
+  pub atoms-within : (read : List Atom) (terms : List Term) → IsOverItsVariables pattern → length values ≡ pattern.variable_count
       → read ≡ pattern.atoms → terms ≡ object_terms values → All (λ (atom : Atom). All (IsVariableBelow (length terms)) atom.args) read
   atoms-within read terms over count is terms_are =
-      let long : length terms ≡ pattern.vars = ap length terms_are ∙ length-map values (λ (n : ℕ). Obj n) ∙ count in
+      let long : length terms ≡ pattern.variable_count = ap length terms_are ∙ length-map values (λ (n : ℕ). Obj n) ∙ count in
       subst (λ (n : ℕ). All (λ (atom : Atom). All (IsVariableBelow n) atom.args) read) (sym long)
-      (subst (λ (xs : List Atom). All (λ (atom : Atom). All (IsVariableBelow pattern.vars) atom.args) xs) (sym is) over.atoms)
+      (subst (λ (xs : List Atom). All (λ (atom : Atom). All (IsVariableBelow pattern.variable_count) atom.args) xs) (sym is) over.atoms)
 
   pub list-made : (read_terms : List Term) (read_atoms : List Atom) (terms : List Term) (atoms : List Atom) (list : GapList)
-      → IsOverItsVariables pattern → length values ≡ pattern.vars → read_terms ≡ pattern.terms → read_atoms ≡ pattern.atoms
+      → IsOverItsVariables pattern → length values ≡ pattern.variable_count → read_terms ≡ pattern.terms → read_atoms ≡ pattern.atoms
       → terms ≡ object_terms values → atoms ≡ map (substitute_atom terms) read_atoms → list.objects ≡ map (value_of values) read_terms
       → IsAtomSet list.gaps → ((a : Atom) → Contains list.gaps a ↔ Contains atoms a) → list ≡ list_under pattern values
   list-made read_terms read_atoms terms atoms list over count terms_is atoms_is terms_are atoms_are objects_are is_set members =
@@ -115,42 +115,42 @@ pub all-over : (patterns : List GapPattern) (i : ℕ) (x : GapPattern) → i < l
 all-over patterns i x within is all = subst IsOverItsVariables (sym is) (all i x within)
 
 all-more : (objects : ℕ) (patterns : List GapPattern) (i : ℕ) (x : GapPattern) → i < length patterns → x ≡ get_or patterns i x
-    → all_under objects (take (i + 1) patterns) ≡ all_under objects (take i patterns) ++ map (list_under x) (tuples_of objects x.vars)
+    → all_under objects (take (i + 1) patterns) ≡ all_under objects (take i patterns) ++ map (list_under x) (tuples_of objects x.variable_count)
 all-more objects [] i x within is = absurd (omega (arith, within))
-all-more objects (p ∷ patterns) zero x within is = rw is (append-nil (map (list_under p) (tuples_of objects p.vars)))
+all-more objects (p ∷ patterns) zero x within is = rw is (append-nil (map (list_under p) (tuples_of objects p.variable_count)))
 all-more objects (p ∷ patterns) (suc i) x within is =
     let one : suc i + 1 ≡ suc (i + 1) = omega arith in
     rw one
-    (ap (λ (ls : List GapList). map (list_under p) (tuples_of objects p.vars) ++ ls)
+    (ap (λ (ls : List GapList). map (list_under p) (tuples_of objects p.variable_count) ++ ls)
     (all-more objects patterns i x (omega (arith, within)) is)
-    ∙ sym (append_assoc (map (list_under p) (tuples_of objects p.vars)) (all_under objects (take i patterns))
-    (map (list_under x) (tuples_of objects x.vars))))
+    ∙ sym (append_assoc (map (list_under p) (tuples_of objects p.variable_count)) (all_under objects (take i patterns))
+    (map (list_under x) (tuples_of objects x.variable_count))))
 
 pub all-next : (objects : ℕ) (patterns : List GapPattern) (i : ℕ) (x : GapPattern) (tuples : List (List ℕ)) (made new : List GapList)
-    → i < length patterns → x ≡ get_or patterns i x → tuples ≡ tuples_of objects x.vars
+    → i < length patterns → x ≡ get_or patterns i x → tuples ≡ tuples_of objects x.variable_count
     → made ≡ all_under objects (take i patterns) → new ≡ made ++ map (list_under x) tuples → new ≡ all_under objects (take (i + 1) patterns)
 all-next objects patterns i x tuples made new within is tuples_are made_is new_is =
     new_is ∙ ap (λ (ls : List GapList). ls ++ map (list_under x) tuples) made_is
     ∙ ap (λ (ts : List (List ℕ)). all_under objects (take i patterns) ++ map (list_under x) ts) tuples_are
     ∙ sym (all-more objects patterns i x within is)
 
-module _ (s : Setting) (formula : List Atom) (vars : ℕ) (patterns : List GapPattern) (read : List GapPattern) where
-  pub patterns-over : read ≡ patterns → AreGapPatterns s formula vars patterns → All IsOverItsVariables read
+module _ (s : Setting) (formula : List Atom) (variable_count : ℕ) (patterns : List GapPattern) (read : List GapPattern) where
+  pub patterns-over : read ≡ patterns → AreGapPatterns s formula variable_count patterns → All IsOverItsVariables read
   patterns-over is are =
       subst (All IsOverItsVariables) (sym is) (λ k d within. let form = are.form k d within in
       record { terms = form.terms_below; atoms = form.atoms_below })
 
   -- in order, each once, they are the gap lists
-  pub lists-ordered : (made ordered : List GapList) → AreGapPatterns s formula vars patterns → read ≡ patterns
+  pub lists-ordered : (made ordered : List GapList) → AreGapPatterns s formula variable_count patterns → read ≡ patterns
       → made ≡ all_under s.objects read
       → IsStrictlySortedBy gap_list_cmp ordered → ((list : GapList) → Contains ordered list ↔ Contains made list)
-      → AreGapLists s formula vars ordered
+      → AreGapLists s formula variable_count ordered
   lists-ordered made ordered are is made_is ascending members = record {
     ascending = ascending;
     members = λ list.
         let here : made ≡ all_under s.objects patterns = made_is ∙ ap (all_under s.objects) is in
         let there = set_of-members gap_list_cmp gap_list_cmp-total gap_list_cmp-same (all_under s.objects patterns) list in
-        let listed = (patterns-are s formula vars patterns are).members list in (
+        let listed = (patterns-are s formula variable_count patterns are).members list in (
           λ has. listed.0 (there.1 (subst (λ (ls : List GapList). Contains ls list) here ((members list).0 has))),
           λ is_list. (members list).1 (subst (λ (ls : List GapList). Contains ls list) (sym here) (there.0 (listed.1 is_list))),
         );

@@ -10,7 +10,7 @@ setting_in q = setting_of q.problem.now q.facts.now
 
 -- the ticks may be those of a list of the question
 abbrev pub IsPossibleIn : ProofQuestion → List Tick → Type 0
-IsPossibleIn q ticks = IsPossible q.loose (setting_in q) q.formula.now q.vars ticks
+IsPossibleIn q ticks = IsPossible q.loose (setting_in q) q.formula.now q.variable_count ticks
 
 abbrev pub IsFinishedIn : ProofQuestion → List Tick → Type 0
-IsFinishedIn q ticks = IsFinished q.loose (setting_in q) q.formula.now q.vars ticks
+IsFinishedIn q ticks = IsFinished q.loose (setting_in q) q.formula.now q.variable_count ticks

@@ -11,7 +11,7 @@ use Rattle.px_terms.specs.declared.term.Term.{Term}
 use Rattle.px_terms.specs.declared.term.Term.TheVariants.{Var}
 use Rattle.px_unify.specs.declared.change.Change.{Change}
 use Rattle.px_unify.specs.Changes.{AreOneUnder, IsRoot, variables_of}
-use Rattle.px_proof_walk.specs.Pending.{vars_of, fresh_of}
+use Rattle.px_proof_walk.specs.Pending.{variable_count_of, fresh_of}
 
 -- the variable is bound to the object, or it may be any object, and this is object 0
 pub record IsLeastAt (changes : List Change) (v object : ℕ) : Type 0 where
@@ -36,7 +36,7 @@ abbrev pub extended : Setting → Tick → List ℕ → List Derivation → List
 extended s (Fact i) chosen later = fact (record { column = 0; index = i; atom = get_or s.facts i no_atom }) ∷ later
 extended s (Anc i) chosen later = ancestor i ∷ later
 extended s (Step number place) chosen later =
-    step number (object_terms (take (vars_of (slice_get s.axioms number)) chosen)) place
+    step number (object_terms (take (variable_count_of (slice_get s.axioms number)) chosen)) place
     (derivations (take (parts_count (slice_get s.axioms number)) later)) ∷ drop (parts_count (slice_get s.axioms number)) later
 extended s Gap chosen later = later
 extended s Open chosen later = later

@@ -11,4 +11,4 @@ gap_setting q = setting_of q.problem.now q.facts.now
 
 -- the ticks may be those of a list of the question in which a place is open
 abbrev pub IsGoingOnIn : GapQuestion → List Tick → Type 0
-IsGoingOnIn q ticks = IsGoingOn true (gap_setting q) q.formula.now q.vars ticks
+IsGoingOnIn q ticks = IsGoingOn true (gap_setting q) q.formula.now q.variable_count ticks

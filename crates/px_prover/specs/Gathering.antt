@@ -22,9 +22,9 @@ pub record AreEnds (changes : List Change) (roots : List Term) : Type 0 where
   pub each : (v : ℕ) (root : Term) → slice_get roots v ≡ Some root → IsRootOf changes v root
 
 -- the atoms are those that the ticks close by gaps, over the first variables, of the given number
-pub record AreMissing (s : Setting) (formula : List Atom) (vars : ℕ) (ticks : List Tick) (variables : ℕ) (missing : List Atom) : Type 0
+pub record AreMissing (s : Setting) (formula : List Atom) (variable_count : ℕ) (ticks : List Tick) (variables : ℕ) (missing : List Atom) : Type 0
   where
-    pub atoms : missing ≡ gap_atoms true s vars (goals_of s formula) ticks
+    pub atoms : missing ≡ gap_atoms true s variable_count (goals_of s formula) ticks
     pub below : All (λ (atom : Atom). All (IsVariableBelow variables) atom.args) missing
 
 -- the bindings of the term end in this variable
@@ -47,7 +47,7 @@ pub record NotesEnds (IsSuch : Term → Type 0) (roots : List Term) (old new : L
 
 -- the term is one of the first variables, of the given number
 abbrev pub IsFirstVariable : ℕ → Term → Type 0
-IsFirstVariable vars t = (v : ℕ) × (v < vars) × (Var v ≡ t)
+IsFirstVariable variable_count t = (v : ℕ) × (v < variable_count) × (Var v ≡ t)
 
 -- the term is an argument of one of the atoms
 abbrev pub IsArgument : List Atom → Term → Type 0
@@ -55,4 +55,4 @@ IsArgument atoms t = (atom : Atom) × Contains atoms atom × Contains atom.args 
 
 -- the objects or the atoms are over the term
 abbrev pub IsOver : ℕ → List Atom → Term → Type 0
-IsOver vars atoms t = IsFirstVariable vars t ⊎ IsArgument atoms t
+IsOver variable_count atoms t = IsFirstVariable variable_count t ⊎ IsArgument atoms t

@@ -8,11 +8,11 @@ use Rattle.px_proof_walk.specs.Possible.{IsClosing, IsPossible}
 use Rattle.std.specs.List.{AllByRecursion}
 use Rattle.px_proof_walk.proofs.Pushing.{feasible-shorter}
 
-front : (ticks : List Tick) (tick : Tick) (more : List Tick) → AllByRecursion IsClosing (ticks ++ tick ∷ more)
+prefix : (ticks : List Tick) (tick : Tick) (more : List Tick) → AllByRecursion IsClosing (ticks ++ tick ∷ more)
     → AllByRecursion IsClosing (ticks ++ tick ∷ [])
-front [] tick more all = (all.0, tt)
-front (t ∷ ticks) tick more all = (all.0, front ticks tick more all.1)
+prefix [] tick more all = (all.0, tt)
+prefix (t ∷ ticks) tick more all = (all.0, prefix ticks tick more all.1)
 
-pub possible-shorter : (loose : Bool) (s : Setting) (formula : List Atom) (vars : ℕ) → IsPrefixClosed (IsPossible loose s formula vars)
-possible-shorter loose s formula vars ticks tick more possible =
-    (front ticks tick more possible.0, feasible-shorter loose s formula vars ticks tick more possible.1)
+pub possible-shorter : (loose : Bool) (s : Setting) (formula : List Atom) (variable_count : ℕ) → IsPrefixClosed (IsPossible loose s formula variable_count)
+possible-shorter loose s formula variable_count ticks tick more possible =
+    (prefix ticks tick more possible.0, feasible-shorter loose s formula variable_count ticks tick more possible.1)

@@ -117,7 +117,7 @@ fn push_proof(
             Err(NoMemory) => Err(NoMemory),
         },
         Tick::Step(clause, place) => {
-            let start = end - problem.axioms.vars(clause) as usize;
+            let start = end - problem.axioms.variable_count(clause) as usize;
             match push_step(alloc, problem, &objects[start..end], made, clause, place) {
                 Ok(()) => Ok(start),
                 Err(NoMemory) => Err(NoMemory),

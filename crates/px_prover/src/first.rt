@@ -27,10 +27,10 @@ use std::alloc::Global;
 /// Returns the answer of a state in which no place is open.
 fn answer(alloc: Global, question: &ProofQuestion, state: &ProofState) -> Result<Answer, NoMemory>
     requires strict { question.now.loose ≡ false }
-    requires stands { IsStanding question.now.loose (setting_in question.now) question.now.formula.now question.now.vars state.now }
+    requires stands { IsStanding question.now.loose (setting_in question.now) question.now.formula.now question.now.variable_count state.now }
     requires first { ComesFirst (IsPossibleIn question.now) (IsFinishedIn question.now) question.now.problem.now.shapes
         (ticks_in state.now.choices) }
-    ensures { IfOk result (λ answer. IsFirst (setting_in question.now) question.now.formula.now question.now.vars answer.objects
+    ensures { IfOk result (λ answer. IsFirst (setting_in question.now) question.now.formula.now question.now.variable_count answer.objects
         (derivations (map_list derivation_of answer.proofs))) }
 {
     let mut objects = least_objects(alloc, state.bind())?;
@@ -42,7 +42,7 @@ fn answer(alloc: Global, question: &ProofQuestion, state: &ProofState) -> Result
         &objects,
     )?;
     proofs.reverse();
-    objects.truncate(question.vars as usize);
+    objects.truncate(question.variable_count as usize);
     Ok(Answer {
         objects: Sequence::from_vec(objects),
         proofs: Sequence::from_vec(proofs),
@@ -59,34 +59,34 @@ pub fn prove(
     alloc: Global,
     problem: &Problem,
     formula: &[Atom],
-    vars: u32,
+    variable_count: u32,
     model: &Model,
 ) -> Result<Answer, ProveErr>
     requires problem { IsValid problem.now }
-    requires formula { All (IsAtomOf problem.now vars) formula.now }
-    requires few_variables { vars ≤ most_formula_variables }
-    requires objects { 0 < vars → 0 < problem.now.objects }
-    ensures first { IfOk result (λ answer. IsFirst (setting_of problem.now model.now.atoms) formula.now vars answer.objects
+    requires formula { All (IsAtomOf problem.now variable_count) formula.now }
+    requires few_variables { variable_count ≤ most_formula_variables }
+    requires objects { 0 < variable_count → 0 < problem.now.objects }
+    ensures first { IfOk result (λ answer. IsFirst (setting_of problem.now model.now.atoms) formula.now variable_count answer.objects
         (derivations (map_list derivation_of answer.proofs))) }
     ensures of_problem { IfOk result (λ answer. All (IsDerivationOf problem.now 0) (map_list derivation_of answer.proofs)) }
     ensures few { IfOk result (λ answer. (shapes : List (List Tick))
-        → ¬ IsLimited (setting_of problem.now model.now.atoms) formula.now vars shapes) }
-    ensures few_before { IfOk result (λ answer. AreFewBefore (setting_of problem.now model.now.atoms) formula.now vars
+        → ¬ IsLimited (setting_of problem.now model.now.atoms) formula.now variable_count shapes) }
+    ensures few_before { IfOk result (λ answer. AreFewBefore (setting_of problem.now model.now.atoms) formula.now variable_count
         (derivations (map_list derivation_of answer.proofs))) }
-    ensures none { result ≡ Err ProveErr.Unprovable → ¬ IsAnswer (setting_of problem.now model.now.atoms) formula.now vars }
+    ensures none { result ≡ Err ProveErr.Unprovable → ¬ IsAnswer (setting_of problem.now model.now.atoms) formula.now variable_count }
     ensures none_few { result ≡ Err ProveErr.Unprovable → (shapes : List (List Tick))
-        → ¬ IsLimited (setting_of problem.now model.now.atoms) formula.now vars shapes }
-    ensures few_shapes { result ≡ Err ProveErr.Unprovable → AreFewShapes (setting_of problem.now model.now.atoms) formula.now vars }
-    ensures limited { IfShapeLimit result (IsLimited (setting_of problem.now model.now.atoms) formula.now vars) }
+        → ¬ IsLimited (setting_of problem.now model.now.atoms) formula.now variable_count shapes }
+    ensures few_shapes { result ≡ Err ProveErr.Unprovable → AreFewShapes (setting_of problem.now model.now.atoms) formula.now variable_count }
+    ensures limited { IfShapeLimit result (IsLimited (setting_of problem.now model.now.atoms) formula.now variable_count) }
 {
     let question = ProofQuestion {
         problem,
         formula,
-        vars,
+        variable_count,
         facts: model.atoms(),
         loose: false,
     };
-    let mut state = match ProofState::new(alloc, formula, vars, problem.height) {
+    let mut state = match ProofState::new(alloc, formula, variable_count, problem.height) {
         Ok(state) => state,
         Err(NoMemory) => return Err(ProveErr::NoMemory),
     };

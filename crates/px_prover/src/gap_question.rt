@@ -19,7 +19,7 @@ use px_terms::{Atom, Problem};
 pub(crate) struct GapQuestion<'a> {
     pub problem: &'a Problem,
     pub formula: &'a [Atom],
-    pub vars: u32,
+    pub variable_count: u32,
     pub facts: &'a [Atom],
     /// Whether the terms of patterns are asked for, and not their atoms alone.
     pub with_terms: bool,
@@ -31,7 +31,7 @@ impl<'a> GapQuestion<'a> {
         ensures { result ≡ record {
           problem = self.now.problem;
           formula = self.now.formula;
-          vars = self.now.vars;
+          variable_count = self.now.variable_count;
           facts =
               self.now.facts;
           loose = true;
@@ -40,7 +40,7 @@ impl<'a> GapQuestion<'a> {
         ProofQuestion {
             problem: self.problem,
             formula: self.formula,
-            vars: self.vars,
+            variable_count: self.variable_count,
             facts: self.facts,
             loose: true,
         }
@@ -64,7 +64,7 @@ pub(crate) fn sized(tick: Tick) -> Tick
 /// Returns the tick after which a place is tried at first. Facts and ancestors close it for good, so where no other place is open, they
 /// leave none open.
 fn least_after(_question: &GapQuestion, state: &ProofState) -> Option<Tick>
-    requires { IsStanding true (gap_setting _question.now) _question.now.formula.now _question.now.vars state.now }
+    requires { IsStanding true (gap_setting _question.now) _question.now.formula.now _question.now.variable_count state.now }
     ensures small { AreSmall result }
     ensures rest { (u : TickValue) → IsGoingOnIn _question.now (ticks_in state.now.choices ++ u ∷ []) → IsAfter result u }
 {
@@ -76,7 +76,7 @@ fn least_after(_question: &GapQuestion, state: &ProofState) -> Option<Tick>
 
 /// Returns the tick after which a place is tried, where this one was tried last.
 fn start_after(question: &GapQuestion, state: &ProofState, last: Option<Tick>) -> Option<Tick>
-    requires { IsStanding true (gap_setting question.now) question.now.formula.now question.now.vars state.now }
+    requires { IsStanding true (gap_setting question.now) question.now.formula.now question.now.variable_count state.now }
     ensures small { AreSmall result }
     ensures rest { (u : TickValue) → IsAfter last u → IsGoingOnIn question.now (ticks_in state.now.choices ++ u ∷ []) → IsAfter result u }
     ensures later { (u : TickValue) → IsAfter result u → IsAfter last u }
@@ -96,15 +96,15 @@ impl<'a> Walk<GapQuestion<'a>> for ProofState {
 
     ghost ticks = { λ v. ticks_in v.choices };
 
-    ghost stands = { λ q v. IsStanding true (gap_setting q) q.formula.now q.vars v };
+    ghost stands = { λ q v. IsStanding true (gap_setting q) q.formula.now q.variable_count v };
 
     ghost possible = { λ q ticks. IsGoingOnIn q ticks };
 
-    ghost shorter = { λ q. going-shorter true (gap_setting q) q.formula.now q.vars };
+    ghost shorter = { λ q. going-shorter true (gap_setting q) q.formula.now q.variable_count };
 
-    ghost finished = { λ q ticks. IsFinished true (gap_setting q) q.formula.now q.vars ticks };
+    ghost finished = { λ q ticks. IsFinished true (gap_setting q) q.formula.now q.variable_count ticks };
 
-    ghost places = { λ q ticks. open_count true (gap_setting q) q.formula.now q.vars ticks };
+    ghost places = { λ q ticks. open_count true (gap_setting q) q.formula.now q.variable_count ticks };
 
     ghost most = { λ q. q.problem.now.shapes };
 

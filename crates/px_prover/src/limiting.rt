@@ -33,11 +33,11 @@ pub(crate) fn shapes_at_limit(
     question: &GapQuestion,
 ) -> Result<Option<Vec<Shape>>, NoMemory>
     requires { IsAsked question.now }
-    ensures { IfOk result (λ met. IfSome met (λ shapes. IsGapLimited (gap_setting question.now) question.now.formula.now question.now.vars
+    ensures { IfOk result (λ met. IfSome met (λ shapes. IsGapLimited (gap_setting question.now) question.now.formula.now question.now.variable_count
         shapes.items)) }
 {
     let height = question.problem.height;
-    let mut state = ProofState::new(alloc, question.formula, question.vars, height)?;
+    let mut state = ProofState::new(alloc, question.formula, question.variable_count, height)?;
     let mut nothing = Nothing;
     let limit = question.problem.shapes;
     walk_to_end(alloc, question, &mut state, &mut nothing, limit)

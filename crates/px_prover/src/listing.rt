@@ -65,7 +65,7 @@ fn as_set(mut atoms: Vec<Atom>) -> Vec<Atom>
 /// Returns the gap list of the pattern under the values.
 fn list_under(alloc: Global, pattern: &GapPattern, values: &[u32]) -> Result<GapList, NoMemory>
     requires closed { IsOverItsVariables pattern.now }
-    requires count { length values.now ≡ pattern.now.vars }
+    requires count { length values.now ≡ pattern.now.variable_count }
     ensures { IfOk result (λ list. list ≡ list_by pattern.now values.now) }
 {
     let terms = pattern.terms.as_slice();
@@ -87,7 +87,7 @@ fn push_under(
     tuples: &[Sequence<u32>],
 ) -> Result<(), NoMemory>
     requires closed { IsOverItsVariables pattern.now }
-    requires tuples { All (λ (tuple : List ℕ). length tuple ≡ pattern.now.vars) tuples.now }
+    requires tuples { All (λ (tuple : List ℕ). length tuple ≡ pattern.now.variable_count) tuples.now }
     ensures { IfOk result (λ _. lists.new.items ≡ lists.old.items ++ map_list (list_by pattern.now) tuples.now) }
 {
     for tuple in tuples {
@@ -104,7 +104,7 @@ fn all_under(alloc: Global, objects: u32, patterns: &[GapPattern]) -> Result<Vec
 {
     let mut lists = Vec::new(alloc);
     for pattern in patterns {
-        let made = tuples(alloc, objects, pattern.vars as usize)?;
+        let made = tuples(alloc, objects, pattern.variable_count as usize)?;
         let each = made.as_slice();
         push_under(alloc, &mut lists, pattern, each)?;
     }
@@ -131,18 +131,18 @@ pub fn gap_lists(
     alloc: Global,
     problem: &Problem,
     formula: &[Atom],
-    vars: u32,
+    variable_count: u32,
     model: &Model,
 ) -> Result<Vec<GapList>, GapErr>
     requires problem { IsValid problem.now }
-    requires formula { All (IsAtomOf problem.now vars) formula.now }
-    requires few_variables { vars ≤ most_gap_variables }
-    requires some_object { 0 < vars → 0 < problem.now.objects }
-    ensures lists { IfOk result (λ lists. AreGapLists (setting_of problem.now model.now.atoms) formula.now vars lists.items) }
-    ensures few { IfOk result (λ lists. AreFewGapShapes (setting_of problem.now model.now.atoms) formula.now vars) }
-    ensures limited { IfGapLimit result (IsGapLimited (setting_of problem.now model.now.atoms) formula.now vars) }
+    requires formula { All (IsAtomOf problem.now variable_count) formula.now }
+    requires few_variables { variable_count ≤ most_gap_variables }
+    requires some_object { 0 < variable_count → 0 < problem.now.objects }
+    ensures lists { IfOk result (λ lists. AreGapLists (setting_of problem.now model.now.atoms) formula.now variable_count lists.items) }
+    ensures few { IfOk result (λ lists. AreFewGapShapes (setting_of problem.now model.now.atoms) formula.now variable_count) }
+    ensures limited { IfGapLimit result (IsGapLimited (setting_of problem.now model.now.atoms) formula.now variable_count) }
 {
-    match gap_patterns(alloc, problem, formula, vars, model) {
+    match gap_patterns(alloc, problem, formula, variable_count, model) {
         Ok(patterns) => match all_under(alloc, problem.objects, &patterns) {
             Ok(lists) => Ok(ordered(lists)),
             Err(NoMemory) => Err(GapErr::NoMemory),

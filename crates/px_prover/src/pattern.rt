@@ -7,7 +7,7 @@ use px_terms::{Atom, Term};
 #[derive(PartialEq, Eq, PartialOrd, Ord, Drop)]
 pub struct GapPattern {
     /// How many variables it has. They are numbered from 0.
-    pub vars: u32,
+    pub variable_count: u32,
     /// An object or one of the variables for each variable of the formula, or none where they aren't asked for.
     pub terms: Sequence<Term>,
     /// The atoms, over the variables.

@@ -80,22 +80,22 @@ fn renamed_ends(
 }
 
 /// Returns how many terms of a pattern are kept.
-fn kept_terms(with_terms: bool, vars: u32) -> u32
-    ensures { result ≡ cond with_terms vars 0 }
+fn kept_terms(with_terms: bool, variable_count: u32) -> u32
+    ensures { result ≡ cond with_terms variable_count 0 }
 {
-    if with_terms { vars } else { 0 }
+    if with_terms { variable_count } else { 0 }
 }
 
-/// Returns the pattern of a finished list whose bindings have these ends, with terms for the first `vars` variables.
+/// Returns the pattern of a finished list whose bindings have these ends, with terms for the first `variable_count` variables.
 fn pattern_by(
     alloc: Global,
-    vars: u32,
+    variable_count: u32,
     roots: &[Term],
     missing: &[Atom],
     free: &[u32],
 ) -> Result<GapPattern, NoMemory>
     requires missing { All (λ (atom : AtomValue). All (IsVariableBelow (length roots.now)) atom.args) missing.now }
-    ensures { IfOk result (λ pattern. IsPatternBy vars missing.now roots.now free.now pattern) }
+    ensures { IfOk result (λ pattern. IsPatternBy variable_count missing.now roots.now free.now pattern) }
 {
     // no list has more variables than a `u32` can count
     let count = match u32::try_from(free.len()) {
@@ -104,9 +104,9 @@ fn pattern_by(
     };
     let mut ends = renamed_ends(alloc, roots, free, count)?;
     let atoms = atoms_under(alloc, &ends, missing)?;
-    ends.truncate(vars as usize);
+    ends.truncate(variable_count as usize);
     Ok(GapPattern {
-        vars: count,
+        variable_count: count,
         terms: Sequence::from_vec(ends),
         atoms: Sequence::from_vec(atoms),
     })
@@ -143,7 +143,7 @@ fn keep(found: &mut Vec<GapPattern>, pattern: GapPattern) -> Result<(), NoMemory
 
 /// Returns the pattern of a state: what its bindings make of the terms and of the atoms that gaps close.
 fn pattern_of(question: &GapQuestion, state: &ProofState) -> Result<GapPattern, NoMemory>
-    requires { IsStanding true (gap_setting question.now) question.now.formula.now question.now.vars state.now }
+    requires { IsStanding true (gap_setting question.now) question.now.formula.now question.now.variable_count state.now }
     ensures { IfOk result (λ pattern. IsPatternOf question.now state.now pattern) }
 {
     let alloc = *state.allocator();
@@ -151,7 +151,7 @@ fn pattern_of(question: &GapQuestion, state: &ProofState) -> Result<GapPattern, 
     let roots = ends.as_slice();
     let atoms = missing_atoms(question, state)?;
     let missing = atoms.as_slice();
-    let terms = kept_terms(question.with_terms, question.vars);
+    let terms = kept_terms(question.with_terms, question.variable_count);
     let variables = free_of(alloc, roots, terms, missing)?;
     let free = variables.as_slice();
     pattern_by(alloc, terms, roots, missing, free)
@@ -163,7 +163,7 @@ fn gather_here(
     question: &GapQuestion,
     state: &ProofState,
 ) -> Result<(), NoMemory>
-    requires { IsStanding true (gap_setting question.now) question.now.formula.now question.now.vars state.now }
+    requires { IsStanding true (gap_setting question.now) question.now.formula.now question.now.variable_count state.now }
     ensures { IfOk result (λ _. GathersOf question.now (ticks_in state.now.choices) found.old.items found.new.items) }
 {
     if state.first() > 0 {
@@ -182,7 +182,7 @@ fn after_fact(
     state: &ProofState,
     number: u32,
 ) -> Result<Tick, NoMemory>
-    requires { IsStanding true (gap_setting question.now) question.now.formula.now question.now.vars state.now }
+    requires { IsStanding true (gap_setting question.now) question.now.formula.now question.now.variable_count state.now }
     ensures small { IfOk result IsSmall }
     ensures passed { IfOk result (λ next. PassesOver question.now state.now found.now (Tick.Fact number) next) }
 {
@@ -201,7 +201,7 @@ fn next_after(
     last: Option<Tick>,
     tick: Tick,
 ) -> Result<Tick, NoMemory>
-    requires { IsStanding true (gap_setting question.now) question.now.formula.now question.now.vars state.now }
+    requires { IsStanding true (gap_setting question.now) question.now.formula.now question.now.variable_count state.now }
     ensures small { IfOk result IsSmall }
     ensures passed { IfOk result (λ next. PassesOver question.now state.now found.now tick next) }
 {
@@ -237,7 +237,7 @@ impl<'a> Gather<GapQuestion<'a>, ProofState> for Patterns {
     ghost use Rattle.px_prover.specs.GapAsking.{gap_setting};
     ghost use Rattle.px_prover.specs.Patterns.{ArePatternsOf, terms_in};
 
-    ghost gathered = { λ q g seen. ArePatternsOf (terms_in q) (gap_setting q) q.formula.now q.vars seen g.found.items };
+    ghost gathered = { λ q g seen. ArePatternsOf (terms_in q) (gap_setting q) q.formula.now q.variable_count seen g.found.items };
 
     fn gather(
         &mut self,
@@ -263,8 +263,8 @@ impl<'a> Gather<GapQuestion<'a>, ProofState> for Patterns {
 }
 
 /// Returns the pattern of the formula without atoms: the first `count` of its variables, and no gap.
-fn without_atoms(alloc: Global, vars: u32, count: u32) -> Result<GapPattern, NoMemory>
-    ensures vars_are { IfOk result (λ pattern. pattern.vars ≡ vars) }
+fn without_atoms(alloc: Global, variable_count: u32, count: u32) -> Result<GapPattern, NoMemory>
+    ensures variable_count_are { IfOk result (λ pattern. pattern.variable_count ≡ variable_count) }
     ensures terms_are { IfOk result (λ pattern. pattern.terms ≡ variables_from 0 count) }
     ensures atoms_are { IfOk result (λ pattern. pattern.atoms ≡ []) }
 {
@@ -273,7 +273,7 @@ fn without_atoms(alloc: Global, vars: u32, count: u32) -> Result<GapPattern, NoM
         push(&mut terms, Term::Var(variable))?;
     }
     Ok(GapPattern {
-        vars,
+        variable_count,
         terms: Sequence::from_vec(terms),
         atoms: Sequence::from_vec(Vec::new(alloc)),
     })
@@ -285,17 +285,22 @@ fn gathered(alloc: Global, question: &GapQuestion, limit: u32) -> Result<Vec<Gap
     requires some { 0 < limit }
     requires within { limit ≤ question.now.problem.now.shapes }
     ensures patterns { IfOk result (λ patterns. AreKeptPatterns (terms_in question.now) (gap_setting question.now)
-        question.now.formula.now question.now.vars patterns.items) }
-    ensures few { IfOk result (λ patterns. AreFewGapShapes (gap_setting question.now) question.now.formula.now question.now.vars) }
+        question.now.formula.now question.now.variable_count patterns.items) }
+    ensures few { IfOk result (λ patterns. AreFewGapShapes (gap_setting question.now) question.now.formula.now question.now.variable_count) }
     ensures limited { limit ≡ question.now.problem.now.shapes
-        → IfGapLimit result (IsGapLimited (gap_setting question.now) question.now.formula.now question.now.vars) }
+        → IfGapLimit result (IsGapLimited (gap_setting question.now) question.now.formula.now question.now.variable_count) }
 {
     let mut patterns = Patterns {
         found: Vec::new(alloc),
         room: MANY_PATTERNS,
     };
     let height = question.problem.height;
-    let mut state = match ProofState::new(alloc, question.formula, question.vars, height) {
+    let mut state = match ProofState::new(
+        alloc,
+        question.formula,
+        question.variable_count,
+        height,
+    ) {
         Ok(state) => state,
         Err(NoMemory) => return Err(GapErr::NoMemory),
     };
@@ -315,22 +320,26 @@ fn kept_patterns(
     alloc: Global,
     problem: &Problem,
     formula: &[Atom],
-    vars: u32,
+    variable_count: u32,
     model: &Model,
     with_terms: bool,
 ) -> Result<Vec<GapPattern>, GapErr>
     requires problem { IsValid problem.now }
-    requires formula { All (IsAtomOf problem.now vars) formula.now }
-    requires few_variables { vars ≤ most_gap_variables }
-    requires some_object { 0 < vars → 0 < problem.now.objects }
-    ensures patterns { IfOk result (λ patterns. AreKeptPatterns (cond with_terms vars 0) (setting_of problem.now model.now.atoms) formula.now
-        vars patterns.items) }
-    ensures few { IfOk result (λ patterns. AreFewGapShapes (setting_of problem.now model.now.atoms) formula.now vars) }
-    ensures limited { IfGapLimit result (IsGapLimited (setting_of problem.now model.now.atoms) formula.now vars) }
+    requires formula { All (IsAtomOf problem.now variable_count) formula.now }
+    requires few_variables { variable_count ≤ most_gap_variables }
+    requires some_object { 0 < variable_count → 0 < problem.now.objects }
+    ensures patterns { IfOk result (λ patterns. AreKeptPatterns (cond with_terms variable_count 0) (setting_of problem.now model.now.atoms) formula.now
+        variable_count patterns.items) }
+    ensures few { IfOk result (λ patterns. AreFewGapShapes (setting_of problem.now model.now.atoms) formula.now variable_count) }
+    ensures limited { IfGapLimit result (IsGapLimited (setting_of problem.now model.now.atoms) formula.now variable_count) }
 {
     let facts = model.atoms();
     if formula.is_empty() {
-        let pattern = match without_atoms(alloc, vars, kept_terms(with_terms, vars)) {
+        let pattern = match without_atoms(
+            alloc,
+            variable_count,
+            kept_terms(with_terms, variable_count),
+        ) {
             Ok(pattern) => pattern,
             Err(NoMemory) => return Err(GapErr::NoMemory),
         };
@@ -343,7 +352,7 @@ fn kept_patterns(
     let question = GapQuestion {
         problem,
         formula,
-        vars,
+        variable_count,
         facts,
         with_terms,
     };
@@ -373,18 +382,18 @@ pub fn gap_patterns(
     alloc: Global,
     problem: &Problem,
     formula: &[Atom],
-    vars: u32,
+    variable_count: u32,
     model: &Model,
 ) -> Result<Vec<GapPattern>, GapErr>
     requires problem { IsValid problem.now }
-    requires formula { All (IsAtomOf problem.now vars) formula.now }
-    requires few_variables { vars ≤ most_gap_variables }
-    requires some_object { 0 < vars → 0 < problem.now.objects }
-    ensures patterns { IfOk result (λ patterns. AreGapPatterns (setting_of problem.now model.now.atoms) formula.now vars patterns.items) }
-    ensures few { IfOk result (λ patterns. AreFewGapShapes (setting_of problem.now model.now.atoms) formula.now vars) }
-    ensures limited { IfGapLimit result (IsGapLimited (setting_of problem.now model.now.atoms) formula.now vars) }
+    requires formula { All (IsAtomOf problem.now variable_count) formula.now }
+    requires few_variables { variable_count ≤ most_gap_variables }
+    requires some_object { 0 < variable_count → 0 < problem.now.objects }
+    ensures patterns { IfOk result (λ patterns. AreGapPatterns (setting_of problem.now model.now.atoms) formula.now variable_count patterns.items) }
+    ensures few { IfOk result (λ patterns. AreFewGapShapes (setting_of problem.now model.now.atoms) formula.now variable_count) }
+    ensures limited { IfGapLimit result (IsGapLimited (setting_of problem.now model.now.atoms) formula.now variable_count) }
 {
-    kept_patterns(alloc, problem, formula, vars, model, true)
+    kept_patterns(alloc, problem, formula, variable_count, model, true)
 }
 
 // Alike: `gap_patterns`, of which this leaves out the terms; so its clauses but one are the same.
@@ -397,16 +406,16 @@ pub fn gap_closings(
     alloc: Global,
     problem: &Problem,
     formula: &[Atom],
-    vars: u32,
+    variable_count: u32,
     model: &Model,
 ) -> Result<Vec<GapPattern>, GapErr>
     requires problem { IsValid problem.now }
-    requires formula { All (IsAtomOf problem.now vars) formula.now }
-    requires few_variables { vars ≤ most_gap_variables }
-    requires some_object { 0 < vars → 0 < problem.now.objects }
-    ensures closings { IfOk result (λ closings. AreGapClosings (setting_of problem.now model.now.atoms) formula.now vars closings.items) }
-    ensures few { IfOk result (λ patterns. AreFewGapShapes (setting_of problem.now model.now.atoms) formula.now vars) }
-    ensures limited { IfGapLimit result (IsGapLimited (setting_of problem.now model.now.atoms) formula.now vars) }
+    requires formula { All (IsAtomOf problem.now variable_count) formula.now }
+    requires few_variables { variable_count ≤ most_gap_variables }
+    requires some_object { 0 < variable_count → 0 < problem.now.objects }
+    ensures closings { IfOk result (λ closings. AreGapClosings (setting_of problem.now model.now.atoms) formula.now variable_count closings.items) }
+    ensures few { IfOk result (λ patterns. AreFewGapShapes (setting_of problem.now model.now.atoms) formula.now variable_count) }
+    ensures limited { IfGapLimit result (IsGapLimited (setting_of problem.now model.now.atoms) formula.now variable_count) }
 {
-    kept_patterns(alloc, problem, formula, vars, model, false)
+    kept_patterns(alloc, problem, formula, variable_count, model, false)
 }

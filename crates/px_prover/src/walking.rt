@@ -60,15 +60,15 @@ impl<'a> Walk<ProofQuestion<'a>> for ProofState {
 
     ghost ticks = { λ v. ticks_in v.choices };
 
-    ghost stands = { λ q v. IsStanding q.loose (setting_in q) q.formula.now q.vars v };
+    ghost stands = { λ q v. IsStanding q.loose (setting_in q) q.formula.now q.variable_count v };
 
     ghost possible = { λ q ticks. IsPossibleIn q ticks };
 
-    ghost shorter = { λ q. possible-shorter q.loose (setting_in q) q.formula.now q.vars };
+    ghost shorter = { λ q. possible-shorter q.loose (setting_in q) q.formula.now q.variable_count };
 
     ghost finished = { λ q ticks. IsFinishedIn q ticks };
 
-    ghost places = { λ q ticks. open_count q.loose (setting_in q) q.formula.now q.vars ticks };
+    ghost places = { λ q ticks. open_count q.loose (setting_in q) q.formula.now q.variable_count ticks };
 
     ghost most = { λ q. q.problem.now.shapes };
 

@@ -14,14 +14,14 @@ use std::process::Abort;
 use std::rt::HostRuntime;
 
 /// Stops unless the problem and the formula may be asked about.
-fn assert_asked(rt: &impl Abort, problem: &Problem, formula: &[Atom], vars: u32)
+fn assert_asked(rt: &impl Abort, problem: &Problem, formula: &[Atom], variable_count: u32)
     ensures problem { IsValid problem.now }
-    ensures formula { All (IsAtomOf problem.now vars) formula.now }
-    ensures few { vars ≤ 12 }
+    ensures formula { All (IsAtomOf problem.now variable_count) formula.now }
+    ensures few { variable_count ≤ 12 }
     ensures some_object { 0 < problem.now.objects }
 {
     assert!(rt; is_valid(problem) && problem.objects > 0);
-    assert!(rt; are_atoms_of(problem, u64::from(vars), formula) && vars <= 12);
+    assert!(rt; are_atoms_of(problem, u64::from(variable_count), formula) && variable_count <= 12);
 }
 
 #[test]

@@ -28,13 +28,13 @@ module _ {E : Type 0} where
       by true h = omega arith
       by false h = omega arith
 
-module _ {E : Type 0} (leaves : E → List Atom → List Atom) (problem : Problem) (tables : List Table) (goal : List Atom) (vars : ℕ)
+module _ {E : Type 0} (leaves : E → List Atom → List Atom) (problem : Problem) (tables : List Table) (goal : List Atom) (variable_count : ℕ)
     (recorded : List (Recorded E)) where
   abbrev Plan : ℕ → List Atom → List TurnValue → List Atom → Type 0
-  Plan = RunsPlan leaves problem tables goal vars recorded
+  Plan = RunsPlan leaves problem tables goal variable_count recorded
 
   abbrev Vain : ℕ → ℕ → List Atom → List TurnValue → List Atom → Type 0
-  Vain = RunsInVain leaves problem tables goal vars recorded
+  Vain = RunsInVain leaves problem tables goal variable_count recorded
 
   -- one run in vain more, at the end
   pub one_more : (count number : ℕ) (atoms : List Atom) (turns : List TurnValue) (mid : List Atom) (run : List TurnValue)
@@ -59,13 +59,13 @@ module _ {E : Type 0} (leaves : E → List Atom → List Atom) (problem : Proble
         ),
       )
 
-  module _ (start : List Atom) (searchable : IsSearchable (task_of problem tables start goal vars)) where
+  module _ (start : List Atom) (searchable : IsSearchable (task_of problem tables start goal variable_count)) where
     -- a run in vain leaves fewer disturbances for the turns after it
     pub plan_uses : (number : ℕ) (atoms : List Atom) (run : List TurnValue) (after : List Atom) → Plan number atoms run after
         → EndsRun AtNoKernel run → count_from (number + length run) recorded < count_from number recorded
     plan_uses number atoms run after plan ends =
-        let here = searchable-from problem tables goal vars start atoms searchable in
-        let task = task_of problem tables atoms goal vars in
+        let here = searchable-from problem tables goal variable_count start atoms searchable in
+        let task = task_of problem tables atoms goal variable_count in
         let fits = plans_fit task plan.moves plan.plan here plan.found plan.made in
         let some : ¬ NoKernelFits problem plan.plan [] atoms = λ none. none 1 [] fits in
         vain_runs_use leaves problem plan.plan [] recorded number (running atoms nothing_sensed) (running after plan.memory) run
@@ -85,13 +85,13 @@ module _ {E : Type 0} (leaves : E → List Atom → List Atom) (problem : Proble
         omega (arith, used, moved)
 
 pub vain_runs_are_few : {E : Type 0} (leaves : E → List Atom → List Atom) → VainRunsAreFew leaves
-vain_runs_are_few leaves problem tables goal vars recorded count atoms after turns searchable is =
-    let few = vain_use leaves problem tables goal vars recorded atoms searchable count 1 atoms turns after is in
+vain_runs_are_few leaves problem tables goal variable_count recorded count atoms after turns searchable is =
+    let few = vain_use leaves problem tables goal variable_count recorded atoms searchable count 1 atoms turns after is in
     let all = count-all 1 recorded in
     omega (arith, few, all)
 
 -- with D recorded disturbances there are at most D + 1 searches
 pub searches_are_few : {E : Type 0} (leaves : E → List Atom → List Atom) → SearchesAreFew leaves
-searches_are_few leaves problem tables goal vars recorded atoms after searches turns end searchable is =
-    let few = vain_runs_are_few leaves problem tables goal vars recorded is.in_vain atoms is.mid is.before searchable is.vain in
+searches_are_few leaves problem tables goal variable_count recorded atoms after searches turns end searchable is =
+    let few = vain_runs_are_few leaves problem tables goal variable_count recorded is.in_vain atoms is.mid is.before searchable is.vain in
     omega (arith, few, is.searches_are)

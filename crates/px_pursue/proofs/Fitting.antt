@@ -51,7 +51,7 @@ first_kernel-holds problem plan atoms is_table none given =
     subst (λ (a : Atom). Contains atoms a) (sym stays ∙ ap (atom_under []) mark.2 ∙ from.2) there)
 
 pub first_kernel_holds : (problem : Problem) (plan : Table) (atoms : List Atom) → IsTable problem plan → plan.params ≡ 0
-    → plan.marks ≡ marks_from 1 (rows_of plan.proofs) → Supports problem atoms plan.steps plan.goal plan.goal_vars (rows_of plan.proofs)
+    → plan.marks ≡ marks_from 1 (rows_of plan.proofs) → Supports problem atoms plan.steps plan.goal plan.goal_variable_count (rows_of plan.proofs)
     → All (Contains atoms) (kernel_under plan [] 1)
 first_kernel_holds problem plan atoms is_table none marks supports =
     first_kernel-holds problem plan atoms is_table none
@@ -94,7 +94,7 @@ plan_is_proper problem plan is_table none kept =
 -- where the table rests on the atoms, its first kernel fits them
 first_kernel-fits : (problem : Problem) (plan : Table) (atoms : List Atom) → IsTable problem plan → plan.params ≡ 0
     → plan.param_sorts ≡ [] → plan.marks ≡ marks_from 1 (rows_of plan.proofs)
-    → Supports problem atoms plan.steps plan.goal plan.goal_vars (rows_of plan.proofs)
+    → Supports problem atoms plan.steps plan.goal plan.goal_variable_count (rows_of plan.proofs)
     → KernelFits problem plan [] atoms 1 []
 first_kernel-fits problem plan atoms is_table none unsorted marks supports = record {
   from_one = omega arith;

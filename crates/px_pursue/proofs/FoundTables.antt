@@ -72,12 +72,12 @@ module _ (task : Task) (searchable : IsSearchable task) where
         let all = steps-short task.initial [] moves (All-nil (IsEntry task.problem task.tables)) moves-are in
         omega (arith, few, all, searchable.nodes)
 
-    plan-is : plan ≡ table_of_rows 0 [] taken task.goal task.vars plan.proofs
+    plan-is : plan ≡ table_of_rows 0 [] taken task.goal task.variable_count plan.proofs
     plan-is = λ i. record {
       params = made.params i;
       steps = made.steps i;
       goal = made.goal i;
-      goal_vars = made.goal_vars i;
+      goal_variable_count = made.goal_variable_count i;
       marks = made.marks i;
       proofs = plan.proofs;
       param_sorts = made.param_sorts i;
@@ -85,16 +85,16 @@ module _ (task : Task) (searchable : IsSearchable task) where
 
     pub found-table : IsTable task.problem plan
     found-table = subst (IsTable task.problem) (sym plan-is)
-        (support_table task.problem searchable.valid task.initial taken task.goal task.vars plan.proofs support.supports support.instances
+        (support_table task.problem searchable.valid task.initial taken task.goal task.variable_count plan.proofs support.supports support.instances
         searchable.goal support.of_problem short support.fitting)
 
-    pub found-supports : Supports task.problem task.initial plan.steps plan.goal plan.goal_vars (rows_of plan.proofs)
+    pub found-supports : Supports task.problem task.initial plan.steps plan.goal plan.goal_variable_count (rows_of plan.proofs)
     found-supports =
-        subst (λ (t : Table). Supports task.problem task.initial t.steps t.goal t.goal_vars (rows_of plan.proofs)) (sym plan-is)
+        subst (λ (t : Table). Supports task.problem task.initial t.steps t.goal t.goal_variable_count (rows_of plan.proofs)) (sym plan-is)
         support.supports
 
 -- what may be searched for from some atoms may be from any
-pub searchable-from : (problem : Problem) (tables : List Table) (goal : List Atom) (vars : ℕ) (atoms others : List Atom)
-    → IsSearchable (task_of problem tables atoms goal vars) → IsSearchable (task_of problem tables others goal vars)
-searchable-from problem tables goal vars atoms others is =
+pub searchable-from : (problem : Problem) (tables : List Table) (goal : List Atom) (variable_count : ℕ) (atoms others : List Atom)
+    → IsSearchable (task_of problem tables atoms goal variable_count) → IsSearchable (task_of problem tables others goal variable_count)
+searchable-from problem tables goal variable_count atoms others is =
     record { valid = is.valid; nodes = is.nodes; goal = is.goal; learned = is.learned }

@@ -27,19 +27,19 @@ one_way [] goal none = goal
 one_way (turn ∷ []) goal none = let e : AtGoal ≡ AtNoKernel = sym goal ∙ none in absurd (cc (e))
 one_way (turn ∷ next ∷ run) goal none = one_way (next ∷ run) goal none
 
-module _ {E : Type 0} (leaves : E → List Atom → List Atom) (problem : Problem) (tables : List Table) (goal : List Atom) (vars : ℕ)
+module _ {E : Type 0} (leaves : E → List Atom → List Atom) (problem : Problem) (tables : List Table) (goal : List Atom) (variable_count : ℕ)
     (recorded : List (Recorded E)) where
   abbrev Plan : ℕ → List Atom → List TurnValue → List Atom → Type 0
-  Plan = RunsPlan leaves problem tables goal vars recorded
+  Plan = RunsPlan leaves problem tables goal variable_count recorded
 
   abbrev Vain : ℕ → ℕ → List Atom → List TurnValue → List Atom → Type 0
-  Vain = RunsInVain leaves problem tables goal vars recorded
+  Vain = RunsInVain leaves problem tables goal variable_count recorded
 
   abbrev Ends : ℕ → List Atom → List TurnValue → PursueEnd → List Atom → Type 0
-  Ends = EndsBy leaves problem tables goal vars recorded
+  Ends = EndsBy leaves problem tables goal variable_count recorded
 
   abbrev from : List Atom → Task
-  from atoms = task_of problem tables atoms goal vars
+  from atoms = task_of problem tables atoms goal variable_count
 
   -- ---- one run
 
@@ -171,15 +171,15 @@ module _ {E : Type 0} (leaves : E → List Atom → List Atom) (problem : Proble
           )
 
   pursued : (atoms : List Atom) (searches : ℕ) (turns : List TurnValue) (end : PursueEnd) (after : List Atom)
-      → (is : IsPursuit leaves problem tables goal vars recorded atoms searches turns end after)
+      → (is : IsPursuit leaves problem tables goal variable_count recorded atoms searches turns end after)
       → Pursues is.in_vain 1 atoms turns end after
   pursued atoms searches turns end after is =
       let place : length is.before + 1 ≡ 1 + length is.before = omega arith in
       (is.before, is.last, (is.mid, is.turns_are, is.vain, subst (λ k. Ends k is.mid is.last end after) place is.ends))
 
 pub pursuits_are_one : {E : Type 0} (leaves : E → List Atom → List Atom) → PursuitsAreOne leaves
-pursuits_are_one leaves problem tables goal vars recorded atoms after later searches others turns more end also a b =
-    let one = one_pursuit leaves problem tables goal vars recorded a.in_vain b.in_vain 1 atoms turns more end also after later
-    (pursued leaves problem tables goal vars recorded atoms searches turns end after a)
-    (pursued leaves problem tables goal vars recorded atoms others more also later b) in
+pursuits_are_one leaves problem tables goal variable_count recorded atoms after later searches others turns more end also a b =
+    let one = one_pursuit leaves problem tables goal variable_count recorded a.in_vain b.in_vain 1 atoms turns more end also after later
+    (pursued leaves problem tables goal variable_count recorded atoms searches turns end after a)
+    (pursued leaves problem tables goal variable_count recorded atoms others more also later b) in
     (a.searches_are ∙ ap suc one.0 ∙ sym b.searches_are, one.1.0, one.1.1, one.1.2)

@@ -36,25 +36,25 @@ read_variable first zero k v below is = absurd (omega (arith, below))
 read_variable first (suc count) zero v below is = ap Var (let e : first ≡ v = omega (arith, is) in e)
 read_variable first (suc count) (suc k) v below is = read_variable (suc first) count k v (omega (arith, below)) (omega (arith, is))
 
-own-term : (problem : Problem) (vars : ℕ) (t : Term) → IsTermOf problem vars t → substitute (variables_from 0 vars) t ≡ t
-own-term problem vars (Obj n) of = refl
-own-term problem vars (Var v) of = read_variable 0 vars v v of (omega arith)
-own-term problem vars Any of = elim of [ ]
+own-term : (problem : Problem) (variable_count : ℕ) (t : Term) → IsTermOf problem variable_count t → substitute (variables_from 0 variable_count) t ≡ t
+own-term problem variable_count (Obj n) of = refl
+own-term problem variable_count (Var v) of = read_variable 0 variable_count v v of (omega arith)
+own-term problem variable_count Any of = elim of [ ]
 
-own-terms : (problem : Problem) (vars : ℕ) (args : List Term) → All (IsTermOf problem vars) args
-    → map (substitute (variables_from 0 vars)) args ≡ args
-own-terms problem vars [] of = refl
-own-terms problem vars (t ∷ args) of =
-    let one = own-term problem vars t (All-head (IsTermOf problem vars) t args of) in
-    let rest = own-terms problem vars args (All-tail (IsTermOf problem vars) t args of) in
+own-terms : (problem : Problem) (variable_count : ℕ) (args : List Term) → All (IsTermOf problem variable_count) args
+    → map (substitute (variables_from 0 variable_count)) args ≡ args
+own-terms problem variable_count [] of = refl
+own-terms problem variable_count (t ∷ args) of =
+    let one = own-term problem variable_count t (All-head (IsTermOf problem variable_count) t args of) in
+    let rest = own-terms problem variable_count args (All-tail (IsTermOf problem variable_count) t args of) in
     λ i. one i ∷ rest i
 
-own-atoms : (problem : Problem) (vars : ℕ) (goal : List Atom) → All (IsAtomOf problem vars) goal
-    → map (substitute_atom (variables_from 0 vars)) goal ≡ goal
-own-atoms problem vars [] of = refl
-own-atoms problem vars (atom ∷ goal) of =
-    let terms = own-terms problem vars atom.args (All-head (IsAtomOf problem vars) atom goal of).1 in
-    let rest = own-atoms problem vars goal (All-tail (IsAtomOf problem vars) atom goal of) in
+own-atoms : (problem : Problem) (variable_count : ℕ) (goal : List Atom) → All (IsAtomOf problem variable_count) goal
+    → map (substitute_atom (variables_from 0 variable_count)) goal ≡ goal
+own-atoms problem variable_count [] of = refl
+own-atoms problem variable_count (atom ∷ goal) of =
+    let terms = own-terms problem variable_count atom.args (All-head (IsAtomOf problem variable_count) atom goal of).1 in
+    let rest = own-atoms problem variable_count goal (All-tail (IsAtomOf problem variable_count) atom goal of) in
     λ i. (record { pred = atom.pred; args = terms i }) ∷ rest i
 
 none_left : {A : Type 0} (xs : List A) (n : ℕ) → length xs ≤ n → drop n xs ≡ []
@@ -64,9 +64,9 @@ none_left (x ∷ xs) zero less = absurd (omega (arith, less))
 none_left (x ∷ xs) (suc n) less = none_left xs n (omega (arith, less))
 
 -- what some facts carry, more facts carry
-carries_more : (problem : Problem) (facts more : List Atom) (steps : List OpInst) (vars : ℕ) (goal : List Atom)
-    → All (Contains more) facts → Carries problem facts steps vars goal → Carries problem more steps vars goal
-carries_more problem facts more steps vars goal among carries =
+carries_more : (problem : Problem) (facts more : List Atom) (steps : List OpInst) (variable_count : ℕ) (goal : List Atom)
+    → All (Contains more) facts → Carries problem facts steps variable_count goal → Carries problem more steps variable_count goal
+carries_more problem facts more steps variable_count goal among carries =
     let fewer : (state : State) → All (Holds state) more → All (Holds state) facts =
     λ state hold. All-each (Holds state) facts
     (λ atom has. All-at (Holds state) more atom hold (All-at (Contains more) facts atom among has)) in
@@ -117,28 +117,28 @@ module _ {E : Type 0} (leaves : E → List Atom → List Atom) (p : Problem) (t 
 
 -- where the last kernel of a table without parameters fits, the atoms carry no steps to its goal
 last_carries : (problem : Problem) (plan : Table) (atoms : List Atom) (objects : List ℕ) → IsTable problem plan → plan.params ≡ 0
-    → KernelFits problem plan [] atoms (length plan.steps + 1) objects → Carries problem atoms [] plan.goal_vars plan.goal
+    → KernelFits problem plan [] atoms (length plan.steps + 1) objects → Carries problem atoms [] plan.goal_variable_count plan.goal
 last_carries problem plan atoms (n ∷ ns) is_table none fits =
     let count = fits.instantiation.count in absurd (omega (arith, count, none))
 last_carries problem plan atoms [] is_table none fits =
     let tail = (kernels_carry problem plan is_table).carry [] fits.instantiation (length plan.steps + 1) (omega arith) (omega arith)
     fits.proper in
-    let here = carries_more problem (kernel_under plan [] (length plan.steps + 1)) atoms _ plan.goal_vars (goal_under plan [])
+    let here = carries_more problem (kernel_under plan [] (length plan.steps + 1)) atoms _ plan.goal_variable_count (goal_under plan [])
     fits.holds tail in
     let steps = none_left (steps_under plan []) (length plan.steps + 1 - 1) (omega (arith, length-map plan.steps (instance_under []))) in
-    let sum : plan.params + plan.goal_vars ≡ plan.goal_vars = omega (arith, none) in
+    let sum : plan.params + plan.goal_variable_count ≡ plan.goal_variable_count = omega (arith, none) in
     let of = subst (λ n. All (IsAtomOf problem n) plan.goal) sum is_table.in_range.goal in
-    let goal = own-atoms problem plan.goal_vars plan.goal of in
-    subst (λ (g : List Atom). Carries problem atoms [] plan.goal_vars g) goal
-    (subst (λ (os : List OpInst). Carries problem atoms os plan.goal_vars (goal_under plan [])) steps here)
+    let goal = own-atoms problem plan.goal_variable_count plan.goal of in
+    subst (λ (g : List Atom). Carries problem atoms [] plan.goal_variable_count g) goal
+    (subst (λ (os : List OpInst). Carries problem atoms os plan.goal_variable_count (goal_under plan [])) steps here)
 
 pub goals_are_reached : {E : Type 0} (leaves : E → List Atom → List Atom) → GoalsAreReached leaves
-goals_are_reached leaves problem tables goal vars recorded atoms after searches turns searchable is =
+goals_are_reached leaves problem tables goal variable_count recorded atoms after searches turns searchable is =
     let run = is.ends.0 in
     let plan = run.plan in
     let last = run_reaches leaves problem plan [] recorded is.last (length is.before + 1) _ _ run.takes is.ends.1 in
-    let is_table = found-table (task_of problem tables is.mid goal vars) (searchable-from problem tables goal vars atoms is.mid searchable)
+    let is_table = found-table (task_of problem tables is.mid goal variable_count) (searchable-from problem tables goal variable_count atoms is.mid searchable)
     run.moves plan run.found run.made in
     let here = last_carries problem plan after last.0 is_table run.made.params last.1 in
-    subst (λ (g : List Atom). Carries problem after [] vars g) run.made.goal
-    (subst (λ n. Carries problem after [] n plan.goal) run.made.goal_vars here)
+    subst (λ (g : List Atom). Carries problem after [] variable_count g) run.made.goal
+    (subst (λ n. Carries problem after [] n plan.goal) run.made.goal_variable_count here)

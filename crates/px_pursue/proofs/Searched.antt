@@ -23,10 +23,10 @@ ends-run : (b : Bool) (before run : List TurnValue) → run ≢ [] → EndsPlanR
 ends-run true before run some ends = ends-later before run AtGoal some ends
 ends-run false before run some ends = ends-later before run AtNoKernel some ends
 
-module _ {E : Type 0} (leaves : E → List Atom → List Atom) (problem : Problem) (tables : List Table) (goal : List Atom) (vars : ℕ)
+module _ {E : Type 0} (leaves : E → List Atom → List Atom) (problem : Problem) (tables : List Table) (goal : List Atom) (variable_count : ℕ)
     (recorded : List (Recorded E)) where
   abbrev from : List Atom → Task
-  from atoms = task_of problem tables atoms goal vars
+  from atoms = task_of problem tables atoms goal variable_count
 
   some-turns : (plan : Table) (number : ℕ) (old new : Running) (run : List TurnValue)
       → TakesTurns leaves problem plan [] recorded number old run new → run ≢ []
@@ -37,7 +37,7 @@ module _ {E : Type 0} (leaves : E → List Atom → List Atom) (problem : Proble
   pub ran-plan : (atoms after : List Atom) (before turns : List Turn) (plan : Table) (b : Bool) → IsSought (from atoms) (Plan plan)
       → AddsRun leaves problem plan [] recorded before atoms turns after → EndsPlanRun b (map turn_told turns)
       → (run : List Turn) × (turns ≡ before ++ run)
-      × RunsPlan leaves problem tables goal vars recorded (length before + 1) atoms (map turn_told run) after
+      × RunsPlan leaves problem tables goal variable_count recorded (length before + 1) atoms (map turn_told run) after
       × EndsPlanRun b (map turn_told run)
   ran-plan atoms after before turns plan b (moves, found, made, is_table) adds ends =
       let told = ap (map turn_told) adds.turns_are ∙ map-append turn_told before adds.run in (
@@ -51,7 +51,7 @@ module _ {E : Type 0} (leaves : E → List Atom → List Atom) (problem : Proble
 
   -- the end without a plan
   pub ends-without : (number : ℕ) (atoms : List Atom) (end : PursueEnd) → EndsWithoutPlan (from atoms) end
-      → EndsBy leaves problem tables goal vars recorded number atoms [] end atoms
+      → EndsBy leaves problem tables goal variable_count recorded number atoms [] end atoms
   ends-without number atoms Goal is = absurd is
   ends-without number atoms Exhausted is = (is, refl, refl)
   ends-without number atoms (NodeLimit nodes moves) is = (is, refl, refl)

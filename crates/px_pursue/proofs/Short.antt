@@ -69,17 +69,17 @@ vain-room l m c d n short less falls =
         let product : (e + 2) * (m + 1) ≤ (e + 2) * (n + 1) = mul-le-mul_left (e + 2) (omega (arith, less)) in
         omega (arith, h, product)
 
-module _ {E : Type 0} (leaves : E → List Atom → List Atom) (problem : Problem) (tables : List Table) (goal : List Atom) (vars : ℕ)
-    (recorded : List (Recorded E)) (start : List Atom) (searchable : IsSearchable (task_of problem tables start goal vars)) (n : ℕ)
+module _ {E : Type 0} (leaves : E → List Atom → List Atom) (problem : Problem) (tables : List Table) (goal : List Atom) (variable_count : ℕ)
+    (recorded : List (Recorded E)) (start : List Atom) (searchable : IsSearchable (task_of problem tables start goal variable_count)) (n : ℕ)
     (few : (count : ℕ) (before : List TurnValue) (from : List Atom) (moves : List Move)
-    → RunsInVain leaves problem tables goal vars recorded count 1 start before from
-    → FindsMoves (task_of problem tables from goal vars) moves
+    → RunsInVain leaves problem tables goal variable_count recorded count 1 start before from
+    → FindsMoves (task_of problem tables from goal variable_count) moves
     → length (steps_of tables [] moves) ≤ n) where
   abbrev Plan : ℕ → List Atom → List TurnValue → List Atom → Type 0
-  Plan = RunsPlan leaves problem tables goal vars recorded
+  Plan = RunsPlan leaves problem tables goal variable_count recorded
 
   abbrev Vain : ℕ → ℕ → List Atom → List TurnValue → List Atom → Type 0
-  Vain = RunsInVain leaves problem tables goal vars recorded
+  Vain = RunsInVain leaves problem tables goal variable_count recorded
 
   -- how many disturbances are recorded for that turn and later ones
   abbrev later : ℕ → ℕ
@@ -96,8 +96,8 @@ module _ {E : Type 0} (leaves : E → List Atom → List Atom) (problem : Proble
   plan-short : (number : ℕ) (atoms : List Atom) (run : List TurnValue) (after : List Atom) → Leads number atoms
       → Plan number atoms run after → (m : ℕ) × (m ≤ n) × IsShort m number run
   plan-short number atoms run after leads plan =
-      let here = searchable-from problem tables goal vars start atoms searchable in
-      let task = task_of problem tables atoms goal vars in
+      let here = searchable-from problem tables goal variable_count start atoms searchable in
+      let task = task_of problem tables atoms goal variable_count in
       let is_table = found-table task here plan.moves plan.plan plan.found plan.made in (
         length plan.plan.steps,
         subst (λ (steps : List OpInst). length steps ≤ n) (sym plan.made.steps) (few leads.0 leads.1 atoms plan.moves leads.2 plan.found),
@@ -110,7 +110,7 @@ module _ {E : Type 0} (leaves : E → List Atom → List Atom) (problem : Proble
   leads-on number atoms run after (done, made, vain, is) plan ends = (
     suc done,
     made ++ run,
-    one_more leaves problem tables goal vars recorded done 1 start made atoms run after vain
+    one_more leaves problem tables goal variable_count recorded done 1 start made atoms run after vain
         (subst (λ k. Plan k atoms run after) (sym is) plan) ends,
     omega (arith, is, length-append made run),
   )
@@ -124,7 +124,7 @@ module _ {E : Type 0} (leaves : E → List Atom → List Atom) (problem : Proble
       omega (arith, ap length is.0, product)
   vain-short (suc count) number atoms turns after leads (run, rest, (mid, plan, ends, are, more)) =
       let short = plan-short number atoms run mid leads plan in
-      let used = plan_uses leaves problem tables goal vars recorded start searchable number atoms run mid plan ends in
+      let used = plan_uses leaves problem tables goal variable_count recorded start searchable number atoms run mid plan ends in
       let first = vain-room (length run) short.0 (later (number + length run)) (later number) n short.2 short.1 used in
       let others = vain-short count (number + length run) mid rest after (leads-on number atoms run mid leads plan ends) more in
       let same : (number + length run) + length rest ≡ number + length turns = omega (arith, ap length are, length-append run rest) in
@@ -133,7 +133,7 @@ module _ {E : Type 0} (leaves : E → List Atom → List Atom) (problem : Proble
       omega (arith, first, moved, ap length are, length-append run rest)
 
   last-short : (number : ℕ) (atoms : List Atom) (last : List TurnValue) (end : PursueEnd) (after : List Atom) → Leads number atoms
-      → EndsBy leaves problem tables goal vars recorded number atoms last end after → length last ≤ (n + 1) * (later number + 1)
+      → EndsBy leaves problem tables goal variable_count recorded number atoms last end after → length last ≤ (n + 1) * (later number + 1)
   last-short number atoms last Goal after leads ends =
       let short = plan-short number atoms last after leads ends.0 in
       let falls = count-falls number (number + length last) recorded (omega arith) in
@@ -144,11 +144,11 @@ module _ {E : Type 0} (leaves : E → List Atom → List Atom) (problem : Proble
   last-short number atoms last (ShapeLimit node limit) after leads ends = omega (arith, ap length ends.1)
 
 pub pursuits_are_short : {E : Type 0} (leaves : E → List Atom → List Atom) → PursuitsAreShort leaves
-pursuits_are_short leaves problem tables goal vars recorded atoms after searches turns end n searchable few is =
-    let vain = vain-short leaves problem tables goal vars recorded atoms searchable n few is.in_vain 1 atoms is.before is.mid
+pursuits_are_short leaves problem tables goal variable_count recorded atoms after searches turns end n searchable few is =
+    let vain = vain-short leaves problem tables goal variable_count recorded atoms searchable n few is.in_vain 1 atoms is.before is.mid
     (0, [], (refl, refl), omega arith) is.vain in
     let place : 1 + length is.before ≡ length is.before + 1 = omega arith in
-    let last = last-short leaves problem tables goal vars recorded atoms searchable n few (length is.before + 1) is.mid is.last end after
+    let last = last-short leaves problem tables goal variable_count recorded atoms searchable n few (length is.before + 1) is.mid is.last end after
     (is.in_vain, is.before, is.vain, place) is.ends in
     let moved : length is.before + 2 * (n + 1) * count_from (length is.before + 1) recorded ≤ 2 * (n + 1) * count_from 1 recorded =
     subst (λ k. length is.before + 2 * (n + 1) * count_from k recorded ≤ 2 * (n + 1) * count_from 1 recorded) place vain in

@@ -16,17 +16,17 @@ use Rattle.px_pursue.specs.Searches.{IsSearchable}
 use Rattle.px_pursue.specs.Seeking.{SearchesOnce}
 use Rattle.px_pursue.proofs.Few.{one_more, plan_uses}
 
-module _ {E : Type 0} (leaves : E → List Atom → List Atom) (problem : Problem) (tables : List Table) (goal : List Atom) (vars : ℕ)
+module _ {E : Type 0} (leaves : E → List Atom → List Atom) (problem : Problem) (tables : List Table) (goal : List Atom) (variable_count : ℕ)
     (recorded : List (Recorded E)) (start : List Atom) where
   abbrev Plan : ℕ → List Atom → List TurnValue → List Atom → Type 0
-  Plan = RunsPlan leaves problem tables goal vars recorded
+  Plan = RunsPlan leaves problem tables goal variable_count recorded
 
   abbrev Searches : List Turn → List Atom → List Turn → Option PursueEnd → List Atom → Type 0
-  Searches = SearchesOnce leaves problem tables goal vars recorded
+  Searches = SearchesOnce leaves problem tables goal variable_count recorded
 
   -- so many searches were in vain, and their plans were executed in these turns
   abbrev pub VainSoFar : ℕ → List Turn → List Atom → Type 0
-  VainSoFar count turns atoms = RunsInVain leaves problem tables goal vars recorded count 1 start (map turn_told turns) atoms
+  VainSoFar count turns atoms = RunsInVain leaves problem tables goal variable_count recorded count 1 start (map turn_told turns) atoms
 
   told-after : (before run turns : List Turn) → turns ≡ before ++ run → map turn_told turns ≡ map turn_told before ++ map turn_told run
   told-after before run turns are = ap (map turn_told) are ∙ map-append turn_told before run
@@ -36,16 +36,16 @@ module _ {E : Type 0} (leaves : E → List Atom → List Atom) (problem : Proble
       → Searches before atoms turns None after → VainSoFar (suc count) turns after
   vain-next count before turns atoms after vain (run, are, plan, ends) =
       let place : length before + 1 ≡ 1 + length (map turn_told before) = omega (arith, length-map before turn_told) in
-      subst (λ (ts : List TurnValue). RunsInVain leaves problem tables goal vars recorded (suc count) 1 start ts after)
+      subst (λ (ts : List TurnValue). RunsInVain leaves problem tables goal variable_count recorded (suc count) 1 start ts after)
       (sym (told-after before run turns are))
-      (one_more leaves problem tables goal vars recorded count 1 start (map turn_told before) atoms (map turn_told run) after vain
+      (one_more leaves problem tables goal variable_count recorded count 1 start (map turn_told before) atoms (map turn_told run) after vain
       (subst (λ k. Plan k atoms (map turn_told run) after) place plan) ends)
 
   -- fewer disturbances are left then
-  pub vain-uses : IsSearchable (task_of problem tables start goal vars) → (before turns : List Turn) (atoms after : List Atom)
+  pub vain-uses : IsSearchable (task_of problem tables start goal variable_count) → (before turns : List Turn) (atoms after : List Atom)
       → Searches before atoms turns None after → count_from (length turns + 1) recorded < count_from (length before + 1) recorded
   vain-uses searchable before turns atoms after (run, are, plan, ends) =
-      let used = plan_uses leaves problem tables goal vars recorded start searchable (length before + 1) atoms (map turn_told run)
+      let used = plan_uses leaves problem tables goal variable_count recorded start searchable (length before + 1) atoms (map turn_told run)
       after plan ends in
       let place : (length before + 1) + length (map turn_told run) ≡ length turns + 1 =
       omega (arith, length-map run turn_told, ap length are, length-append before run) in
@@ -54,7 +54,7 @@ module _ {E : Type 0} (leaves : E → List Atom → List Atom) (problem : Proble
   -- the last search
   pub pursued : (count : ℕ) (before turns : List Turn) (atoms after : List Atom) (end : PursueEnd) → VainSoFar count before atoms
       → Searches before atoms turns (Some end) after
-      → IsPursuit leaves problem tables goal vars recorded start (suc count) (map turn_told turns) end after
+      → IsPursuit leaves problem tables goal variable_count recorded start (suc count) (map turn_told turns) end after
   pursued count before turns atoms after end vain (run, are, ends) =
       let place : length before + 1 ≡ length (map turn_told before) + 1 = omega (arith, length-map before turn_told) in
       record {
@@ -65,5 +65,5 @@ module _ {E : Type 0} (leaves : E → List Atom → List Atom) (problem : Proble
         turns_are = told-after before run turns are;
         mid = atoms;
         vain = vain;
-        ends = subst (λ k. EndsBy leaves problem tables goal vars recorded k atoms (map turn_told run) end after) place ends;
+        ends = subst (λ k. EndsBy leaves problem tables goal variable_count recorded k atoms (map turn_told run) end after) place ends;
       }

@@ -24,36 +24,36 @@ PlansFit = (task : Task) (moves : List Move) (plan : Table) → IsSearchable tas
 module _ {E : Type 0} (leaves : E → List Atom → List Atom) where
   -- a run that ends where no kernel fits was disturbed: so as many are in vain, at most, as disturbances are recorded
   abbrev pub VainRunsAreFew : Type 0
-  VainRunsAreFew = (problem : Problem) (tables : List Table) (goal : List Atom) (vars : ℕ) (recorded : List (Recorded E))
-      (count : ℕ) (atoms after : List Atom) (turns : List TurnValue) → IsSearchable (task_of problem tables atoms goal vars)
-      → RunsInVain leaves problem tables goal vars recorded count 1 atoms turns after → count ≤ length recorded
+  VainRunsAreFew = (problem : Problem) (tables : List Table) (goal : List Atom) (variable_count : ℕ) (recorded : List (Recorded E))
+      (count : ℕ) (atoms after : List Atom) (turns : List TurnValue) → IsSearchable (task_of problem tables atoms goal variable_count)
+      → RunsInVain leaves problem tables goal variable_count recorded count 1 atoms turns after → count ≤ length recorded
 
   -- with D recorded disturbances a pursuit makes at most D + 1 searches
   abbrev pub SearchesAreFew : Type 0
-  SearchesAreFew = (problem : Problem) (tables : List Table) (goal : List Atom) (vars : ℕ) (recorded : List (Recorded E))
+  SearchesAreFew = (problem : Problem) (tables : List Table) (goal : List Atom) (variable_count : ℕ) (recorded : List (Recorded E))
       (atoms after : List Atom) (searches : ℕ) (turns : List TurnValue) (end : PursueEnd)
-      → IsSearchable (task_of problem tables atoms goal vars)
-      → IsPursuit leaves problem tables goal vars recorded atoms searches turns end after → searches ≤ length recorded + 1
+      → IsSearchable (task_of problem tables atoms goal variable_count)
+      → IsPursuit leaves problem tables goal variable_count recorded atoms searches turns end after → searches ≤ length recorded + 1
 
   -- Where no plan that one of its searches finds has more than n steps, a pursuit with D recorded disturbances has at most
   -- (2 * D + 1) * (n + 1) turns.
   abbrev pub PursuitsAreShort : Type 0
-  PursuitsAreShort = (problem : Problem) (tables : List Table) (goal : List Atom) (vars : ℕ) (recorded : List (Recorded E))
+  PursuitsAreShort = (problem : Problem) (tables : List Table) (goal : List Atom) (variable_count : ℕ) (recorded : List (Recorded E))
       (atoms after : List Atom) (searches : ℕ) (turns : List TurnValue) (end : PursueEnd) (n : ℕ)
-      → IsSearchable (task_of problem tables atoms goal vars)
+      → IsSearchable (task_of problem tables atoms goal variable_count)
       → ((count : ℕ) (before : List TurnValue) (from : List Atom) (moves : List Move)
-      → RunsInVain leaves problem tables goal vars recorded count 1 atoms before from
-      → FindsMoves (task_of problem tables from goal vars) moves
+      → RunsInVain leaves problem tables goal variable_count recorded count 1 atoms before from
+      → FindsMoves (task_of problem tables from goal variable_count) moves
       → length (steps_of tables [] moves) ≤ n)
-      → IsPursuit leaves problem tables goal vars recorded atoms searches turns end after
+      → IsPursuit leaves problem tables goal variable_count recorded atoms searches turns end after
       → length turns ≤ (2 * length recorded + 1) * (n + 1)
 
   -- where a pursuit ends in the goal, the goal holds in each state in which the axioms and the world's atoms hold: no step is left
   abbrev pub GoalsAreReached : Type 0
-  GoalsAreReached = (problem : Problem) (tables : List Table) (goal : List Atom) (vars : ℕ) (recorded : List (Recorded E))
-      (atoms after : List Atom) (searches : ℕ) (turns : List TurnValue) → IsSearchable (task_of problem tables atoms goal vars)
-      → IsPursuit leaves problem tables goal vars recorded atoms searches turns Goal after
-      → Carries problem after [] vars goal
+  GoalsAreReached = (problem : Problem) (tables : List Table) (goal : List Atom) (variable_count : ℕ) (recorded : List (Recorded E))
+      (atoms after : List Atom) (searches : ℕ) (turns : List TurnValue) → IsSearchable (task_of problem tables atoms goal variable_count)
+      → IsPursuit leaves problem tables goal variable_count recorded atoms searches turns Goal after
+      → Carries problem after [] variable_count goal
 
 -- the same end, apart from the question at which a search met the limit of shapes
 pub record AreLimitEnds (one other : PursueEnd) : Type 0 where
@@ -70,8 +70,8 @@ AreSameEnds one other = (one ≡ other) ⊎ AreLimitEnds one other
 
 -- a pursuit is determined
 abbrev pub PursuitsAreOne : {E : Type 0} → (E → List Atom → List Atom) → Type 0
-PursuitsAreOne {E} leaves = (problem : Problem) (tables : List Table) (goal : List Atom) (vars : ℕ) (recorded : List (Recorded E))
+PursuitsAreOne {E} leaves = (problem : Problem) (tables : List Table) (goal : List Atom) (variable_count : ℕ) (recorded : List (Recorded E))
     (atoms after later : List Atom) (searches others : ℕ) (turns more : List TurnValue) (end also : PursueEnd)
-    → IsPursuit leaves problem tables goal vars recorded atoms searches turns end after
-    → IsPursuit leaves problem tables goal vars recorded atoms others more also later
+    → IsPursuit leaves problem tables goal variable_count recorded atoms searches turns end after
+    → IsPursuit leaves problem tables goal variable_count recorded atoms others more also later
     → (searches ≡ others) × (turns ≡ more) × AreSameEnds end also × (after ≡ later)

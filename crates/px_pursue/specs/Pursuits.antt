@@ -16,15 +16,15 @@ use Rattle.px_turns.specs.Told.{EndsRun}
 use Rattle.px_pursue.specs.Searches.{EndsWithoutPlan, FindsMoves}
 
 -- To reach the goal by these learned tables, in a world in which an edit leaves these atoms, disturbed as recorded.
-module _ {E : Type 0} (leaves : E → List Atom → List Atom) (problem : Problem) (tables : List Table) (goal : List Atom) (vars : ℕ)
+module _ {E : Type 0} (leaves : E → List Atom → List Atom) (problem : Problem) (tables : List Table) (goal : List Atom) (variable_count : ℕ)
     (recorded : List (Recorded E)) where
   -- A search from these atoms found moves. Their table was executed from these atoms in these turns, with nothing bound; the first of them
   -- has that number.
   pub record RunsPlan (number : ℕ) (atoms : List Atom) (run : List TurnValue) (after : List Atom) : Type 0 where
     pub moves : List Move
-    pub found : FindsMoves (task_of problem tables atoms goal vars) moves
+    pub found : FindsMoves (task_of problem tables atoms goal variable_count) moves
     pub plan : Table
-    pub made : IsTableOfMoves (task_of problem tables atoms goal vars) moves plan
+    pub made : IsTableOfMoves (task_of problem tables atoms goal variable_count) moves plan
     pub memory : Memory
     pub takes : TakesTurns leaves problem plan [] recorded number (running atoms nothing_sensed) run (running after memory)
 
@@ -40,7 +40,7 @@ module _ {E : Type 0} (leaves : E → List Atom → List Atom) (problem : Proble
   abbrev pub EndsBy : ℕ → List Atom → List TurnValue → PursueEnd → List Atom → Type 0
   EndsBy number atoms run Goal after = RunsPlan number atoms run after × EndsRun AtGoal run
   EndsBy number atoms run end after =
-      EndsWithoutPlan (task_of problem tables atoms goal vars) end × (run ≡ []) × (after ≡ atoms)
+      EndsWithoutPlan (task_of problem tables atoms goal variable_count) end × (run ≡ []) × (after ≡ atoms)
 
   -- A pursuit from these atoms: how many searches it made, its turns from 1 on, its end, and the atoms after it. Each search but the last
   -- found a plan whose run ended with a sensing that found no kernel.

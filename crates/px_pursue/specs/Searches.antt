@@ -13,7 +13,7 @@ use Rattle.px_printer.specs.declared.pursue_end.PursueEnd.TheVariants.{Goal, Exh
 pub record IsSearchable (task : Task) : Type 0 where
   pub valid : IsValid task.problem
   pub nodes : task.nodes ≤ most_nodes
-  pub goal : All (IsAtomOf task.problem task.vars) task.goal
+  pub goal : All (IsAtomOf task.problem task.variable_count) task.goal
   pub learned : AreLearned task.problem task.tables
 
 -- the search, with the problem's weight, finds these moves

@@ -20,13 +20,13 @@ use Rattle.px_pursue.specs.Searches.{EndsWithoutPlan, FindsMoves, IsSearchable}
 
 -- to reach what is aimed at, from these atoms
 abbrev pub task_from : Aim → List Atom → Task
-task_from aim atoms = task_of aim.problem.now aim.tables.now atoms aim.goal.now aim.vars
+task_from aim atoms = task_of aim.problem.now aim.tables.now atoms aim.goal.now aim.variable_count
 
 -- what may be aimed at
 pub record IsAim (aim : Aim) : Type 0 where
   pub searchable : (atoms : List Atom) → IsSearchable (task_from aim atoms)
-  pub few_variables : aim.vars ≤ most_formula_variables
-  pub some_object : 0 < aim.vars → 0 < aim.problem.now.objects
+  pub few_variables : aim.variable_count ≤ most_formula_variables
+  pub some_object : 0 < aim.variable_count → 0 < aim.problem.now.objects
 
 -- the search found moves, of which this is the table; or it ended like this
 abbrev pub IsSought : Task → Sought → Type 0
@@ -41,10 +41,10 @@ EndsPlanRun at_goal turns = MatchBool at_goal (EndsRun AtGoal turns) (EndsRun At
 -- where no kernel fitted, or the pursuit ended like this.
 abbrev pub SearchesOnce : {E : Type 0} → (E → List Atom → List Atom) → Problem → List Table → List Atom → ℕ → List (Recorded E)
     → List Turn → List Atom → List Turn → Option PursueEnd → List Atom → Type 0
-SearchesOnce leaves problem tables goal vars recorded before atoms turns None after =
+SearchesOnce leaves problem tables goal variable_count recorded before atoms turns None after =
     (run : List Turn) × (turns ≡ before ++ run)
-    × RunsPlan leaves problem tables goal vars recorded (length before + 1) atoms (map turn_told run) after
+    × RunsPlan leaves problem tables goal variable_count recorded (length before + 1) atoms (map turn_told run) after
     × EndsRun AtNoKernel (map turn_told run)
-SearchesOnce leaves problem tables goal vars recorded before atoms turns (Some end) after =
+SearchesOnce leaves problem tables goal variable_count recorded before atoms turns (Some end) after =
     (run : List Turn) × (turns ≡ before ++ run)
-    × EndsBy leaves problem tables goal vars recorded (length before + 1) atoms (map turn_told run) end after
+    × EndsBy leaves problem tables goal variable_count recorded (length before + 1) atoms (map turn_told run) end after

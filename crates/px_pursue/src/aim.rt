@@ -9,6 +9,6 @@ pub(crate) struct Aim<'a> {
     pub(crate) alloc: Global,
     pub(crate) problem: &'a Problem,
     pub(crate) goal: &'a [Atom],
-    pub(crate) vars: u32,
+    pub(crate) variable_count: u32,
     pub(crate) tables: &'a [Table],
 }

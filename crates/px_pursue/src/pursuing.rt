@@ -89,7 +89,7 @@ fn search_and_run<W: Regrow>(
     requires facts { facts.old.atoms ≡ W.atoms world.old }
     requires rules { HaveSameRules (W.rules world.old) aim.now.problem.now }
     requires admitted { AdmitsAll (W.admits world.old) recorded.now }
-    ensures goes { IfOk result (λ end. SearchesOnce W.leaves aim.now.problem.now aim.now.tables.now aim.now.goal.now aim.now.vars
+    ensures goes { IfOk result (λ end. SearchesOnce W.leaves aim.now.problem.now aim.now.tables.now aim.now.goal.now aim.now.variable_count
         recorded.now turns.old.items (W.atoms world.old) turns.new.items end (W.atoms world.new)) }
     ensures facts { OnOk result (facts.new.atoms ≡ W.atoms world.new) }
     ensures kept { OnErr result (W.atoms world.new ≡ W.atoms world.old) }
@@ -117,24 +117,24 @@ pub fn pursue<W: Regrow>(
     problem: &Problem,
     world: &mut W,
     goal: &[Atom],
-    vars: u32,
+    variable_count: u32,
     tables: &[Table],
     recorded: &[Recorded<W::Edit>],
 ) -> Result<Pursued, NoMemory>
     requires problem { IsValid problem.now }
-    requires goal { All (IsAtomOf problem.now vars) goal.now }
-    requires few_variables { vars ≤ most_formula_variables }
-    requires some_object { 0 < vars → 0 < problem.now.objects }
+    requires goal { All (IsAtomOf problem.now variable_count) goal.now }
+    requires few_variables { variable_count ≤ most_formula_variables }
+    requires some_object { 0 < variable_count → 0 < problem.now.objects }
     requires tables { AreLearned problem.now tables.now }
     requires rules { HaveSameRules (W.rules world.old) problem.now }
     requires admitted { AdmitsAll (W.admits world.old) recorded.now }
     requires short { length recorded.now < u32_max }
-    ensures pursues { IfOk result (λ made. IsPursuit W.leaves problem.now tables.now goal.now vars recorded.now (W.atoms world.old)
+    ensures pursues { IfOk result (λ made. IsPursuit W.leaves problem.now tables.now goal.now variable_count recorded.now (W.atoms world.old)
         made.searches (map turn_told made.turns) made.end (W.atoms world.new)) }
     ensures facts { IfOk result (λ made. made.facts.atoms ≡ W.atoms world.new) }
     ensures few { IfOk result (λ made. made.searches ≤ length recorded.now + 1) }
-    ensures reached { IfOk result (λ made. made.end ≡ PursueEnd.Goal → Carries problem.now (W.atoms world.new) [] vars goal.now) }
-    ensures left { OnErr result ((count : ℕ) × ((turns : List _) × RunsInVain W.leaves problem.now tables.now goal.now vars
+    ensures reached { IfOk result (λ made. made.end ≡ PursueEnd.Goal → Carries problem.now (W.atoms world.new) [] variable_count goal.now) }
+    ensures left { OnErr result ((count : ℕ) × ((turns : List _) × RunsInVain W.leaves problem.now tables.now goal.now variable_count
         recorded.now count 1 (W.atoms world.old) turns (W.atoms world.new))) }
     ensures rules { W.rules world.new ≡ W.rules world.old }
     ensures edits { AdmitSame (W.admits world.old) (W.admits world.new) }
@@ -143,7 +143,7 @@ pub fn pursue<W: Regrow>(
         alloc,
         problem,
         goal,
-        vars,
+        variable_count,
         tables,
     };
     let aim = &wanted;

@@ -31,7 +31,7 @@ pub(crate) fn seek(aim: &Aim<'_>, facts: &Model) -> Result<Sought, NoMemory>
         aim.problem,
         facts,
         aim.goal,
-        aim.vars,
+        aim.variable_count,
         aim.tables,
     ) {
         Ok(found) => {
@@ -44,7 +44,7 @@ pub(crate) fn seek(aim: &Aim<'_>, facts: &Model) -> Result<Sought, NoMemory>
                 aim.alloc,
                 aim.problem,
                 aim.goal,
-                aim.vars,
+                aim.variable_count,
                 steps.as_slice(),
                 support,
             )?;

@@ -25,7 +25,7 @@ record Candidate : Type 0 where
   proofs : Derivations
 
 abbrev IsOne : Rules → Setting → List Atom → ℕ → Candidate → Type 0
-IsOne rules s formula vars c = IsList rules s formula vars c.objects c.proofs
+IsOne rules s formula variable_count c = IsList rules s formula variable_count c.objects c.proofs
 
 only_open-decided : (shape : List Tick) → Decided (OnlyOpen shape)
 only_open-decided [] = inl tt
@@ -52,34 +52,34 @@ before-decided a b = elim (shape_trichotomy a b) [
   ]
 ]
 
-module _ (rules : Rules) (s : Setting) (formula : List Atom) (vars : ℕ) (finite : IsFinite rules s.objects) where
+module _ (rules : Rules) (s : Setting) (formula : List Atom) (variable_count : ℕ) (finite : IsFinite rules s.objects) where
   abbrev AreTheProofs : List ℕ → Derivations → Type 0
   AreTheProofs objects ds = AreProofs rules s.axioms s.objects finite s.height [] (literals_of formula objects) ds
 
   abbrev Under : List ℕ → Candidate → Type 0
   Under objects c = (ds : Derivations) × AreTheProofs objects ds × (record { objects = objects; proofs = ds } ≡ c)
 
-  listed-lists : Listed (IsOne rules s formula vars)
+  listed-lists : Listed (IsOne rules s formula variable_count)
   listed-lists =
-      listed-by (λ c. (objects : List ℕ) × AreBelow s.objects vars objects × Under objects c) (IsOne rules s formula vars)
-      (λ c h. subst (IsOne rules s formula vars) h.2.2 (record { count = h.1.0; below = h.1.1; proved = h.2.1.0; low = h.2.1.1 }))
+      listed-by (λ c. (objects : List ℕ) × AreBelow s.objects variable_count objects × Under objects c) (IsOne rules s formula variable_count)
+      (λ c h. subst (IsOne rules s formula variable_count) h.2.2 (record { count = h.1.0; below = h.1.1; proved = h.2.1.0; low = h.2.1.1 }))
       (λ c is. (c.objects, (is.count, is.below), (c.proofs, (is.proved, is.low), refl)))
-      (listed-each (AreBelow s.objects vars) Under (listed-tuples s.objects vars)
+      (listed-each (AreBelow s.objects variable_count) Under (listed-tuples s.objects variable_count)
       (λ objects. listed-map (AreTheProofs objects) (λ ds. record { objects = objects; proofs = ds })
       (listed-proofs rules s.axioms s.objects finite s.height [] (literals_of formula objects))))
 
-module _ (rules : Rules) (s : Setting) (formula : List Atom) (vars : ℕ) (finite : IsFinite rules s.objects) where
+module _ (rules : Rules) (s : Setting) (formula : List Atom) (variable_count : ℕ) (finite : IsFinite rules s.objects) where
   abbrev HasShape : List Tick → Type 0
-  HasShape shape = (c : Candidate) × IsOne (or_open rules) s formula vars c × (ticks_of c.proofs ≡ shape)
+  HasShape shape = (c : Candidate) × IsOne (or_open rules) s formula variable_count c × (ticks_of c.proofs ≡ shape)
 
-  listed-shapes : Listed (IsPartialShape rules s formula vars)
+  listed-shapes : Listed (IsPartialShape rules s formula variable_count)
   listed-shapes =
-      listed-by (λ shape. HasShape shape × IsUnfinished shape) (IsPartialShape rules s formula vars)
+      listed-by (λ shape. HasShape shape × IsUnfinished shape) (IsPartialShape rules s formula variable_count)
       (λ shape h. (h.1, (h.0.0.objects, h.0.0.proofs, h.0.1, h.0.2)))
       (λ shape is. ((record { objects = is.1.0; proofs = is.1.1 }, is.1.2, is.1.3), is.0))
       (listed-where HasShape IsUnfinished
-      (listed-map (IsOne (or_open rules) s formula vars) (λ c. ticks_of c.proofs)
-      (listed-lists (or_open rules) s formula vars (finite-open rules s.objects finite)))
+      (listed-map (IsOne (or_open rules) s formula variable_count) (λ c. ticks_of c.proofs)
+      (listed-lists (or_open rules) s formula variable_count (finite-open rules s.objects finite)))
       unfinished-decided)
 
 -- ---- the first answer
@@ -152,12 +152,12 @@ earliest c [] = (c, Contains-first c [], λ e has. subst (NoLater c) (Contains-o
 earliest c (d ∷ cs) =
     let rest = earliest d cs in
     elim (no_later-either c rest.0) [
-      | inl front ↦ (
+      | inl prefix ↦ (
         c,
         Contains-first c (d ∷ cs),
         λ e has. elim (Contains-cases c (d ∷ cs) e has) [
           | inl is ↦ subst (NoLater c) is (no_later-itself c)
-          | inr later ↦ no_later-trans c rest.0 e front (rest.2 e later)
+          | inr later ↦ no_later-trans c rest.0 e prefix (rest.2 e later)
         ],
       )
       | inr back ↦ (
@@ -171,14 +171,14 @@ earliest c (d ∷ cs) =
     ]
 
 abbrev HasFirst : Setting → List Atom → ℕ → Type 0
-HasFirst s formula vars = (objects : List ℕ) × (ds : Derivations) × IsFirst s formula vars objects ds
+HasFirst s formula variable_count = (objects : List ℕ) × (ds : Derivations) × IsFirst s formula variable_count objects ds
 
 -- a formula has a first answer or none
-first_or_none : (s : Setting) (formula : List Atom) (vars : ℕ) → HasFirst s formula vars ⊎ (¬ IsAnswer s formula vars)
-first_or_none s formula vars = go (listed-lists (proofs_in s) s formula vars (finite-proofs s))
+first_or_none : (s : Setting) (formula : List Atom) (variable_count : ℕ) → HasFirst s formula variable_count ⊎ (¬ IsAnswer s formula variable_count)
+first_or_none s formula variable_count = go (listed-lists (proofs_in s) s formula variable_count (finite-proofs s))
   where
-    go : Listed (IsOne (proofs_in s) s formula vars) → HasFirst s formula vars ⊎ (¬ IsAnswer s formula vars)
-    go listed = elim listed.items as (λ cs. cs ≡ listed.items → HasFirst s formula vars ⊎ (¬ IsAnswer s formula vars)) [
+    go : Listed (IsOne (proofs_in s) s formula variable_count) → HasFirst s formula variable_count ⊎ (¬ IsAnswer s formula variable_count)
+    go listed = elim listed.items as (λ cs. cs ≡ listed.items → HasFirst s formula variable_count ⊎ (¬ IsAnswer s formula variable_count)) [
       | [] ↦ λ are. inr (λ answer. let c : Candidate = record { objects = answer.0; proofs = answer.1 } in
           Contains-none c (subst (λ (cs : List Candidate). Contains cs c) (sym are) (listed.all c answer.2)))
       | c ∷ cs ↦ λ are.
@@ -199,11 +199,11 @@ first_or_none s formula vars = go (listed-lists (proofs_in s) s formula vars (fi
 -- ---- the outcomes
 
 -- where there are as many shapes before the first answer as the limit, it is met
-limited-before : (s : Setting) (formula : List Atom) (vars : ℕ) (objects : List ℕ) (ds : Derivations) → IsFirst s formula vars objects ds
+limited-before : (s : Setting) (formula : List Atom) (variable_count : ℕ) (objects : List ℕ) (ds : Derivations) → IsFirst s formula variable_count objects ds
     → (shapes : List (List Tick)) → length shapes ≡ s.limit
-    → AreFirstShapes (λ shape. IsPartialShape (proofs_in s) s formula vars shape × ShapeBefore shape (ticks_of ds)) shapes
-    → IsLimited s formula vars shapes
-limited-before s formula vars objects ds answer shapes count firsts = record {
+    → AreFirstShapes (λ shape. IsPartialShape (proofs_in s) s formula variable_count shape × ShapeBefore shape (ticks_of ds)) shapes
+    → IsLimited s formula variable_count shapes
+limited-before s formula variable_count objects ds answer shapes count firsts = record {
   count = count;
   kept = record {
     ascending = firsts.ascending;
@@ -222,51 +222,51 @@ limited-before s formula vars objects ds answer shapes count firsts = record {
   ];
 }
 
-limited-none : (s : Setting) (formula : List Atom) (vars : ℕ) → ¬ IsAnswer s formula vars → (shapes : List (List Tick))
-    → length shapes ≡ s.limit → AreFirstShapes (IsPartialShape (proofs_in s) s formula vars) shapes → IsLimited s formula vars shapes
-limited-none s formula vars no_answer shapes count firsts =
+limited-none : (s : Setting) (formula : List Atom) (variable_count : ℕ) → ¬ IsAnswer s formula variable_count → (shapes : List (List Tick))
+    → length shapes ≡ s.limit → AreFirstShapes (IsPartialShape (proofs_in s) s formula variable_count) shapes → IsLimited s formula variable_count shapes
+limited-none s formula variable_count no_answer shapes count firsts =
     record { count = count; kept = firsts; before = λ objects ds is. absurd (no_answer (objects, ds, is)) }
 
-proofs_decided : (s : Setting) (formula : List Atom) (vars : ℕ)
-    → ((shapes : List (List Tick)) × IsLimited s formula vars shapes)
-    ⊎ ((objects : List ℕ) × (ds : Derivations) × IsFirst s formula vars objects ds × AreFewBefore s formula vars ds)
-    ⊎ ((¬ IsAnswer s formula vars) × AreFewShapes s formula vars)
-proofs_decided s formula vars =
-    let shapes = listed-shapes (proofs_in s) s formula vars (finite-proofs s) in
-    elim (first_or_none s formula vars) [
-      | inl first ↦ elim (few_or_firsts (λ shape. IsPartialShape (proofs_in s) s formula vars shape × ShapeBefore shape (ticks_of first.1))
+proofs_decided : (s : Setting) (formula : List Atom) (variable_count : ℕ)
+    → ((shapes : List (List Tick)) × IsLimited s formula variable_count shapes)
+    ⊎ ((objects : List ℕ) × (ds : Derivations) × IsFirst s formula variable_count objects ds × AreFewBefore s formula variable_count ds)
+    ⊎ ((¬ IsAnswer s formula variable_count) × AreFewShapes s formula variable_count)
+proofs_decided s formula variable_count =
+    let shapes = listed-shapes (proofs_in s) s formula variable_count (finite-proofs s) in
+    elim (first_or_none s formula variable_count) [
+      | inl first ↦ elim (few_or_firsts (λ shape. IsPartialShape (proofs_in s) s formula variable_count shape × ShapeBefore shape (ticks_of first.1))
           s.limit
-          (listed-where (IsPartialShape (proofs_in s) s formula vars) (λ shape. ShapeBefore shape (ticks_of first.1)) shapes
+          (listed-where (IsPartialShape (proofs_in s) s formula variable_count) (λ shape. ShapeBefore shape (ticks_of first.1)) shapes
           (λ shape. before-decided shape (ticks_of first.1)))) [
             | inl few ↦ inr (inl (first.0, first.1, first.2, few))
-            | inr met ↦ inl (met.0, limited-before s formula vars first.0 first.1 first.2 met.0 met.1 met.2)
+            | inr met ↦ inl (met.0, limited-before s formula variable_count first.0 first.1 first.2 met.0 met.1 met.2)
           ]
-      | inr no_answer ↦ elim (few_or_firsts (IsPartialShape (proofs_in s) s formula vars) s.limit shapes) [
+      | inr no_answer ↦ elim (few_or_firsts (IsPartialShape (proofs_in s) s formula variable_count) s.limit shapes) [
         | inl few ↦ inr (inr (no_answer, few))
-        | inr met ↦ inl (met.0, limited-none s formula vars no_answer met.0 met.1 met.2)
+        | inr met ↦ inl (met.0, limited-none s formula variable_count no_answer met.0 met.1 met.2)
       ]
     ]
 
-gap_shapes_decided : (s : Setting) (formula : List Atom) (vars : ℕ)
-    → ((shapes : List (List Tick)) × IsGapLimited s formula vars shapes) ⊎ AreFewGapShapes s formula vars
-gap_shapes_decided s formula vars =
-    elim (few_or_firsts (IsPartialShape (loose_gaps_in s) s formula vars) s.limit
-    (listed-shapes (loose_gaps_in s) s formula vars (finite-gaps s))) [
+gap_shapes_decided : (s : Setting) (formula : List Atom) (variable_count : ℕ)
+    → ((shapes : List (List Tick)) × IsGapLimited s formula variable_count shapes) ⊎ AreFewGapShapes s formula variable_count
+gap_shapes_decided s formula variable_count =
+    elim (few_or_firsts (IsPartialShape (loose_gaps_in s) s formula variable_count) s.limit
+    (listed-shapes (loose_gaps_in s) s formula variable_count (finite-gaps s))) [
       | inl few ↦ inr few
       | inr met ↦ inl (met.0, record { count = met.1; kept = met.2 })
     ]
 
-stays_below : (s : Setting) (formula : List Atom) (vars : ℕ) → ((shapes : List (List Tick)) → ¬ IsLimited s formula vars shapes)
-    → StaysBelowLimit s formula vars
-stays_below s formula vars never_met = elim (proofs_decided s formula vars) [
+stays_below : (s : Setting) (formula : List Atom) (variable_count : ℕ) → ((shapes : List (List Tick)) → ¬ IsLimited s formula variable_count shapes)
+    → StaysBelowLimit s formula variable_count
+stays_below s formula variable_count never_met = elim (proofs_decided s formula variable_count) [
   | inl met ↦ absurd (never_met met.0 met.1)
   | inr below ↦ elim below [ inl first ↦ inl first | inr few ↦ inr few.1 ]
 ]
 
-gaps_stay_below : (s : Setting) (formula : List Atom) (vars : ℕ)
-    → ((kept : List Atom) (shapes : List (List Tick)) → ¬ MeetsGapLimit s formula vars kept shapes) → StaysBelowGapLimit s formula vars
-gaps_stay_below s formula vars never_met = record {
-  shapes = elim (gap_shapes_decided s formula vars) [ inl met ↦ absurd (never_met formula met.0 (inl (refl, met.1))) | inr few ↦ few ];
+gaps_stay_below : (s : Setting) (formula : List Atom) (variable_count : ℕ)
+    → ((kept : List Atom) (shapes : List (List Tick)) → ¬ MeetsGapLimit s formula variable_count kept shapes) → StaysBelowGapLimit s formula variable_count
+gaps_stay_below s formula variable_count never_met = record {
+  shapes = elim (gap_shapes_decided s formula variable_count) [ inl met ↦ absurd (never_met formula met.0 (inl (refl, met.1))) | inr few ↦ few ];
   atoms = λ atom loose. stays_below s (atom ∷ []) 0 (λ shapes limited. never_met (atom ∷ []) shapes (inr (atom, refl, loose, limited)));
 }
 

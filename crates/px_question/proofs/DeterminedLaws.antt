@@ -67,19 +67,19 @@ same_firsts P (x ∷ xs) (y ∷ ys) long are also_are =
 pub limits-are_one : LimitsAreOne
 limits-are_one = record {
   proofs =
-      λ s formula vars shapes others limited also_limited. same_firsts _ shapes others
+      λ s formula variable_count shapes others limited also_limited. same_firsts _ shapes others
       (limited.count ∙ sym also_limited.count) limited.kept also_limited.kept;
   gap_proofs =
-      λ s formula vars shapes others limited also_limited. same_firsts _ shapes others
+      λ s formula variable_count shapes others limited also_limited. same_firsts _ shapes others
       (limited.count ∙ sym also_limited.count) limited.kept also_limited.kept;
 }
 
 -- ---- few shapes
 
 -- an unfinished list of proofs is one of loose gap proofs
-partial-loose : (s : Setting) (formula : List Atom) (vars : ℕ) (shape : List Tick) → IsPartialShape (proofs_in s) s formula vars shape
-    → IsPartialShape (loose_gaps_in s) s formula vars shape
-partial-loose s formula vars shape (unfinished, (objects, ds, is, same)) = (
+partial-loose : (s : Setting) (formula : List Atom) (variable_count : ℕ) (shape : List Tick) → IsPartialShape (proofs_in s) s formula variable_count shape
+    → IsPartialShape (loose_gaps_in s) s formula variable_count shape
+partial-loose s formula variable_count shape (unfinished, (objects, ds, is, same)) = (
   unfinished,
   (
     objects,
@@ -97,43 +97,43 @@ partial-loose s formula vars shape (unfinished, (objects, ds, is, same)) = (
   ),
 )
 
-few-proofs : (s : Setting) (formula : List Atom) (vars : ℕ) (shapes : List (List Tick)) → AreFewShapes s formula vars
-    → ¬ IsLimited s formula vars shapes
-few-proofs s formula vars shapes few limited =
-    let P = IsPartialShape (proofs_in s) s formula vars in
+few-proofs : (s : Setting) (formula : List Atom) (variable_count : ℕ) (shapes : List (List Tick)) → AreFewShapes s formula variable_count
+    → ¬ IsLimited s formula variable_count shapes
+few-proofs s formula variable_count shapes few limited =
+    let P = IsPartialShape (proofs_in s) s formula variable_count in
     few_firsts P P s.limit shapes few (λ shape h. h) limited.count limited.kept
 
-few-before : (s : Setting) (formula : List Atom) (vars : ℕ) (shapes : List (List Tick)) (objects : List ℕ) (ds : Derivations)
-    → IsList (proofs_in s) s formula vars objects ds → AreFewBefore s formula vars ds → ¬ IsLimited s formula vars shapes
-few-before s formula vars shapes objects ds is few limited =
-    too_few (λ shape. IsPartialShape (proofs_in s) s formula vars shape × ShapeBefore shape (ticks_of ds)) s.limit shapes few limited.count
+few-before : (s : Setting) (formula : List Atom) (variable_count : ℕ) (shapes : List (List Tick)) (objects : List ℕ) (ds : Derivations)
+    → IsList (proofs_in s) s formula variable_count objects ds → AreFewBefore s formula variable_count ds → ¬ IsLimited s formula variable_count shapes
+few-before s formula variable_count shapes objects ds is few limited =
+    too_few (λ shape. IsPartialShape (proofs_in s) s formula variable_count shape × ShapeBefore shape (ticks_of ds)) s.limit shapes few limited.count
     limited.kept.ascending
     (λ shape has. (
-      All-at (IsPartialShape (proofs_in s) s formula vars) shapes shape limited.kept.each has,
+      All-at (IsPartialShape (proofs_in s) s formula variable_count) shapes shape limited.kept.each has,
       All-at (λ kept. ShapeBefore kept (ticks_of ds)) shapes shape (limited.before objects ds is) has,
     ))
 
-few-gap_proofs : (s : Setting) (formula : List Atom) (vars : ℕ) (shapes : List (List Tick)) → AreFewGapShapes s formula vars
-    → ¬ IsGapLimited s formula vars shapes
-few-gap_proofs s formula vars shapes few limited =
-    let P = IsPartialShape (loose_gaps_in s) s formula vars in
+few-gap_proofs : (s : Setting) (formula : List Atom) (variable_count : ℕ) (shapes : List (List Tick)) → AreFewGapShapes s formula variable_count
+    → ¬ IsGapLimited s formula variable_count shapes
+few-gap_proofs s formula variable_count shapes few limited =
+    let P = IsPartialShape (loose_gaps_in s) s formula variable_count in
     few_firsts P P s.limit shapes few (λ shape h. h) limited.count limited.kept
 
-few-gap_shapes : (s : Setting) (formula : List Atom) (vars : ℕ) → AreFewGapShapes s formula vars → AreFewShapes s formula vars
-few-gap_shapes s formula vars few =
-    fewer-among (IsPartialShape (loose_gaps_in s) s formula vars) (IsPartialShape (proofs_in s) s formula vars) s.limit few
-    (partial-loose s formula vars)
+few-gap_shapes : (s : Setting) (formula : List Atom) (variable_count : ℕ) → AreFewGapShapes s formula variable_count → AreFewShapes s formula variable_count
+few-gap_shapes s formula variable_count few =
+    fewer-among (IsPartialShape (loose_gaps_in s) s formula variable_count) (IsPartialShape (proofs_in s) s formula variable_count) s.limit few
+    (partial-loose s formula variable_count)
 
-below-limit : (s : Setting) (formula : List Atom) (vars : ℕ) (shapes : List (List Tick)) → StaysBelowLimit s formula vars
-    → ¬ IsLimited s formula vars shapes
-below-limit s formula vars shapes (inl (objects, ds, first, few)) limited =
-    few-before s formula vars shapes objects ds first.finished few limited
-below-limit s formula vars shapes (inr few) limited = few-proofs s formula vars shapes few limited
+below-limit : (s : Setting) (formula : List Atom) (variable_count : ℕ) (shapes : List (List Tick)) → StaysBelowLimit s formula variable_count
+    → ¬ IsLimited s formula variable_count shapes
+below-limit s formula variable_count shapes (inl (objects, ds, first, few)) limited =
+    few-before s formula variable_count shapes objects ds first.finished few limited
+below-limit s formula variable_count shapes (inr few) limited = few-proofs s formula variable_count shapes few limited
 
-below-gap_limit : (s : Setting) (formula : List Atom) (vars : ℕ) (kept : List Atom) (shapes : List (List Tick))
-    → StaysBelowGapLimit s formula vars → ¬ MeetsGapLimit s formula vars kept shapes
-below-gap_limit s formula vars kept shapes below (inl limited) = few-gap_proofs s formula vars shapes below.shapes limited.1
-below-gap_limit s formula vars kept shapes below (inr (atom, alone, loose, limited)) =
+below-gap_limit : (s : Setting) (formula : List Atom) (variable_count : ℕ) (kept : List Atom) (shapes : List (List Tick))
+    → StaysBelowGapLimit s formula variable_count → ¬ MeetsGapLimit s formula variable_count kept shapes
+below-gap_limit s formula variable_count kept shapes below (inl limited) = few-gap_proofs s formula variable_count shapes below.shapes limited.1
+below-gap_limit s formula variable_count kept shapes below (inr (atom, alone, loose, limited)) =
     below-limit s (atom ∷ []) 0 shapes (below.atoms atom loose)
     (subst (λ (formula : List Atom). IsLimited s formula 0 shapes) alone limited)
 
@@ -143,7 +143,7 @@ few_or_limited = record {
   before = few-before;
   gap_proofs = few-gap_proofs;
   gap_shapes = few-gap_shapes;
-  proofs_with_gaps = λ s formula vars shapes few limited. few-proofs s formula vars shapes (few-gap_shapes s formula vars few) limited;
+  proofs_with_gaps = λ s formula variable_count shapes few limited. few-proofs s formula variable_count shapes (few-gap_shapes s formula variable_count few) limited;
   below = below-limit;
   gaps_below = below-gap_limit;
 }
@@ -151,6 +151,6 @@ few_or_limited = record {
 -- ---- gap lists
 
 pub gap_lists-are_one : GapListsAreOne
-gap_lists-are_one s formula vars lists others are also_are =
+gap_lists-are_one s formula variable_count lists others are also_are =
     same_set gap_list_cmp gap_list_cmp-total gap_list_cmp-same lists others are.ascending also_are.ascending
     (λ list. (λ has. (also_are.members list).1 ((are.members list).0 has), λ has. (are.members list).1 ((also_are.members list).0 has)))

@@ -162,7 +162,7 @@ module _ (axioms : List Clause) (rules : Rules) (fewer many : List Atom) (among 
 
 -- ---- lists and their shapes
 
-module _ (s : Setting) (fewer formula : List Atom) (vars : ℕ) (among : All (Contains s.facts) fewer) (old new : Rules)
+module _ (s : Setting) (fewer formula : List Atom) (variable_count : ℕ) (among : All (Contains s.facts) fewer) (old new : Rules)
     (allows : Allows old new)
     (at_places : (leaf : Leaf) → old.IsFact leaf → (leaf.column ≡ 0) × (slice_get fewer leaf.index ≡ Some leaf.atom))
     (facts : (leaf : Leaf) → (leaf.column ≡ 0) × (slice_get s.facts leaf.index ≡ Some leaf.atom) → new.IsFact leaf) where
@@ -175,8 +175,8 @@ module _ (s : Setting) (fewer formula : List Atom) (vars : ℕ) (among : All (Co
             (Contains-at fewer leaf.index leaf.atom at.1)),
       )
 
-  list-placed : (objects : List ℕ) (ds : Derivations) → IsList old (with_facts s fewer) formula vars objects ds
-      → IsList new s formula vars objects (all_placed_in s.facts ds)
+  list-placed : (objects : List ℕ) (ds : Derivations) → IsList old (with_facts s fewer) formula variable_count objects ds
+      → IsList new s formula variable_count objects (all_placed_in s.facts ds)
   list-placed objects ds is = record {
     count = is.count;
     below = is.below;
@@ -184,12 +184,12 @@ module _ (s : Setting) (fewer formula : List Atom) (vars : ℕ) (among : All (Co
     low = subst (λ (n : ℕ). n ≤ s.height) (sym (all_placed-height s.facts ds)) is.low;
   }
 
-module _ (s : Setting) (fewer formula : List Atom) (vars : ℕ) (among : All (Contains s.facts) fewer) (set : IsAtomSet fewer)
+module _ (s : Setting) (fewer formula : List Atom) (variable_count : ℕ) (among : All (Contains s.facts) fewer) (set : IsAtomSet fewer)
     (old new : Rules) (allows : Allows old new)
     (at_places : (leaf : Leaf) → old.IsFact leaf → (leaf.column ≡ 0) × (slice_get fewer leaf.index ≡ Some leaf.atom))
     (facts : (leaf : Leaf) → (leaf.column ≡ 0) × (slice_get s.facts leaf.index ≡ Some leaf.atom) → new.IsFact leaf) where
-  shape-placed : (shape : List Tick) → IsPartialShape old (with_facts s fewer) formula vars shape
-      → (more : List Tick) × IsPartialShape new s formula vars more × (map (back fewer s.facts) more ≡ shape)
+  shape-placed : (shape : List Tick) → IsPartialShape old (with_facts s fewer) formula variable_count shape
+      → (more : List Tick) × IsPartialShape new s formula variable_count more × (map (back fewer s.facts) more ≡ shape)
   shape-placed shape (unfinished, (objects, ds, is, same)) =
       let goes =
       all_placed-ticks s.axioms (or_open old) fewer s.facts among set (λ leaf h. (at_places leaf h).1) []
@@ -200,7 +200,7 @@ module _ (s : Setting) (fewer formula : List Atom) (vars : ℕ) (among : All (Co
           (
             objects,
             all_placed_in s.facts ds,
-            list-placed s fewer formula vars among (or_open old) (or_open new)
+            list-placed s fewer formula variable_count among (or_open old) (or_open new)
                 (record { choices = allows.choices; gaps = allows.gaps; opens = λ h. h }) at_places facts objects ds is,
             refl,
           ),
@@ -208,8 +208,8 @@ module _ (s : Setting) (fewer formula : List Atom) (vars : ℕ) (among : All (Co
         goes,
       )
 
-  few-placed : (count : ℕ) → AreFewerThan (IsPartialShape new s formula vars) count
-      → AreFewerThan (IsPartialShape old (with_facts s fewer) formula vars) count
+  few-placed : (count : ℕ) → AreFewerThan (IsPartialShape new s formula variable_count) count
+      → AreFewerThan (IsPartialShape old (with_facts s fewer) formula variable_count) count
   few-placed count few = record {
     seen = map (map (back fewer s.facts)) few.seen;
     fewer = subst (λ (n : ℕ). suc n ≤ count) (sym (length-map few.seen (map (back fewer s.facts)))) few.fewer;
@@ -227,16 +227,16 @@ gaps_allow s fewer = record { choices = λ t h. h; gaps = λ atom h. h; opens = 
 
 pub fewer_facts-have_no_more : FewerFactsHaveNoMore
 fewer_facts-have_no_more = record {
-  proofs = λ s fewer formula vars objects ds among.
-      list-placed s fewer formula vars among (proofs_in (with_facts s fewer)) (proofs_in s) (proofs_allow s fewer) (λ leaf h. h)
+  proofs = λ s fewer formula variable_count objects ds among.
+      list-placed s fewer formula variable_count among (proofs_in (with_facts s fewer)) (proofs_in s) (proofs_allow s fewer) (λ leaf h. h)
       (λ leaf h. h) objects ds;
-  gap_proofs = λ s fewer formula vars objects ds among.
-      list-placed s fewer formula vars among (loose_gaps_in (with_facts s fewer)) (loose_gaps_in s) (gaps_allow s fewer) (λ leaf h. h)
+  gap_proofs = λ s fewer formula variable_count objects ds among.
+      list-placed s fewer formula variable_count among (loose_gaps_in (with_facts s fewer)) (loose_gaps_in s) (gaps_allow s fewer) (λ leaf h. h)
       (λ leaf h. h) objects ds;
-  shapes = λ s fewer formula vars among set.
-      few-placed s fewer formula vars among set (proofs_in (with_facts s fewer)) (proofs_in s) (proofs_allow s fewer) (λ leaf h. h)
+  shapes = λ s fewer formula variable_count among set.
+      few-placed s fewer formula variable_count among set (proofs_in (with_facts s fewer)) (proofs_in s) (proofs_allow s fewer) (λ leaf h. h)
       (λ leaf h. h) s.limit;
-  gap_shapes = λ s fewer formula vars among set.
-      few-placed s fewer formula vars among set (loose_gaps_in (with_facts s fewer)) (loose_gaps_in s) (gaps_allow s fewer) (λ leaf h. h)
+  gap_shapes = λ s fewer formula variable_count among set.
+      few-placed s fewer formula variable_count among set (loose_gaps_in (with_facts s fewer)) (loose_gaps_in s) (gaps_allow s fewer) (λ leaf h. h)
       (λ leaf h. h) s.limit;
 }

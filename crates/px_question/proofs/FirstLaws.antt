@@ -45,10 +45,10 @@ parts_same (x ∷ xs) (u ∷ us) ys vs long e =
     (λ i. here.0 i ∷ rest.0 i, rest.1)
 
 -- two first answers have one shape, one list of objects for the variables, and one list of objects that the steps choose
-same_choices : (s : Setting) (formula : List Atom) (vars : ℕ) (objects others : List ℕ) (ds es : Derivations)
-    → IsFirst s formula vars objects ds → IsFirst s formula vars others es
+same_choices : (s : Setting) (formula : List Atom) (variable_count : ℕ) (objects others : List ℕ) (ds es : Derivations)
+    → IsFirst s formula variable_count objects ds → IsFirst s formula variable_count others es
     → (ticks_of ds ≡ ticks_of es) × (objects ≡ others) × (all_choices_of ds ≡ all_choices_of es)
-same_choices s formula vars objects others ds es first other =
+same_choices s formula variable_count objects others ds es first other =
     both (first.least others es other.finished) (other.least objects ds first.finished)
   where
     both : ShapeBefore (ticks_of ds) (ticks_of es)
@@ -123,7 +123,7 @@ module _ (s : Setting) where
         let numbers = step_same number number' place place' both.0 in
         let clause = some_same (sym p.1.axiom_at ∙ ap (slice_get s.axioms) numbers.0 ∙ q.1.axiom_at) in
         let long : length (map object_of theta) ≡ length (map object_of theta') =
-        length-map theta object_of ∙ p.1.terms ∙ ap (λ (x : Clause). x.vars) clause ∙ sym q.1.terms ∙ sym (length-map theta' object_of) in
+        length-map theta object_of ∙ p.1.terms ∙ ap (λ (x : Clause). x.variable_count) clause ∙ sym q.1.terms ∙ sym (length-map theta' object_of) in
         let chosen = parts_same (map object_of theta) (map object_of theta') (all_choices_of parts ++ ms) (all_choices_of parts' ++ ns) long
         (sym (append_assoc (map object_of theta) (all_choices_of parts) ms) ∙ c
         ∙ append_assoc (map object_of theta') (all_choices_of parts') ns) in
@@ -154,8 +154,8 @@ module _ (s : Setting) where
         ((λ i. also (first.0 i) (rest.0 i)), rest.1, rest.2)
 
 pub first-is_one : FirstIsOne
-first-is_one s formula vars objects others ds es first other =
-    let same = same_choices s formula vars objects others ds es first other in
+first-is_one s formula variable_count objects others ds es first other =
+    let same = same_choices s formula variable_count objects others ds es first other in
     let moved : ProvesEach (proofs_in s) s.axioms [] (literals_of formula objects) es =
     subst (λ (o : List ℕ). ProvesEach (proofs_in s) s.axioms [] (literals_of formula o) es) (sym same.1) other.finished.proved in (
       same.1,

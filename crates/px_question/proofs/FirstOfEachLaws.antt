@@ -66,7 +66,7 @@ module _ (s : Setting) where
         each_agree (lit ∷ path) (lit' ∷ path') (parts_of p.0.lits theta place)
         (parts_of q.0.lits theta' place') parts parts' ts us long p.2 q.2 both.1 in
         let chosen : length (map object_of theta) ≡ length (map object_of theta') =
-        length-map theta object_of ∙ p.1.terms ∙ ap (λ (x : Clause). x.vars) clause ∙ sym q.1.terms ∙ sym (length-map theta' object_of) in
+        length-map theta object_of ∙ p.1.terms ∙ ap (λ (x : Clause). x.variable_count) clause ∙ sym q.1.terms ∙ sym (length-map theta' object_of) in
         record {
           shape = λ i. both.0 i ∷ rest.shape i;
           rest = rest.rest;
@@ -124,7 +124,7 @@ before_or_begins (t ∷ a) (u ∷ b) (inr h) = elim (before_or_begins a b h.1) [
   | inr stays ↦ inr (λ x y. inr (h.0, stays x y))
 ]
 
--- the same front changes nothing
+-- the same prefix changes nothing
 behind : (a x y : List Tick) → ShapeBefore (a ++ x) (a ++ y) → ShapeBefore x y
 behind [] x y h = h
 behind (t ∷ a) x y (inl h) = absurd (ShapeBefore-irrefl (t ∷ []) (inl h))
@@ -134,12 +134,12 @@ ahead : (a x y : List Tick) → ShapeBefore x y → ShapeBefore (a ++ x) (a ++ y
 ahead [] x y h = h
 ahead (t ∷ a) x y h = inr (refl, ahead a x y h)
 
-at_most_front : (ms ns x y : List ℕ) → length ms ≡ length ns → AtMost (ms ++ x) (ns ++ y) → AtMost ms ns
-at_most_front [] [] x y long h = tt
-at_most_front [] (n ∷ ns) x y long h = absurd (omega (arith, long))
-at_most_front (m ∷ ms) [] x y long h = absurd (omega (arith, long))
-at_most_front (m ∷ ms) (n ∷ ns) x y long (inl h) = inl h
-at_most_front (m ∷ ms) (n ∷ ns) x y long (inr h) = inr (h.0, at_most_front ms ns x y (omega (arith, long)) h.1)
+at_most_prefix : (ms ns x y : List ℕ) → length ms ≡ length ns → AtMost (ms ++ x) (ns ++ y) → AtMost ms ns
+at_most_prefix [] [] x y long h = tt
+at_most_prefix [] (n ∷ ns) x y long h = absurd (omega (arith, long))
+at_most_prefix (m ∷ ms) [] x y long h = absurd (omega (arith, long))
+at_most_prefix (m ∷ ms) (n ∷ ns) x y long (inl h) = inl h
+at_most_prefix (m ∷ ms) (n ∷ ns) x y long (inr h) = inr (h.0, at_most_prefix ms ns x y (omega (arith, long)) h.1)
 
 at_most_behind : (ms x y : List ℕ) → AtMost (ms ++ x) (ms ++ y) → AtMost x y
 at_most_behind [] x y h = h
@@ -171,7 +171,7 @@ module _ (s : Setting) where
         ap (λ (l : List Tick). l ++ []) same.shape,
         subst (λ (l : List ℕ). AtMost l (choices_of e ++ [])) (sym (append-nil (choices_of d)))
             (subst (AtMost (choices_of d)) (sym (append-nil (choices_of e)))
-            (at_most_front (choices_of d) (choices_of e) cz cz same.count h.1)),
+            (at_most_prefix (choices_of d) (choices_of e) cz cz same.count h.1)),
       )
   core lit d e z cz p q (inl h) = elim (shape_trichotomy (ticks d) (ticks e)) [
     | inl before ↦ elim (before_or_begins (ticks d) (ticks e) before) [
@@ -207,8 +207,8 @@ module _ (s : Setting) (atom : Atom) (atoms : List Atom) (d : Derivation) (ds : 
         low = omega (arith, is.low, first.finished.low);
       }))
 
-  front_first : IsFirstProof s atom d
-  front_first = record {
+  prefix_first : IsFirstProof s atom d
+  prefix_first = record {
     finished =
         record {
           count = refl;
@@ -244,7 +244,7 @@ module _ (s : Setting) (atom : Atom) (atoms : List Atom) (d : Derivation) (ds : 
   }
 
 -- and together they are one
-module _ (s : Setting) (atom : Atom) (atoms : List Atom) (d : Derivation) (ds : Derivations) (front : IsFirstProof s atom d)
+module _ (s : Setting) (atom : Atom) (atoms : List Atom) (d : Derivation) (ds : Derivations) (prefix : IsFirstProof s atom d)
     (rest : IsFirst s atoms 0 [] ds) where
   later_parts : (e : Derivation) (es : Derivations) → Agree (ticks d) (ticks e) [] [] (choices_of d) (choices_of e)
       → AtMost (choices_of d) (choices_of e)
@@ -267,12 +267,12 @@ module _ (s : Setting) (atom : Atom) (atoms : List Atom) (d : Derivation) (ds : 
       elim (before_or_begins (ticks d) (ticks e) (subst (λ (l : List Tick). ShapeBefore l (ticks e)) (append-nil (ticks d))
       (subst (ShapeBefore (ticks d ++ [])) (append-nil (ticks e)) h))) [
         | inl begins ↦ empty_never begins.0 begins.1
-            (sym (agree s [] [] _ _ e d [] (begins.0 ∷ begins.1) q front.finished.proved.0 (append-nil (ticks e) ∙ begins.2)).rest)
+            (sym (agree s [] [] _ _ e d [] (begins.0 ∷ begins.1) q prefix.finished.proved.0 (append-nil (ticks e) ∙ begins.2)).rest)
         | inr stays ↦ inl (stays (ticks_of ds) (ticks_of es))
       ]
   both_parts e es q (inr h) later =
-      let same = agree s [] [] _ _ d e [] [] front.finished.proved.0 q h.0 in
-      later_parts e es same (at_most_front (choices_of d) (choices_of e) [] [] same.count h.1) later
+      let same = agree s [] [] _ _ d e [] [] prefix.finished.proved.0 q h.0 in
+      later_parts e es same (at_most_prefix (choices_of d) (choices_of e) [] [] same.count h.1) later
 
   together : (others : List ℕ) (es : Derivations) → IsList (proofs_in s) s (atom ∷ atoms) 0 others es
       → LeastOf (ticks d ++ ticks_of ds) (ticks_of es) (choices_of d ++ all_choices_of ds) (others ++ all_choices_of es)
@@ -280,7 +280,7 @@ module _ (s : Setting) (atom : Atom) (atoms : List Atom) (d : Derivation) (ds : 
   together [] none is = absurd is.proved
   together [] (also e es) is =
       both_parts e es is.proved.0
-      (front.least [] (also e none) (record { count = refl; below = is.below; proved = (is.proved.0, tt); low = omega (arith, is.low) }))
+      (prefix.least [] (also e none) (record { count = refl; below = is.below; proved = (is.proved.0, tt); low = omega (arith, is.low) }))
       (rest.least [] es (record { count = refl; below = is.below; proved = is.proved.1; low = omega (arith, is.low) }))
 
   both_first : IsFirst s (atom ∷ atoms) 0 [] (also d ds)
@@ -288,9 +288,9 @@ module _ (s : Setting) (atom : Atom) (atoms : List Atom) (d : Derivation) (ds : 
     finished =
         record {
           count = refl;
-          below = front.finished.below;
-          proved = (front.finished.proved.0, rest.finished.proved);
-          low = omega (arith, front.finished.low, rest.finished.low);
+          below = prefix.finished.below;
+          proved = (prefix.finished.proved.0, rest.finished.proved);
+          low = omega (arith, prefix.finished.low, rest.finished.low);
         };
     least = together;
   }
@@ -313,7 +313,7 @@ each_first s [] none first = tt
 each_first s [] (also d ds) first = absurd first.finished.proved
 each_first s (atom ∷ atoms) none first = absurd first.finished.proved
 each_first s (atom ∷ atoms) (also d ds) first =
-    (front_first s atom atoms d ds first, each_first s atoms ds (rest_first s atom atoms d ds first))
+    (prefix_first s atom atoms d ds first, each_first s atoms ds (rest_first s atom atoms d ds first))
 
 all_first : (s : Setting) (atoms : List Atom) (ds : Derivations) → AreFirstProofs s atoms ds → IsFirst s atoms 0 [] ds
 all_first s [] none each = nothing-first s

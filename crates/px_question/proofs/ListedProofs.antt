@@ -216,11 +216,11 @@ module _ (rules : Rules) (axioms : List Clause) (objects : ℕ) (finite : IsFini
         (place : ℕ) × (slice_get (instance_of clause.lits theta) place ≡ Some lit) × ByPlace number clause theta place d
 
     abbrev ByClause : ℕ → Clause → Derivation → Type 0
-    ByClause number clause d = (theta : List Term) × AreChoices objects clause.vars theta × ByTerms number clause theta d
+    ByClause number clause d = (theta : List Term) × AreChoices objects clause.variable_count theta × ByTerms number clause theta d
 
     by_clause : (number : ℕ) (clause : Clause) → Listed (ByClause number clause)
     by_clause number clause =
-        listed-each (AreChoices objects clause.vars) (ByTerms number clause) (listed-terms objects clause.vars) (λ theta.
+        listed-each (AreChoices objects clause.variable_count) (ByTerms number clause) (listed-terms objects clause.variable_count) (λ theta.
         listed-each (λ place. slice_get (instance_of clause.lits theta) place ≡ Some lit) (ByPlace number clause theta)
         (listed-places lit_decided (instance_of clause.lits theta) lit) (λ place.
         listed-map (AreProofs h (lit ∷ path) (parts_of clause.lits theta place)) (λ parts. step number theta place parts)

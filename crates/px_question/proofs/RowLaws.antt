@@ -132,20 +132,20 @@ renamed-row problem atom d first row leaves same =
 
 -- ---- the proofs of an answer
 
-term-under : (problem : Problem) (vars : ℕ) (objects : List ℕ) → length objects ≡ vars → All (λ n. n < problem.objects) objects
-    → (t : Term) → IsTermOf problem vars t → IsTermOf problem 0 (substitute (object_terms objects) t)
-term-under problem vars objects count below (Obj n) h = h
-term-under problem vars objects count below (Var v) h =
+term-under : (problem : Problem) (variable_count : ℕ) (objects : List ℕ) → length objects ≡ variable_count → All (λ n. n < problem.objects) objects
+    → (t : Term) → IsTermOf problem variable_count t → IsTermOf problem 0 (substitute (object_terms objects) t)
+term-under problem variable_count objects count below (Obj n) h = h
+term-under problem variable_count objects count below (Var v) h =
     All-map (IsTermOf problem 0) (λ n. Obj n) objects below v Any
     (subst (λ (n : ℕ). v < n) (sym count ∙ sym (length-map objects (λ n. Obj n))) h)
-term-under problem vars objects count below Any h = h
+term-under problem variable_count objects count below Any h = h
 
-atom-under : (problem : Problem) (vars : ℕ) (objects : List ℕ) → length objects ≡ vars → All (λ n. n < problem.objects) objects
-    → (atom : Atom) → IsAtomOf problem vars atom → IsAtomOf problem 0 (substitute_atom (object_terms objects) atom)
-atom-under problem vars objects count below atom is = (
+atom-under : (problem : Problem) (variable_count : ℕ) (objects : List ℕ) → length objects ≡ variable_count → All (λ n. n < problem.objects) objects
+    → (atom : Atom) → IsAtomOf problem variable_count atom → IsAtomOf problem 0 (substitute_atom (object_terms objects) atom)
+atom-under problem variable_count objects count below atom is = (
   (is.0.0, length-map atom.args (substitute (object_terms objects)) ∙ is.0.1),
-  each_choice (object_terms objects) (IsTermOf problem vars) (IsTermOf problem 0)
-      (term-under problem vars objects count below) atom.args is.1,
+  each_choice (object_terms objects) (IsTermOf problem variable_count) (IsTermOf problem 0)
+      (term-under problem variable_count objects count below) atom.args is.1,
 )
 
 module _ (problem : Problem) (atoms : List Atom) (axioms : All (IsAxiomOf problem) problem.axioms) where
@@ -214,14 +214,14 @@ no_atoms_under problem terms (atom ∷ formula) all =
     let rest = no_atoms_under problem terms formula (All-tail (IsAtomOf problem 0) atom formula all) in
     λ i. record { pred = atom.pred; args = here i } ∷ rest i
 
-answers_under : (problem : Problem) (atoms formula : List Atom) (vars : ℕ) (objects : List ℕ) (ds : List Derivation)
-    → All (IsAxiomOf problem) problem.axioms → All (IsAtomOf problem vars) formula
-    → IsList (proofs_in (setting_of problem atoms)) (setting_of problem atoms) formula vars objects (derivations ds)
+answers_under : (problem : Problem) (atoms formula : List Atom) (variable_count : ℕ) (objects : List ℕ) (ds : List Derivation)
+    → All (IsAxiomOf problem) problem.axioms → All (IsAtomOf problem variable_count) formula
+    → IsList (proofs_in (setting_of problem atoms)) (setting_of problem atoms) formula variable_count objects (derivations ds)
     → AllZip (IsAnswerProof problem atoms) (map (substitute_atom (object_terms objects)) formula) ds
-answers_under problem atoms formula vars objects ds axioms are is =
+answers_under problem atoms formula variable_count objects ds axioms are is =
     proofs-answer problem atoms axioms (map (substitute_atom (object_terms objects)) formula) ds
     (All-map (IsAtomOf problem 0) (substitute_atom (object_terms objects)) formula
-    (λ k d below. atom-under problem vars objects is.count is.below _ (are k d below)))
+    (λ k d below. atom-under problem variable_count objects is.count is.below _ (are k d below)))
     (subst (λ (ls : List Lit). ProvesEach (proofs_in (setting_of problem atoms)) problem.axioms [] ls (derivations ds))
     (literals-under formula objects) is.proved)
 

@@ -22,15 +22,15 @@ literals_of formula objects = map (λ atom. positive_of (substitute_atom (object
 
 -- one derivation for each atom of the formula, by the rules and within the height, under these objects of the problem,
 -- one for each variable
-pub record IsList (rules : Rules) (s : Setting) (formula : List Atom) (vars : ℕ) (objects : List ℕ) (ds : Derivations) : Type 0 where
-  pub count : length objects ≡ vars
+pub record IsList (rules : Rules) (s : Setting) (formula : List Atom) (variable_count : ℕ) (objects : List ℕ) (ds : Derivations) : Type 0 where
+  pub count : length objects ≡ variable_count
   pub below : All (λ n. n < s.objects) objects
   pub proved : ProvesEach rules s.axioms [] (literals_of formula objects) ds
   pub low : greatest_height ds ≤ s.height
 
 -- some objects for the variables make each atom provable
 abbrev pub IsAnswer : Setting → List Atom → ℕ → Type 0
-IsAnswer s formula vars = (objects : List ℕ) × (ds : Derivations) × IsList (proofs_in s) s formula vars objects ds
+IsAnswer s formula variable_count = (objects : List ℕ) × (ds : Derivations) × IsList (proofs_in s) s formula variable_count objects ds
 
 -- an atom without variables has a proof
 abbrev pub IsProvable : Setting → Atom → Type 0
@@ -57,9 +57,9 @@ AtMost (m ∷ ms) (n ∷ ns) = (m < n) ⊎ ((m ≡ n) × AtMost ms ns)
 
 -- a finished list of the least shape, and among those of that shape the one with the least objects: those of the
 -- variables, then those that the steps choose
-pub record IsFirst (s : Setting) (formula : List Atom) (vars : ℕ) (objects : List ℕ) (ds : Derivations) : Type 0 where
-  pub finished : IsList (proofs_in s) s formula vars objects ds
+pub record IsFirst (s : Setting) (formula : List Atom) (variable_count : ℕ) (objects : List ℕ) (ds : Derivations) : Type 0 where
+  pub finished : IsList (proofs_in s) s formula variable_count objects ds
   pub least :
-      (others : List ℕ) (es : Derivations) → IsList (proofs_in s) s formula vars others es
+      (others : List ℕ) (es : Derivations) → IsList (proofs_in s) s formula variable_count others es
       → ShapeBefore (ticks_of ds) (ticks_of es) ⊎ ((ticks_of ds ≡ ticks_of es)
       × AtMost (objects ++ all_choices_of ds) (others ++ all_choices_of es))

@@ -11,13 +11,13 @@ use Rattle.px_question.specs.Settings.{Setting}
 -- Proving a formula meets the limit, or has a first answer with fewer shapes before it, or has no answer and fewer shapes exist.
 -- Unfinished gap proofs meet the limit, or fewer shapes of them exist. So what doesn't meet a limit stays below it.
 pub record QuestionsAreDecided : Type 0 where
-  pub proofs : (s : Setting) (formula : List Atom) (vars : ℕ)
-      → ((shapes : List (List Tick)) × IsLimited s formula vars shapes)
-      ⊎ ((objects : List ℕ) × (ds : Derivations) × IsFirst s formula vars objects ds × AreFewBefore s formula vars ds)
-      ⊎ ((¬ IsAnswer s formula vars) × AreFewShapes s formula vars)
-  pub gap_shapes : (s : Setting) (formula : List Atom) (vars : ℕ) → ((shapes : List (List Tick)) × IsGapLimited s formula vars shapes)
-      ⊎ AreFewGapShapes s formula vars
-  pub below : (s : Setting) (formula : List Atom) (vars : ℕ) → ((shapes : List (List Tick)) → ¬ IsLimited s formula vars shapes)
-      → StaysBelowLimit s formula vars
-  pub gaps_below : (s : Setting) (formula : List Atom) (vars : ℕ)
-      → ((kept : List Atom) (shapes : List (List Tick)) → ¬ MeetsGapLimit s formula vars kept shapes) → StaysBelowGapLimit s formula vars
+  pub proofs : (s : Setting) (formula : List Atom) (variable_count : ℕ)
+      → ((shapes : List (List Tick)) × IsLimited s formula variable_count shapes)
+      ⊎ ((objects : List ℕ) × (ds : Derivations) × IsFirst s formula variable_count objects ds × AreFewBefore s formula variable_count ds)
+      ⊎ ((¬ IsAnswer s formula variable_count) × AreFewShapes s formula variable_count)
+  pub gap_shapes : (s : Setting) (formula : List Atom) (variable_count : ℕ) → ((shapes : List (List Tick)) × IsGapLimited s formula variable_count shapes)
+      ⊎ AreFewGapShapes s formula variable_count
+  pub below : (s : Setting) (formula : List Atom) (variable_count : ℕ) → ((shapes : List (List Tick)) → ¬ IsLimited s formula variable_count shapes)
+      → StaysBelowLimit s formula variable_count
+  pub gaps_below : (s : Setting) (formula : List Atom) (variable_count : ℕ)
+      → ((kept : List Atom) (shapes : List (List Tick)) → ¬ MeetsGapLimit s formula variable_count kept shapes) → StaysBelowGapLimit s formula variable_count

@@ -40,13 +40,13 @@ abbrev mutual
 -- of the other once their leaves name the places there. Where its facts are a set of atoms and the other has fewer shapes than the limit,
 -- it has fewer, too.
 pub record FewerFactsHaveNoMore : Type 0 where
-  pub proofs : (s : Setting) (fewer formula : List Atom) (vars : ℕ) (objects : List ℕ) (ds : Derivations) → All (Contains s.facts) fewer
-      → IsList (proofs_in (with_facts s fewer)) (with_facts s fewer) formula vars objects ds
-      → IsList (proofs_in s) s formula vars objects (all_placed_in s.facts ds)
-  pub gap_proofs : (s : Setting) (fewer formula : List Atom) (vars : ℕ) (objects : List ℕ) (ds : Derivations) → All (Contains s.facts) fewer
-      → IsList (loose_gaps_in (with_facts s fewer)) (with_facts s fewer) formula vars objects ds
-      → IsList (loose_gaps_in s) s formula vars objects (all_placed_in s.facts ds)
-  pub shapes : (s : Setting) (fewer formula : List Atom) (vars : ℕ) → All (Contains s.facts) fewer → IsAtomSet fewer
-      → AreFewShapes s formula vars → AreFewShapes (with_facts s fewer) formula vars
-  pub gap_shapes : (s : Setting) (fewer formula : List Atom) (vars : ℕ) → All (Contains s.facts) fewer → IsAtomSet fewer
-      → AreFewGapShapes s formula vars → AreFewGapShapes (with_facts s fewer) formula vars
+  pub proofs : (s : Setting) (fewer formula : List Atom) (variable_count : ℕ) (objects : List ℕ) (ds : Derivations) → All (Contains s.facts) fewer
+      → IsList (proofs_in (with_facts s fewer)) (with_facts s fewer) formula variable_count objects ds
+      → IsList (proofs_in s) s formula variable_count objects (all_placed_in s.facts ds)
+  pub gap_proofs : (s : Setting) (fewer formula : List Atom) (variable_count : ℕ) (objects : List ℕ) (ds : Derivations) → All (Contains s.facts) fewer
+      → IsList (loose_gaps_in (with_facts s fewer)) (with_facts s fewer) formula variable_count objects ds
+      → IsList (loose_gaps_in s) s formula variable_count objects (all_placed_in s.facts ds)
+  pub shapes : (s : Setting) (fewer formula : List Atom) (variable_count : ℕ) → All (Contains s.facts) fewer → IsAtomSet fewer
+      → AreFewShapes s formula variable_count → AreFewShapes (with_facts s fewer) formula variable_count
+  pub gap_shapes : (s : Setting) (fewer formula : List Atom) (variable_count : ℕ) → All (Contains s.facts) fewer → IsAtomSet fewer
+      → AreFewGapShapes s formula variable_count → AreFewGapShapes (with_facts s fewer) formula variable_count

@@ -35,14 +35,14 @@ gaps_in s = with_gaps (λ atom. IsAddableIn s atom × (¬ IsProvable s atom)) (p
 
 -- the formula has no answer, and in some list of gap proofs of it a gap closes the atom
 abbrev pub IsGapOf : Setting → List Atom → ℕ → Atom → Type 0
-IsGapOf s formula vars atom =
-    (¬ IsAnswer s formula vars)
-    × ((objects : List ℕ) × (ds : Derivations) × IsList (gaps_in s) s formula vars objects ds × Contains (all_gaps_of ds) atom)
+IsGapOf s formula variable_count atom =
+    (¬ IsAnswer s formula variable_count)
+    × ((objects : List ℕ) × (ds : Derivations) × IsList (gaps_in s) s formula variable_count objects ds × Contains (all_gaps_of ds) atom)
 
 -- under these objects, a gap closes exactly these atoms in some list of loose gap proofs
 abbrev pub IsGapList : Setting → List Atom → ℕ → List ℕ → List Atom → Type 0
-IsGapList s formula vars objects gaps =
-    (ds : Derivations) × IsList (loose_gaps_in s) s formula vars objects ds
+IsGapList s formula variable_count objects gaps =
+    (ds : Derivations) × IsList (loose_gaps_in s) s formula variable_count objects ds
     × ((atom : Atom) → Contains gaps atom ↔ Contains (all_gaps_of ds) atom)
 
 -- the order of gap lists: by objects, then by atoms
@@ -51,24 +51,24 @@ gap_list_cmp = then_cmp (on (λ (list : GapList). list.objects) (slice_cmp nat_c
     (on (λ (list : GapList). list.gaps) (slice_cmp atom_cmp))
 
 -- all gap lists of the formula whose atoms are sets, ascending, each once
-pub record AreGapLists (s : Setting) (formula : List Atom) (vars : ℕ) (lists : List GapList) : Type 0 where
+pub record AreGapLists (s : Setting) (formula : List Atom) (variable_count : ℕ) (lists : List GapList) : Type 0 where
   pub ascending : IsStrictlySortedBy gap_list_cmp lists
-  pub members : (list : GapList) → Contains lists list ↔ (IsGapList s formula vars list.objects list.gaps × IsAtomSet list.gaps)
+  pub members : (list : GapList) → Contains lists list ↔ (IsGapList s formula variable_count list.objects list.gaps × IsAtomSet list.gaps)
 
 -- in some list of loose gap proofs of the formula a gap closes the atom
 abbrev pub IsLooseGap : Setting → List Atom → ℕ → Atom → Type 0
-IsLooseGap s formula vars atom =
-    (objects : List ℕ) × (ds : Derivations) × IsList (loose_gaps_in s) s formula vars objects ds × Contains (all_gaps_of ds) atom
+IsLooseGap s formula variable_count atom =
+    (objects : List ℕ) × (ds : Derivations) × IsList (loose_gaps_in s) s formula variable_count objects ds × Contains (all_gaps_of ds) atom
 
 -- Finding the gaps of the formula meets the limit at the formula `kept`, by these shapes: at the formula itself, by the shapes of its
 -- unfinished gap proofs, or where one atom that a loose gap proof of it closes is to be proved.
 abbrev pub MeetsGapLimit : Setting → List Atom → ℕ → List Atom → List (List Tick) → Type 0
-MeetsGapLimit s formula vars kept shapes =
-    ((kept ≡ formula) × IsGapLimited s formula vars shapes)
-    ⊎ ((atom : Atom) × (kept ≡ atom ∷ []) × IsLooseGap s formula vars atom × IsLimited s kept 0 shapes)
+MeetsGapLimit s formula variable_count kept shapes =
+    ((kept ≡ formula) × IsGapLimited s formula variable_count shapes)
+    ⊎ ((atom : Atom) × (kept ≡ atom ∷ []) × IsLooseGap s formula variable_count atom × IsLimited s kept 0 shapes)
 
 -- Finding the gaps of the formula stays below the limit: fewer shapes of unfinished gap proofs exist, and proving each atom that a loose
 -- gap proof of it closes stays below the limit, too.
-pub record StaysBelowGapLimit (s : Setting) (formula : List Atom) (vars : ℕ) : Type 0 where
-  pub shapes : AreFewGapShapes s formula vars
-  pub atoms : (atom : Atom) → IsLooseGap s formula vars atom → StaysBelowLimit s (atom ∷ []) 0
+pub record StaysBelowGapLimit (s : Setting) (formula : List Atom) (variable_count : ℕ) : Type 0 where
+  pub shapes : AreFewGapShapes s formula variable_count
+  pub atoms : (atom : Atom) → IsLooseGap s formula variable_count atom → StaysBelowLimit s (atom ∷ []) 0

@@ -12,8 +12,8 @@ use Rattle.px_question.specs.Settings.{Setting, proofs_in, loose_gaps_in}
 -- the shape of an unfinished list: all places before the first open one are closed, and some objects make the closings
 -- right
 abbrev pub IsPartialShape : Rules → Setting → List Atom → ℕ → List Tick → Type 0
-IsPartialShape rules s formula vars shape =
-    IsUnfinished shape × ((objects : List ℕ) × (ds : Derivations) × IsList (or_open rules) s formula vars objects ds
+IsPartialShape rules s formula variable_count shape =
+    IsUnfinished shape × ((objects : List ℕ) × (ds : Derivations) × IsList (or_open rules) s formula variable_count objects ds
     × (ticks_of ds ≡ shape))
 
 -- each shape stands before those after it
@@ -29,16 +29,16 @@ pub record AreFirstShapes (IsShape : List Tick → Type 0) (shapes : List (List 
 
 -- as many shapes of unfinished lists as the limit, the first ones, all before each finished list; where there is no finished list it is
 -- enough that they exist
-pub record IsLimited (s : Setting) (formula : List Atom) (vars : ℕ) (shapes : List (List Tick)) : Type 0 where
+pub record IsLimited (s : Setting) (formula : List Atom) (variable_count : ℕ) (shapes : List (List Tick)) : Type 0 where
   pub count : length shapes ≡ s.limit
-  pub kept : AreFirstShapes (IsPartialShape (proofs_in s) s formula vars) shapes
-  pub before : (objects : List ℕ) (ds : Derivations) → IsList (proofs_in s) s formula vars objects ds
+  pub kept : AreFirstShapes (IsPartialShape (proofs_in s) s formula variable_count) shapes
+  pub before : (objects : List ℕ) (ds : Derivations) → IsList (proofs_in s) s formula variable_count objects ds
       → All (λ shape. ShapeBefore shape (ticks_of ds)) shapes
 
 -- as many shapes of unfinished lists of loose gap proofs as the limit, the first ones
-pub record IsGapLimited (s : Setting) (formula : List Atom) (vars : ℕ) (shapes : List (List Tick)) : Type 0 where
+pub record IsGapLimited (s : Setting) (formula : List Atom) (variable_count : ℕ) (shapes : List (List Tick)) : Type 0 where
   pub count : length shapes ≡ s.limit
-  pub kept : AreFirstShapes (IsPartialShape (loose_gaps_in s) s formula vars) shapes
+  pub kept : AreFirstShapes (IsPartialShape (loose_gaps_in s) s formula variable_count) shapes
 
 -- fewer shapes of the kind exist than the number: a shorter list has them all
 pub record AreFewerThan (IsShape : List Tick → Type 0) (count : ℕ) : Type 0 where
@@ -48,19 +48,19 @@ pub record AreFewerThan (IsShape : List Tick → Type 0) (count : ℕ) : Type 0 
 
 -- fewer shapes of unfinished lists exist than the limit
 abbrev pub AreFewShapes : Setting → List Atom → ℕ → Type 0
-AreFewShapes s formula vars = AreFewerThan (IsPartialShape (proofs_in s) s formula vars) s.limit
+AreFewShapes s formula variable_count = AreFewerThan (IsPartialShape (proofs_in s) s formula variable_count) s.limit
 
 -- fewer of them than the limit stand before the shape of the list
 abbrev pub AreFewBefore : Setting → List Atom → ℕ → Derivations → Type 0
-AreFewBefore s formula vars ds = AreFewerThan (λ shape. IsPartialShape (proofs_in s) s formula vars shape × ShapeBefore shape (ticks_of ds))
+AreFewBefore s formula variable_count ds = AreFewerThan (λ shape. IsPartialShape (proofs_in s) s formula variable_count shape × ShapeBefore shape (ticks_of ds))
     s.limit
 
 -- Proving the formula stays below the limit: fewer shapes than the limit stand before that of the first answer, or exist at all.
 abbrev pub StaysBelowLimit : Setting → List Atom → ℕ → Type 0
-StaysBelowLimit s formula vars =
-    ((objects : List ℕ) × (ds : Derivations) × IsFirst s formula vars objects ds × AreFewBefore s formula vars ds)
-    ⊎ AreFewShapes s formula vars
+StaysBelowLimit s formula variable_count =
+    ((objects : List ℕ) × (ds : Derivations) × IsFirst s formula variable_count objects ds × AreFewBefore s formula variable_count ds)
+    ⊎ AreFewShapes s formula variable_count
 
 -- fewer shapes of unfinished lists of loose gap proofs exist than the limit
 abbrev pub AreFewGapShapes : Setting → List Atom → ℕ → Type 0
-AreFewGapShapes s formula vars = AreFewerThan (IsPartialShape (loose_gaps_in s) s formula vars) s.limit
+AreFewGapShapes s formula variable_count = AreFewerThan (IsPartialShape (loose_gaps_in s) s formula variable_count) s.limit

@@ -34,9 +34,9 @@ pub record IsAnswerProof (problem : Problem) (atoms : List Atom) (atom : Atom) (
 
 -- the proofs of an answer are such proofs of the formula's atoms, with the objects put in for its variables
 pub record AnswersMakeRows : Type 0 where
-  pub under : (problem : Problem) (atoms formula : List Atom) (vars : ℕ) (objects : List ℕ) (ds : List Derivation)
-      → All (IsAxiomOf problem) problem.axioms → All (IsAtomOf problem vars) formula
-      → IsList (proofs_in (setting_of problem atoms)) (setting_of problem atoms) formula vars objects (derivations ds)
+  pub under : (problem : Problem) (atoms formula : List Atom) (variable_count : ℕ) (objects : List ℕ) (ds : List Derivation)
+      → All (IsAxiomOf problem) problem.axioms → All (IsAtomOf problem variable_count) formula
+      → IsList (proofs_in (setting_of problem atoms)) (setting_of problem atoms) formula variable_count objects (derivations ds)
       → AllZip (IsAnswerProof problem atoms) (map (substitute_atom (object_terms objects)) formula) ds
   pub without_variables : (problem : Problem) (atoms formula : List Atom) (objects : List ℕ) (ds : List Derivation)
       → All (IsAxiomOf problem) problem.axioms → All (IsAtomOf problem 0) formula

@@ -31,7 +31,7 @@ last-of : (bs : List ℕ) → 0 < length bs → bs ≡ take (length bs - 1) bs +
 last-of bs some = let more : (length bs - 1) + 1 ≡ length bs = omega (arith, some) in
     sym (ap (λ t. take t bs) more ∙ take_all (length bs) bs (omega arith)) ∙ take_more bs (length bs - 1) 0 (omega (arith, some))
 
-pub unreturned : (bs : List ℕ) → ((front : List ℕ) → bs ≢ front ++ 13 ∷ []) → bs ≡ without_return bs
+pub unreturned : (bs : List ℕ) → ((prefix : List ℕ) → bs ≢ prefix ++ 13 ∷ []) → bs ≡ without_return bs
 unreturned [] none = refl
 unreturned (b ∷ bs) none = by_test (slice_index (b ∷ bs) (length (b ∷ bs) - 1) == 13)
     (λ e. absurd (none (take (length (b ∷ bs) - 1) (b ∷ bs))

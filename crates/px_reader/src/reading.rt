@@ -70,7 +70,7 @@ fn without_return(line: &str) -> &str
     ensures { result.now ≡ without_return line.now }
 {
     match line.strip_suffix('\r') {
-        Some(front) => front,
+        Some(prefix) => prefix,
         None => line,
     }
 }
@@ -142,11 +142,11 @@ fn read_text(alloc: Global, stage: &[&str], text: &str) -> Result<Script, Script
 }
 
 /// Returns the line of the byte after these.
-fn line_after(front: &[u8]) -> u32
-    requires { length front.now < u32_max }
-    ensures { result ≡ 1 + count_by (λ b. b == 10) front.now }
+fn line_after(prefix: &[u8]) -> u32
+    requires { length prefix.now < u32_max }
+    ensures { result ≡ 1 + count_by (λ b. b == 10) prefix.now }
 {
-    front.iter().filter(|byte| **byte == b'\n').count() as u32 + 1
+    prefix.iter().filter(|byte| **byte == b'\n').count() as u32 + 1
 }
 
 /// Reads a script where these words are built, or finds its first fault.

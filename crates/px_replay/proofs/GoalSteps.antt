@@ -67,13 +67,13 @@ length-named_args names own first [] = refl
 length-named_args names own first (t ∷ ts) =
     ap length (named_args-cons names own first t ts) ∙ ap suc (length-named_args names own (first + objects_one t) ts)
 
--- how many objects stand in a front of the arguments and at the next place
-pub objects-front : (args : List Term) (k : ℕ) (d : Term) → k < length args
+-- how many objects stand in a prefix of the arguments and at the next place
+pub objects-prefix : (args : List Term) (k : ℕ) (d : Term) → k < length args
     → count_by is_object (take k args) + objects_one (get_or args k d) ≤ count_by is_object args
-objects-front [] k d below = absurd (omega (arith, below))
-objects-front (t ∷ ts) zero d below = omega (arith, objects-cons t ts)
-objects-front (t ∷ ts) (suc k) d below =
-    omega (arith, objects-cons t ts, objects-cons t (take k ts), objects-front ts k d (omega (arith, below)))
+objects-prefix [] k d below = absurd (omega (arith, below))
+objects-prefix (t ∷ ts) zero d below = omega (arith, objects-cons t ts)
+objects-prefix (t ∷ ts) (suc k) d below =
+    omega (arith, objects-cons t ts, objects-cons t (take k ts), objects-prefix ts k d (omega (arith, below)))
 
 pub objects-more : (args : List Term) (k : ℕ) (d : Term) → k < length args
     → count_by is_object (take (k + 1) args) ≡ count_by is_object (take k args) + objects_one (get_or args k d)
@@ -91,12 +91,12 @@ objects-more (t ∷ ts) (suc k) d below =
 abbrev pub objects_of : Atom → ℕ
 objects_of atom = count_by is_object atom.args
 
-pub goal_objects-front : (goal : List Atom) (k : ℕ) (d : Atom) → k < length goal
+pub goal_objects-prefix : (goal : List Atom) (k : ℕ) (d : Atom) → k < length goal
     → goal_objects (take k goal) + objects_of (get_or goal k d) ≤ goal_objects goal
-goal_objects-front [] k d below = absurd (omega (arith, below))
-goal_objects-front (a ∷ goal) zero d below = omega (arith, sum_by-cons objects_of a goal)
-goal_objects-front (a ∷ goal) (suc k) d below =
-    omega (arith, sum_by-cons objects_of a goal, sum_by-cons objects_of a (take k goal), goal_objects-front goal k d (omega (arith, below)))
+goal_objects-prefix [] k d below = absurd (omega (arith, below))
+goal_objects-prefix (a ∷ goal) zero d below = omega (arith, sum_by-cons objects_of a goal)
+goal_objects-prefix (a ∷ goal) (suc k) d below =
+    omega (arith, sum_by-cons objects_of a goal, sum_by-cons objects_of a (take k goal), goal_objects-prefix goal k d (omega (arith, below)))
 
 pub named_goal-more : (names : List Term) (own first k : ℕ) (goal : List Atom) (d : Atom) → k < length goal
     → named_goal names own first (take (k + 1) goal)

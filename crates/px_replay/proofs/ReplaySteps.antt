@@ -18,14 +18,14 @@ use Rattle.px_proof.specs.declared.proof.Leaf.{Leaf}
 use Rattle.px_proof.specs.Derivation.{Derivation, Derivations, derivations, fact, ancestor, step, also, terms_of, all_terms_of}
 use Rattle.px_proof.specs.Literals.{complement_of, substitute_literal}
 use Rattle.px_base.specs.Answers.{some_same}
-use Rattle.px_proof.specs.PlaceLaws.{All-front, All-back, All-got, slice_get-map, slice_get-read, slice_get-within}
+use Rattle.px_proof.specs.PlaceLaws.{All-prefix, All-back, All-got, slice_get-map, slice_get-read, slice_get-within}
 use Rattle.px_proof.specs.Proves.{instance_of, parts_of}
 use Rattle.px_replay.specs.Replay.{atom_at, literals_at, pairs_of, all_pairs_of, HaveForms}
 use Rattle.px_replay.specs.Replaying.{CanReplay, CanReplayEach, IsReplayOf}
 use Rattle.px_replay.proofs.Replaying.{atom_at-is, literals_at-is}
 
 abbrev pub no_clause : Clause
-no_clause = record { vars = 0; lits = [] }
+no_clause = record { variable_count = 0; lits = [] }
 
 -- ---- pairs
 
@@ -50,7 +50,7 @@ then_replayed old now new one two first second = record {
         (second.narrowed sigma).0 fits in let soon =
         (first.narrowed sigma).0 late.0 in (soon.0, All-append (MakesPairEqual sigma) one two soon.1 late.1),
     λ h. (second.narrowed sigma).1 (
-      (first.narrowed sigma).1 (h.0, All-front (MakesPairEqual sigma) one two h.1),
+      (first.narrowed sigma).1 (h.0, All-prefix (MakesPairEqual sigma) one two h.1),
       All-back (MakesPairEqual sigma) one two h.1,
     ),
   );
@@ -146,12 +146,12 @@ module _ (axioms : List Clause) (path : List Lit) (lit : Lit) (changes : List Ch
 
     pub step_plain : ArePlainBelow (length theta) lits
     step_plain =
-        subst (λ n. ArePlainBelow n lits) (ap (λ (c : Clause). c.vars) (sym is_clause) ∙ sym can.form.2)
-        (subst (λ ls. ArePlainBelow (slice_index_or axioms number no_clause).vars ls) (sym value)
+        subst (λ n. ArePlainBelow n lits) (ap (λ (c : Clause). c.variable_count) (sym is_clause) ∙ sym can.form.2)
+        (subst (λ ls. ArePlainBelow (slice_index_or axioms number no_clause).variable_count ls) (sym value)
         (arena.each number no_clause step_number).plain)
 
     theta_below : All (IsPlainBelow (variables_of changes)) theta
-    theta_below = All-front (IsPlainBelow (variables_of changes)) theta (all_terms_of parts) can.terms_below
+    theta_below = All-prefix (IsPlainBelow (variables_of changes)) theta (all_terms_of parts) can.terms_below
 
     -- the atom that is unified with the literal's
     pub step_head : (d : Lit) → substitute_atom theta (slice_index_or lits place d).atom
@@ -250,11 +250,11 @@ module _ (axioms : List Clause) (path lits : List Lit) (ds : List Derivation) (s
     form = here.forms.0;
     path_below = here.path_below;
     lit_below = All-head (λ (l : Lit). All (IsPlainBelow (variables_of now)) l.atom.args) lit (drop (suc k) lits) here.lits_below;
-    terms_below = All-front (IsPlainBelow (variables_of now)) (terms_of d) (all_terms_of (derivations (drop (suc k) ds))) here.terms_below;
+    terms_below = All-prefix (IsPlainBelow (variables_of now)) (terms_of d) (all_terms_of (derivations (drop (suc k) ds))) here.terms_below;
     solved = (
       here.solved.0,
       here.solved.1,
-      All-front (MakesPairEqual here.solved.0) (pairs_of axioms path lit d)
+      All-prefix (MakesPairEqual here.solved.0) (pairs_of axioms path lit d)
           (all_pairs_of axioms path (drop (suc k) lits) (derivations (drop (suc k) ds))) here.solved.2,
     );
   }
@@ -279,7 +279,7 @@ module _ (axioms : List Clause) (path lits : List Lit) (ds : List Derivation) (s
             sigma,
             (is.narrowed sigma).1 (
               here.solved.1,
-              All-front (MakesPairEqual sigma) (pairs_of axioms path lit d) (all_pairs_of axioms path rest_lits rest_ds) here.solved.2,
+              All-prefix (MakesPairEqual sigma) (pairs_of axioms path lit d) (all_pairs_of axioms path rest_lits rest_ds) here.solved.2,
             ),
             All-back (MakesPairEqual sigma) (pairs_of axioms path lit d) (all_pairs_of axioms path rest_lits rest_ds) here.solved.2,
           );

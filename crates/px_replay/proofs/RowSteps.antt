@@ -15,7 +15,7 @@ use Rattle.px_unify.specs.Changes.{Binds, MakesPairEqual, variables_of}
 use Rattle.px_unify.specs.ChangeLaws.{Binds-itself, Binds-trans}
 use Rattle.px_proof.specs.Derivation.{Derivation, terms_of}
 use Rattle.px_proof.specs.Literals.{positive_of}
-use Rattle.px_proof.specs.PlaceLaws.{All-front, All-back}
+use Rattle.px_proof.specs.PlaceLaws.{All-prefix, All-back}
 use Rattle.px_replay.specs.Opened.{row_pairs, rows_pairs}
 use Rattle.px_replay.specs.Replay.{pairs_of}
 use Rattle.px_replay.specs.Replaying.{ArePlainAtoms, CanReplay, CanReplayRow, CanReplayRows, IsReplayOf, PlanForms, RowForms}
@@ -51,11 +51,11 @@ module _ (axioms : List Clause) (atoms : List Atom) (row : List Derivation) (sta
     form = row_here.forms.0;
     path_below = All-nil (λ (l : Lit). All (IsPlainBelow (variables_of now)) l.atom.args);
     lit_below = All-head (λ (a : Atom). All (IsPlainBelow (variables_of now)) a.args) atom (drop (suc k) atoms) row_here.atoms_below;
-    terms_below = All-front (IsPlainBelow (variables_of now)) (terms_of d) (flat_map terms_of (drop (suc k) row)) row_here.terms_below;
+    terms_below = All-prefix (IsPlainBelow (variables_of now)) (terms_of d) (flat_map terms_of (drop (suc k) row)) row_here.terms_below;
     solved = (
       row_here.solved.0,
       row_here.solved.1,
-      All-front (MakesPairEqual row_here.solved.0) (pairs_of axioms [] (positive_of atom) d)
+      All-prefix (MakesPairEqual row_here.solved.0) (pairs_of axioms [] (positive_of atom) d)
           (row_pairs axioms (drop (suc k) atoms) (drop (suc k) row)) row_here.solved.2,
     );
   }
@@ -80,7 +80,7 @@ module _ (axioms : List Clause) (atoms : List Atom) (row : List Derivation) (sta
             sigma,
             (is.narrowed sigma).1 (
               row_here.solved.1,
-              All-front (MakesPairEqual sigma) (pairs_of axioms [] (positive_of atom) d)
+              All-prefix (MakesPairEqual sigma) (pairs_of axioms [] (positive_of atom) d)
                   (row_pairs axioms rest_atoms rest) row_here.solved.2,
             ),
             All-back (MakesPairEqual sigma) (pairs_of axioms [] (positive_of atom) d) (row_pairs axioms rest_atoms rest) row_here.solved.2,
@@ -140,12 +140,12 @@ module _ (problem : Problem) (steps : List OpInst) (goal : List Atom) (rows : Li
     forms = rows_here.forms.0;
     atoms_below = All-head (λ o. ArePlainAtoms (variables_of now) (precondition problem o)) inst (drop (suc k) steps) rows_here.needs_below;
     terms_below =
-        All-front (IsPlainBelow (variables_of now)) (flat_map terms_of row)
+        All-prefix (IsPlainBelow (variables_of now)) (flat_map terms_of row)
         (flat_map (flat_map terms_of) (drop (suc k) rows)) rows_here.terms_below;
     solved = (
       rows_here.solved.0,
       rows_here.solved.1,
-      All-front (MakesPairEqual rows_here.solved.0) (row_pairs problem.axioms (precondition problem inst) row)
+      All-prefix (MakesPairEqual rows_here.solved.0) (row_pairs problem.axioms (precondition problem inst) row)
           (rows_pairs problem (drop (suc k) steps) goal (drop (suc k) rows)) rows_here.solved.2,
     );
     solvable = rows_here.solvable;
@@ -174,7 +174,7 @@ module _ (problem : Problem) (steps : List OpInst) (goal : List Atom) (rows : Li
             sigma,
             (is.narrowed sigma).1 (
               rows_here.solved.1,
-              All-front (MakesPairEqual sigma) own (rows_pairs problem rest_steps goal rest) rows_here.solved.2,
+              All-prefix (MakesPairEqual sigma) own (rows_pairs problem rest_steps goal rest) rows_here.solved.2,
             ),
             All-back (MakesPairEqual sigma) own (rows_pairs problem rest_steps goal rest) rows_here.solved.2,
           );
@@ -205,7 +205,7 @@ module _ (problem : Problem) (steps : List OpInst) (goal : List Atom) (rows : Li
   last_can = record {
     forms = at_last.forms;
     atoms_below = at_last.goal_below;
-    terms_below = All-front (IsPlainBelow (variables_of now)) (flat_map terms_of row) [] at_last.terms_below;
+    terms_below = All-prefix (IsPlainBelow (variables_of now)) (flat_map terms_of row) [] at_last.terms_below;
     solved = at_last.solved;
     solvable = at_last.solvable;
   }

@@ -31,5 +31,5 @@ is_object WildCard = false
 abbrev pub fresh_variables : Table → ℕ
 fresh_variables table =
     sum_by (λ (inst : OpInst). length inst.args) table.steps + sum_by (λ (atom : Atom). count_by is_object atom.args) table.goal +
-    table.goal_vars
+    table.goal_variable_count
     + sum_by (sum_by fresh_in) (rows_of table.proofs)

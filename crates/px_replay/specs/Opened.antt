@@ -83,7 +83,7 @@ abbrev pub first_own : Table → ℕ
 first_own plan = step_variables plan.steps + goal_objects plan.goal
 
 abbrev pub first_of_rows : Table → ℕ
-first_of_rows plan = first_own plan + plan.goal_vars
+first_of_rows plan = first_own plan + plan.goal_variable_count
 
 abbrev pub steps_opened : Table → List OpInst
 steps_opened plan = opened_steps 0 plan.steps

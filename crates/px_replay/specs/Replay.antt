@@ -39,7 +39,7 @@ abbrev mutual
   HasForm axioms path lit (fact leaf) = lit.positive ≡ true
   HasForm axioms path lit (ancestor i) = (above : Lit) × (slice_get path i ≡ Some above) × (above.positive ≡ not lit.positive)
   HasForm axioms path lit (step number theta place parts) =
-      (clause : Clause) × (slice_get axioms number ≡ Some clause) × (length theta ≡ clause.vars)
+      (clause : Clause) × (slice_get axioms number ≡ Some clause) × (length theta ≡ clause.variable_count)
       × ((found : Lit) × (slice_get (instance_of clause.lits theta) place ≡ Some found) × (found.positive ≡ lit.positive))
       × HaveForms axioms (lit ∷ path) (parts_of clause.lits theta place) parts
   HasForm axioms path lit (gap atom) = ⊥

@@ -17,7 +17,7 @@ pub fn fresh_count(table: &Table) -> usize
 {
     count_steps(table.steps.as_slice())
         .saturating_add(count_goal(table.goal.as_slice()))
-        .saturating_add(table.goal_vars as usize)
+        .saturating_add(table.goal_variable_count as usize)
         .saturating_add(count_rows(table.proofs.as_slice()))
 }
 

@@ -72,7 +72,7 @@ fn name_each(names: &[Term], own: u32, first: u32, args: &[Term], into: &mut [Te
     requires few { length names.now ≤ MOST_VARIABLES }
     requires variables { All (IsVariableBelow (u32_max + 1 - own)) args.now }
     requires room { length args.now ≤ length into.old }
-    ensures front { take (length args.now) into.new ≡ named_args names.now own first args.now }
+    ensures prefix { take (length args.now) into.new ≡ named_args names.now own first args.now }
     ensures long { length into.new ≡ length into.old }
 {
     let mut next = first;

@@ -49,7 +49,7 @@ pub fn open_plan(alloc: Global, problem: &Problem, table: &Table) -> Result<Open
     let first_own = first_object + objects;
     let steps = open_steps(alloc, table.steps.as_slice())?;
     let goal = open_goal(alloc, table.goal.as_slice(), first_object, first_own)?;
-    let mut next = first_own + table.goal_vars;
+    let mut next = first_own + table.goal_variable_count;
     let rows = open_rows(alloc, problem, &steps, &mut next, table.proofs.as_slice())?;
     Ok(Opened {
         steps,

@@ -278,7 +278,7 @@ module _ (state : RoomState) where
 
     axioms-hold : AxiomsHold (building_rules state) facts_state
     axioms-hold =
-        one (λ (clause : Clause). (values : List ℕ) → AreValues facts_state clause.vars values
+        one (λ (clause : Clause). (values : List ℕ) → AreValues facts_state clause.variable_count values
         → Any (LiteralHoldsUnder facts_state values) clause.lits) both_ways (λ values are. axiom-true values)
 
     -- exactly the facts hold, of the atoms of the building

@@ -129,20 +129,20 @@ module _ (objects height nodes shapes : ℕ) (some : 1 ≤ objects) where
       (no_sorts-are problem 4)
   each-schema (suc (suc (suc (suc (suc (suc (suc k))))))) inside = absurd (omega (arith, inside))
 
-  axiom-fits : (clause : Clause) → clause.vars ≤ 12 → list_all (literal_fits clause.vars) clause.lits ≡ true → IsAxiomOf problem clause
+  axiom-fits : (clause : Clause) → clause.variable_count ≤ 12 → list_all (literal_fits clause.variable_count) clause.lits ≡ true → IsAxiomOf problem clause
   axiom-fits clause few lits =
       record {
-        vars = few;
-        lits = each (literal_fits clause.vars) (λ (lit : Lit). IsAtomOf problem clause.vars lit.atom)
-            (λ lit e. atom-fits clause.vars lit.atom e) clause.lits lits;
+        variable_count = few;
+        lits = each (literal_fits clause.variable_count) (λ (lit : Lit). IsAtomOf problem clause.variable_count lit.atom)
+            (λ lit e. atom-fits clause.variable_count lit.atom e) clause.lits lits;
       }
 
   clause-plain : (clause : Clause) → 1 ≤ length clause.lits → length clause.lits ≤ 6
-      → list_all (literal_fits clause.vars) clause.lits ≡ true → IsClause clause
+      → list_all (literal_fits clause.variable_count) clause.lits ≡ true → IsClause clause
   clause-plain clause some_lits few_lits lits = record {
     size = (some_lits, few_lits);
-    plain = each (literal_fits clause.vars) (λ (lit : Lit). All (IsPlainBelow clause.vars) lit.atom.args)
-        (λ lit e. each (term_fits clause.vars) (IsPlainBelow clause.vars) (plain clause.vars) lit.atom.args (second_so _ _ e)) clause.lits
+    plain = each (literal_fits clause.variable_count) (λ (lit : Lit). All (IsPlainBelow clause.variable_count) lit.atom.args)
+        (λ lit e. each (term_fits clause.variable_count) (IsPlainBelow clause.variable_count) (plain clause.variable_count) lit.atom.args (second_so _ _ e)) clause.lits
         lits;
   }
 

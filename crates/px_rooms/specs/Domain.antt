@@ -62,7 +62,7 @@ is_box b = record { pred = 7; args = b ∷ [] }
 -- a door that connects two rooms in one order connects them in the other, too
 abbrev pub both_ways : Clause
 both_ways = let d = Var 0 in let x = Var 1 in let y = Var 2 in record {
-  vars = 3;
+  variable_count = 3;
   lits = record { positive = false; atom = connects d x y } ∷ record { positive = true; atom = connects d y x } ∷ [];
 }
 

@@ -62,11 +62,11 @@ pub broke-after : (w0 w1 w2 : Option (List ℕ)) (f0 f1 f2 : ℕ) (s0 s1 : Optio
     → Broke (record { written = w1; written_after = w2; faults = f1; faults_after = f2; sure = s1 }) [] next
     → Broke (record { written = w0; written_after = w2; faults = f0; faults_after = f2; sure = s0 }) done next
 broke-after w0 w1 w2 f0 f1 f2 s0 s1 done next same first second = record {
-  front = second.front;
+  prefix = second.prefix;
   rest = second.rest;
   whole = second.whole;
   proper = second.proper;
-  appended = Appends-trans w0 w1 w2 done second.front first.appended second.appended;
+  appended = Appends-trans w0 w1 w2 done second.prefix first.appended second.appended;
   rose = subst (λ f. Rose f f2) first.no_fault second.rose;
   no_room = no-room-after s0 w0 w1 done next first.appended (subst (λ s. HasNoRoomFor s w1 next) same second.no_room);
 }

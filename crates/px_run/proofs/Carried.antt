@@ -32,9 +32,9 @@ use Rattle.px_run.specs.declared.status.Status.TheVariants as status
 
 plan-carries : (problem : Problem) (old : SessionState) (c : Command) (answer : Reply) (new : SessionState) → IsValid problem
     → IsSession problem old → IsOwnGoal problem c → Lawful problem old c answer new → PlanCarries problem old c answer
-plan-carries problem old (command.Plan name goal vars) (reply.Plan given count steps) new valid session own is =
-    sessions_are_kept.plans problem old name goal vars given count steps new valid session own is
-plan-carries problem old (command.Plan name goal vars) answer new valid session own is = tt
+plan-carries problem old (command.Plan name goal variable_count) (reply.Plan given count steps) new valid session own is =
+    sessions_are_kept.plans problem old name goal variable_count given count steps new valid session own is
+plan-carries problem old (command.Plan name goal variable_count) answer new valid session own is = tt
 plan-carries problem old c answer new valid session own is = tt
 
 run-reaches : (problem : Problem) (old : SessionState) (c : Command) (answer : Reply) (new : SessionState) → IsValid problem

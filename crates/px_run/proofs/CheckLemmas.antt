@@ -11,13 +11,13 @@ use Rattle.px_table.specs.KernelLaws.{kernels_carry}
 use Rattle.px_table.specs.Tables.{IsTable}
 use Rattle.px_words.specs.declared.orders.Order.{Order}
 use Rattle.px_words.specs.declared.orders.Order.TheVariants.{Check}
-use Rattle.px_run.specs.Fronts.{HasCheckFront}
+use Rattle.px_run.specs.Prefixes.{HasCheckPrefix}
 use Rattle.px_run.specs.Laws.{CertifiesWhereDone}
 use Rattle.px_run.specs.Outcomes.{Came, CheckCompletes, CheckCompletesSurely, CheckRefuses, CheckRight, IsCertRefused, IsCheckText, IsUnread, IsVerdict, JudgedRight, RefusalRight, RunRight, SinkEnds, SourceEnds, StatusRight, Wrote, limit}
 use Rattle.px_run.specs.Transcripts.{refusal_text}
 use Rattle.px_run.specs.declared.status.Status.{Status}
 use Rattle.px_run.specs.declared.status.Status.TheVariants as status
-use Rattle.px_run.proofs.Fronts.{broke-text}
+use Rattle.px_run.proofs.Prefixes.{broke-text}
 use Rattle.px_run.proofs.OneCheckText.{not-bad, one-bad, one-check-text}
 use Rattle.px_run.proofs.OutcomeLemmas.{came-short, no-room, not-too-long, told-all}
 
@@ -139,16 +139,16 @@ check-refuses source sink status.TooLong came right gone count bytes refused tol
 check-refuses source sink (status.Refused answered) came right gone count bytes refused told short fault quiet =
     inl (ap status.Refused (one-bad right.0 answered refused right.2 (told-bad source bytes right.0 refused told right.1 fault)))
 
-pub check-front : (source : SourceEnds) (sink : SinkEnds) (result : Status) → CheckRight source sink result
-    → HasCheckFront source sink result
-check-front source sink status.WriteFault (bytes, next, came, is, broke) =
+pub check-prefix : (source : SourceEnds) (sink : SinkEnds) (result : Status) → CheckRight source sink result
+    → HasCheckPrefix source sink result
+check-prefix source sink status.WriteFault (bytes, next, came, is, broke) =
     (bytes, came, λ text demanded. broke-text sink [] next text broke refl (one-check-text bytes text next demanded is))
-check-front source sink status.NoMemory (quiet, within, nothing) = nothing
-check-front source sink status.Done right = tt
-check-front source sink (status.Refused refused) right = tt
-check-front source sink status.ReadFault right = tt
-check-front source sink status.TooLong right = tt
-check-front source sink status.Usage right = tt
+check-prefix source sink status.NoMemory (quiet, within, nothing) = nothing
+check-prefix source sink status.Done right = tt
+check-prefix source sink (status.Refused refused) right = tt
+check-prefix source sink status.ReadFault right = tt
+check-prefix source sink status.TooLong right = tt
+check-prefix source sink status.Usage right = tt
 
 -- ---- what `yes` is worth
 

@@ -15,14 +15,14 @@ use Rattle.px_session.specs.Opened.{SessionValue, opened_session}
 use Rattle.px_session.proofs.OneTranscript.{transcripts_are_one}
 use Rattle.px_words.specs.declared.orders.Order.{Order}
 use Rattle.px_words.specs.declared.orders.Order.TheVariants.{Run, Demo, Check}
-use Rattle.px_run.specs.Fronts.{HasDemoFront}
+use Rattle.px_run.specs.Prefixes.{HasDemoPrefix}
 use Rattle.px_run.specs.Outcomes.{SourceEnds, SinkEnds, DemoCompletes, DemoCompletesSurely, DemoRight, RunRight, StatusRight, SumRight, Wrote, limit}
 use Rattle.px_run.specs.Sums.{IsCounted, IsSumOf}
 use Rattle.px_run.specs.Transcripts.{IsScriptRefused}
 use Rattle.px_run.specs.declared.counts.Counts.{Counts}
 use Rattle.px_run.specs.declared.status.Status.{Status}
 use Rattle.px_run.specs.declared.status.Status.TheVariants as status
-use Rattle.px_run.proofs.Fronts.{broke-text}
+use Rattle.px_run.proofs.Prefixes.{broke-text}
 use Rattle.px_run.proofs.OutcomeLemmas.{no-room, not-both}
 
 summary-of : (rooms seed : ℕ) (script : ScriptValue) (text : List ℕ) → IsScript stage_now (demo_script rooms seed) script
@@ -74,16 +74,16 @@ demo-completes_surely rooms seed sink status.TooLong right held room written sur
 
 -- ---- the front of what is demanded
 
-pub demo-front : (rooms seed : ℕ) (sink : SinkEnds) (result : Status) → DemoRight rooms seed sink result
-    → HasDemoFront rooms seed sink result
-demo-front rooms seed sink status.WriteFault (next, is, broke) =
+pub demo-prefix : (rooms seed : ℕ) (sink : SinkEnds) (result : Status) → DemoRight rooms seed sink result
+    → HasDemoPrefix rooms seed sink result
+demo-prefix rooms seed sink status.WriteFault (next, is, broke) =
     λ text demanded. broke-text sink [] next text broke refl (transcripts_are_one.summaries rooms seed text next demanded is)
-demo-front rooms seed sink status.NoMemory right = right
-demo-front rooms seed sink status.Done right = tt
-demo-front rooms seed sink (status.Refused refused) right = tt
-demo-front rooms seed sink status.Usage right = tt
-demo-front rooms seed sink status.ReadFault right = tt
-demo-front rooms seed sink status.TooLong right = tt
+demo-prefix rooms seed sink status.NoMemory right = right
+demo-prefix rooms seed sink status.Done right = tt
+demo-prefix rooms seed sink (status.Refused refused) right = tt
+demo-prefix rooms seed sink status.Usage right = tt
+demo-prefix rooms seed sink status.ReadFault right = tt
+demo-prefix rooms seed sink status.TooLong right = tt
 
 -- there was no memory for reading the words
 pub no_memory : (order : Option Order) (source : SourceEnds) (sink : SinkEnds) → is_some order ≡ true → source.faults_after ≡ source.faults

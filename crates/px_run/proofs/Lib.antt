@@ -7,5 +7,5 @@ pub mod DemoLemmas
 pub mod OneCheckText
 pub mod OneText
 pub mod OutcomeLemmas
-pub mod Fronts
+pub mod Prefixes
 pub mod Rooms

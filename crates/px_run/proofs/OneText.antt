@@ -29,15 +29,15 @@ use Rattle.px_run.proofs.OneCheckText.{one-check-text}
 
 -- what replies begin with: those to the first commands, but for questions at limits of shapes
 record BeginsLike (xs ys : List Reply) : Type 0 where
-  front : List Reply
+  prefix : List Reply
   rest : List Reply
-  whole : ys ≡ front ++ rest
-  alike : AllZip SameReply xs front
+  whole : ys ≡ prefix ++ rest
+  alike : AllZip SameReply xs prefix
 
 begins-more : (a b : Reply) (xs ys : List Reply) → SameReply a b → BeginsLike xs ys → BeginsLike (a ∷ xs) (b ∷ ys)
 begins-more a b xs ys same begins =
     record {
-      front = b ∷ begins.front;
+      prefix = b ∷ begins.prefix;
       rest = begins.rest;
       whole = ap (λ (t : List Reply). b ∷ t) begins.whole;
       alike = (same, begins.alike);
@@ -45,23 +45,23 @@ begins-more a b xs ys same begins =
 
 -- the replies to the first commands begin the replies to all
 module _ (problem : Problem) (valid : IsValid problem) where
-  front-of : (old : SessionState) → IsSession problem old → (before after : List Command) → All (IsOwnGoal problem) before
+  prefix-of : (old : SessionState) → IsSession problem old → (before after : List Command) → All (IsOwnGoal problem) before
       → (xs ys : List Reply) (last later : SessionState)
       → AreAnswers problem old before xs last → AreAnswers problem old (before ++ after) ys later → BeginsLike xs ys
-  front-of old session [] after own [] ys last later p q = record { front = []; rest = ys; whole = refl; alike = tt }
-  front-of old session [] after own (a ∷ xs) ys last later p q = absurd p
-  front-of old session (c ∷ before) after own [] ys last later p q = absurd p
-  front-of old session (c ∷ before) after own (a ∷ xs) [] last later p q = absurd q
-  front-of old session (c ∷ before) after own (a ∷ xs) (b ∷ ys) last later p q =
+  prefix-of old session [] after own [] ys last later p q = record { prefix = []; rest = ys; whole = refl; alike = tt }
+  prefix-of old session [] after own (a ∷ xs) ys last later p q = absurd p
+  prefix-of old session (c ∷ before) after own [] ys last later p q = absurd p
+  prefix-of old session (c ∷ before) after own (a ∷ xs) [] last later p q = absurd q
+  prefix-of old session (c ∷ before) after own (a ∷ xs) (b ∷ ys) last later p q =
       let same = lawful_is_one.replies problem old c a b p.0 q.0 valid session p.1 q.1 in
       let next = sessions_are_kept.kept problem old c b q.0 valid session (All-head (IsOwnGoal problem) c before own) q.1 in
       let here = subst (λ (s : SessionState). AreAnswers problem s before xs last) same.1 p.2 in
-      begins-more a b xs ys same.0 (front-of q.0 next before after (All-tail (IsOwnGoal problem) c before own) xs ys last later here q.2)
+      begins-more a b xs ys same.0 (prefix-of q.0 next before after (All-tail (IsOwnGoal problem) c before own) xs ys last later here q.2)
 
 -- the goals of the first commands are of the problem
-own-front : (script : ScriptValue) (before after : List Command) → script.commands ≡ before ++ after
+own-prefix : (script : ScriptValue) (before after : List Command) → script.commands ≡ before ++ after
     → All (IsOwnGoal script.problem) script.commands → All (IsOwnGoal script.problem) before
-own-front script before after whole own =
+own-prefix script before after whole own =
     All-each (IsOwnGoal script.problem) before
     (λ c has. All-at (IsOwnGoal script.problem) script.commands c own
     (subst (λ (cs : List Command). Contains cs c) (sym whole) (Contains-append_left before after c has)))
@@ -69,12 +69,12 @@ own-front script before after whole own =
 text-begins : (names : NameLists) (xs ys : List Reply) → BeginsLike xs ys → (rest : List ℕ) × (texts names ys ≡ texts names xs ++ rest)
 text-begins names xs ys begins = (
   texts names begins.rest,
-  ap (texts names) begins.whole ∙ flat_map-append (reply_text names) begins.front begins.rest
-      ∙ ap (λ (t : List ℕ). t ++ texts names begins.rest) (sym (answers_are_one.texts names xs begins.front begins.alike)),
+  ap (texts names) begins.whole ∙ flat_map-append (reply_text names) begins.prefix begins.rest
+      ∙ ap (λ (t : List ℕ). t ++ texts names begins.rest) (sym (answers_are_one.texts names xs begins.prefix begins.alike)),
 )
 
-front-text : (bytes begun text : List ℕ) → Begun bytes begun → Transcript bytes text → (rest : List ℕ) × (text ≡ begun ++ rest)
-front-text bytes begun text (script, is, of) whole =
+prefix-text : (bytes begun text : List ℕ) → Begun bytes begun → Transcript bytes text → (rest : List ℕ) × (text ≡ begun ++ rest)
+prefix-text bytes begun text (script, is, of) whole =
     let same : whole.script ≡ script = (reads-one-way stage_now bytes).one_content whole.script script whole.spelt is in
     by (subst (λ (s : ScriptValue). (last : SessionState) × AreAnswers s.problem (opening s.facts s.saved) s.commands whole.answers last
     × (text ≡ texts s.names whole.answers)) same (whole.lawful.last, whole.lawful.lawful, whole.text_is))
@@ -86,9 +86,9 @@ front-text bytes begun text (script, is, of) whole =
         let range = in-range stage_now bytes script is in
         let session = sessions_are_kept.scripts script range in
         let all = subst (λ (cs : List Command). AreAnswers script.problem (opening script.facts script.saved) cs whole.answers last) of.whole lawful in
-        let begins = front-of script.problem range.problem.valid
+        let begins = prefix-of script.problem range.problem.valid
         (opening script.facts script.saved) session of.before of.after
-        (own-front script of.before of.after of.whole (own-goals script range))
+        (own-prefix script of.before of.after of.whole (own-goals script range))
         of.answers whole.answers of.last last of.lawful all in
         let texts_begin = text-begins script.names of.answers whole.answers begins in
         (texts_begin.0, text_is ∙ texts_begin.1 ∙ ap (λ (t : List ℕ). t ++ texts_begin.0) (sym of.text_is))
@@ -96,10 +96,10 @@ front-text bytes begun text (script, is, of) whole =
 -- a text of the first commands is no longer than the whole text
 begun-short : (bytes begun text : List ℕ) → Begun bytes begun → Transcript bytes text → length begun ≤ length text
 begun-short bytes begun text first whole =
-    let front = front-text bytes begun text first whole in
-    let long = ap length front.1 in
-    let sum = length-append begun front.0 in
+    let prefix = prefix-text bytes begun text first whole in
+    let long = ap length prefix.1 in
+    let sum = length-append begun prefix.0 in
     omega (arith, long, sum)
 
 pub texts_are_one : TextsAreOne
-texts_are_one = record { whole = transcripts_are_one.transcripts; front = front-text; short = begun-short; check = one-check-text }
+texts_are_one = record { whole = transcripts_are_one.transcripts; prefix = prefix-text; short = begun-short; check = one-check-text }

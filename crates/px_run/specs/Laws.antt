@@ -30,13 +30,13 @@ use Rattle.px_run.specs.declared.status.Status.TheVariants as status
 -- too.
 pub record TextsAreOne : Type 0 where
   pub whole : (bytes text other : List ℕ) → Transcript bytes text → Transcript bytes other → text ≡ other
-  pub front : (bytes begun text : List ℕ) → Begun bytes begun → Transcript bytes text → (rest : List ℕ) × (text ≡ begun ++ rest)
+  pub prefix : (bytes begun text : List ℕ) → Begun bytes begun → Transcript bytes text → (rest : List ℕ) × (text ≡ begun ++ rest)
   pub short : (bytes begun text : List ℕ) → Begun bytes begun → Transcript bytes text → length begun ≤ length text
   pub check : (bytes text other : List ℕ) → IsCheckText bytes text → IsCheckText bytes other → text ≡ other
 
 -- the atoms of the state carry the steps of a plan that a reply prints to the goal that was asked for
 abbrev pub PlanCarries : Problem → SessionState → Command → Reply → Type 0
-PlanCarries problem state (Plan name goal vars) (reply.Plan given moves steps) = Carries problem state.atoms steps vars goal
+PlanCarries problem state (Plan name goal variable_count) (reply.Plan given moves steps) = Carries problem state.atoms steps variable_count goal
 PlanCarries problem state _ _ = Unit {0}
 
 -- a run that a reply prints reaches the goal of the name's table, once it has sensed a kernel and nothing disturbs it after that

@@ -4,6 +4,6 @@ pub mod Sums
 pub mod Outcomes
 pub mod Exits
 pub mod Answers
-pub mod Fronts
+pub mod Prefixes
 pub mod Laws
 pub mod Rooms

@@ -74,13 +74,13 @@ pub record Wrote (ends : SinkEnds) (text : List ℕ) : Type 0 where
   pub appended : Appends ends.written ends.written_after text
   pub no_fault : ends.faults_after ≡ ends.faults
 
--- A text was written and a proper front of the next one, and then a write failed. The sink wasn't sure to take both.
+-- A text was written and a proper prefix of the next one, and then a write failed. The sink wasn't sure to take both.
 pub record Broke (ends : SinkEnds) (done next : List ℕ) : Type 0 where
-  pub front : List ℕ
+  pub prefix : List ℕ
   pub rest : List ℕ
-  pub whole : next ≡ front ++ rest
+  pub whole : next ≡ prefix ++ rest
   pub proper : 0 < length rest
-  pub appended : Appends ends.written ends.written_after (done ++ front)
+  pub appended : Appends ends.written ends.written_after (done ++ prefix)
   pub rose : Rose ends.faults ends.faults_after
   pub no_room : HasNoRoomFor ends.sure ends.written (done ++ next)
 

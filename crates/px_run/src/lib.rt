@@ -7,7 +7,7 @@
 //!   status says of what came from the source and of what was written.
 //! - The single word `run` answers the commands of the script that comes from the source. The words `demo ROOMS SEED` make the script of
 //!   `px_demo`, which always is one (`px_demo_script`), answer its commands, and write one line that sums up the replies (the clauses
-//!   `demo_completes`, `demo_completes_surely` and `demo_front` of the top call, and `right`). The single word `check` says whether the
+//!   `demo_completes`, `demo_completes_surely` and `demo_prefix` of the top call, and `right`). The single word `check` says whether the
 //!   certificate that comes from the source is right (`certifies`, the clauses that begin with `check_`, and `right`). Every other list of
 //!   words is answered by how the program is called.
 //! - What is written for a script is a transcript (`px_session/specs/Transcripts`): one lawful reply for each command, in
@@ -18,8 +18,8 @@
 //! - Bytes that aren't a script are refused with the line, the code and the limit of their first fault, as `px_script`
 //!   defines it. Nothing is answered before the whole script was read. Bytes that aren't a certificate are refused with their first bad
 //!   line, as `px_cert` defines it, and the code 13.
-//! - After a write that failed, the replies before it and a proper front of the next text were written, and so a proper front of what
-//!   the bytes demand (`front` in `specs/Fronts`). Each reply is written as a whole; no clause says so, a test
+//! - After a write that failed, the replies before it and a proper prefix of the next text were written, and so a proper prefix of what
+//!   the bytes demand (`prefix` in `specs/Prefixes`). Each reply is written as a whole; no clause says so, a test
 //!   shows it.
 //! - How much room suffices in a sink is in `specs/Rooms` ([`rooms_suffice`]): for the transcript, and for the line of a demo and that of
 //!   a certificate, which have bounds (`px_lengths`).

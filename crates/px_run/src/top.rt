@@ -7,7 +7,7 @@ ghost use Rattle.px_script.specs.Stages.{stage_now};
 ghost use Rattle.px_session.specs.Opened.{opened_session};
 ghost use Rattle.px_words.specs.Orders.{order_of};
 ghost use Rattle.px_words.specs.declared.orders.Order.TheVariants.{Run, Check, Demo};
-ghost use Rattle.px_run.specs.Fronts.{HasCheckFront, HasDemoFront, HasFront};
+ghost use Rattle.px_run.specs.Prefixes.{HasCheckPrefix, HasDemoPrefix, HasPrefix};
 ghost use Rattle.px_run.specs.Laws.{CarriesWhereDone, CertifiesWhereDone};
 ghost use Rattle.px_run.specs.Outcomes.{source_ends, sink_ends, Came, CheckCompletes, CheckCompletesSurely, CheckRefuses, IsUnread, DemoCompletes, DemoCompletesSurely, UsageRight, RefusalRight, ExecutedRight, RunRight, StatusRight, Completes, CompletesSurely, Refuses};
 
@@ -66,7 +66,7 @@ pub fn planex_main<'a, S: Source, K: Sink>(
         (source_ends S.left S.taken S.faults S.never_fails source.old source.new)
         (sink_ends K.written K.faults K.sure sink.old sink.new)
         result }
-    ensures front { order_of (map (λ word. word.now) words.now) ≡ Some Run → HasFront
+    ensures prefix { order_of (map (λ word. word.now) words.now) ≡ Some Run → HasPrefix
         (source_ends S.left S.taken S.faults S.never_fails source.old source.new)
         (sink_ends K.written K.faults K.sure sink.old sink.new)
         result }
@@ -74,8 +74,8 @@ pub fn planex_main<'a, S: Source, K: Sink>(
         → DemoCompletes (sink_ends K.written K.faults K.sure sink.old sink.new) result }
     ensures demo_completes_surely { (rooms seed : ℕ) → order_of (map (λ word. word.now) words.now) ≡ Some (Demo rooms seed)
         → DemoCompletesSurely rooms seed (sink_ends K.written K.faults K.sure sink.old sink.new) result }
-    ensures demo_front { (rooms seed : ℕ) → order_of (map (λ word. word.now) words.now) ≡ Some (Demo rooms seed)
-        → HasDemoFront rooms seed (sink_ends K.written K.faults K.sure sink.old sink.new) result }
+    ensures demo_prefix { (rooms seed : ℕ) → order_of (map (λ word. word.now) words.now) ≡ Some (Demo rooms seed)
+        → HasDemoPrefix rooms seed (sink_ends K.written K.faults K.sure sink.old sink.new) result }
     ensures check_completes { order_of (map (λ word. word.now) words.now) ≡ Some Check → CheckCompletes
         (source_ends S.left S.taken S.faults S.never_fails source.old source.new)
         (sink_ends K.written K.faults K.sure sink.old sink.new)
@@ -88,7 +88,7 @@ pub fn planex_main<'a, S: Source, K: Sink>(
         (source_ends S.left S.taken S.faults S.never_fails source.old source.new)
         (sink_ends K.written K.faults K.sure sink.old sink.new)
         result }
-    ensures check_front { order_of (map (λ word. word.now) words.now) ≡ Some Check → HasCheckFront
+    ensures check_prefix { order_of (map (λ word. word.now) words.now) ≡ Some Check → HasCheckPrefix
         (source_ends S.left S.taken S.faults S.never_fails source.old source.new)
         (sink_ends K.written K.faults K.sure sink.old sink.new)
         result }

@@ -53,11 +53,11 @@ pub fn no(atom: Atom) -> Lit {
 }
 
 /// Adds the axiom of these literals, over that many variables. Returns `None` where it isn't one.
-pub fn add_axiom(axioms: &mut ClauseArena, vars: u32, lits: &[Lit]) -> Option<()> {
-    if !are_plain_below(vars, lits) {
+pub fn add_axiom(axioms: &mut ClauseArena, variable_count: u32, lits: &[Lit]) -> Option<()> {
+    if !are_plain_below(variable_count, lits) {
         return None;
     }
-    match axioms.push(vars, lits) {
+    match axioms.push(variable_count, lits) {
         Ok(_) => Some(()),
         Err(_) => None,
     }

@@ -18,7 +18,7 @@ of_steps d table steps = of_table_steps (record {
   parameters = table.params;
   steps = steps;
   goal = [];
-  goal_vars = 0;
+  goal_variable_count = 0;
   rows = [];
 })
 
@@ -29,7 +29,7 @@ written d table rows = record {
   parameters = table.params;
   steps = table.steps;
   goal = table.goal;
-  goal_vars = table.goal_vars;
+  goal_variable_count = table.goal_variable_count;
   rows = rows;
 }
 

@@ -129,12 +129,12 @@ module _ (stage : Stage) (words : HasBlocks stage) (d : Declared) (rs : List (Li
     )
 
   abbrev GoalFits : Type 0
-  GoalFits = AllByRecursion (AtomFits problem params (params + one.goal_vars)) one.goal
+  GoalFits = AllByRecursion (AtomFits problem params (params + one.goal_variable_count)) one.goal
 
   -- ---- the goal
 
   module _ (m n : ℕ) (fits : GoalFits) (some : 1 ≤ length one.goal) (few_atoms : length one.goal ≤ 16)
-      (few_variables : one.goal_vars ≤ 12) (last : one.goal_vars ≡ last_goal_variable one) where
+      (few_variables : one.goal_variable_count ≤ 12) (last : one.goal_variable_count ≡ last_goal_variable one) where
     abbrev at_goal : Declared
     at_goal = inside d name n (of_steps d one one.steps)
 
@@ -143,7 +143,7 @@ module _ (stage : Stage) (words : HasBlocks stage) (d : Declared) (rs : List (Li
 
     good-atoms : AllByRecursion (IsGoodAtom at_goal table_goals) atoms
     good-atoms = before.good-goal d rs name params g few n (of_steps d one one.steps) (refl, refl)
-        (params + one.goal_vars) (omega (arith, few_variables)) one.goal fits
+        (params + one.goal_variable_count) (omega (arith, few_variables)) one.goal fits
 
     abbrev all_atoms : List SignedAtom
     all_atoms = atoms ++ []
@@ -186,7 +186,7 @@ module _ (stage : Stage) (words : HasBlocks stage) (d : Declared) (rs : List (Li
     goal-passes = (
       spelling (written_goal names params one.goal),
       (goal-line names params one.goal (before.goal-text d rs name params g few n (of_steps d one one.steps)
-          (refl, refl) (params + one.goal_vars) (omega (arith, few_variables)) one.goal fits)).lexes,
+          (refl, refl) (params + one.goal_variable_count) (omega (arith, few_variables)) one.goal fits)).lexes,
       (
         written_goal names params one.goal,
         (
@@ -198,18 +198,18 @@ module _ (stage : Stage) (words : HasBlocks stage) (d : Declared) (rs : List (Li
           ) refl,
         ),
         clean-line stage at_goal (written_goal names params one.goal) goal-clean,
-        sym (λ i. record (inside d name n (of_table_rows (record (written d one []) { goal = goal-is i; goal_vars = vars-are i })))
+        sym (λ i. record (inside d name n (of_table_rows (record (written d one []) { goal = goal-is i; goal_variable_count = variable_count-are i })))
             { own_domain = or-false d.own_domain i }),
       ),
     )
       where
         goal-is : map (atom_of at_goal (table_variables at_goal)) atoms ≡ one.goal
         goal-is = before.goal-read d rs name params g few n (of_steps d one one.steps) (refl, refl)
-            (params + one.goal_vars) (omega (arith, few_variables)) one.goal fits
+            (params + one.goal_variable_count) (omega (arith, few_variables)) one.goal fits
 
-        vars-are : goal_variables at_goal atoms ≡ one.goal_vars
-        vars-are = before.variables-read d rs name params g few n (of_steps d one one.steps) (refl, refl)
-            (params + one.goal_vars) (omega (arith, few_variables)) one.goal fits ∙ sym last
+        variable_count-are : goal_variables at_goal atoms ≡ one.goal_variable_count
+        variable_count-are = before.variables-read d rs name params g few n (of_steps d one one.steps) (refl, refl)
+            (params + one.goal_variable_count) (omega (arith, few_variables)) one.goal fits ∙ sym last
 
   -- ---- rows
 
@@ -293,7 +293,7 @@ module _ (stage : Stage) (words : HasBlocks stage) (d : Declared) (rs : List (Li
 
   module _ (m n : ℕ) (rows : List (List Derivation))
       (is : rows_are_table problem params (sorts_by_places problem one.steps params) one.steps one.goal
-      one.goal_vars rows ≡ true) where
+      one.goal_variable_count rows ≡ true) where
     abbrev at_end : Declared
     at_end = inside d name n (of_rows d one rows)
 

@@ -7,7 +7,7 @@ use Rattle.px_proof.specs.declared.proof.Leaf.{Leaf}
 use Rattle.px_proof.specs.Derivation.{Derivation, Derivations, fact, ancestor, gap, open_place, none, also, derivations, height, greatest_height, leaves_of, all_leaves_of, leaf_atoms}
 use Rattle.px_proof.specs.Derivation as derivation
 use Rattle.px_proof.specs.Literals.{complement_of, positive_of, substitute_literal}
-use Rattle.px_proof.specs.PlaceLaws.{length-remove, slice_get-within, All-front, All-back, Contains-mapped}
+use Rattle.px_proof.specs.PlaceLaws.{length-remove, slice_get-within, All-prefix, All-back, Contains-mapped}
 use Rattle.px_proof.specs.Proves.{IsObjectOrParameter, Proves, ProvesEach, from_atoms, instance_of, parts_of}
 use Rattle.px_printer.specs.Blocks.{count_of}
 use Rattle.px_table.specs.declared.mark.Mark.{Mark}
@@ -95,23 +95,23 @@ module _ (problem : Problem) (params : ℕ) where
     IsBare lit = NoneWithout lit.atom.args
 
     -- without objects a clause has no variables, and nothing stands in its literals
-    no-term : (vars : ℕ) (t : Term) → vars ≡ 0 → problem.objects ≡ 0 → IsTermOf problem vars t → ⊥
-    no-term vars (Obj n) a b is = omega (arith, b, is)
-    no-term vars (Var v) a b is = omega (arith, a, is)
-    no-term vars Any a b is = is
+    no-term : (variable_count : ℕ) (t : Term) → variable_count ≡ 0 → problem.objects ≡ 0 → IsTermOf problem variable_count t → ⊥
+    no-term variable_count (Obj n) a b is = omega (arith, b, is)
+    no-term variable_count (Var v) a b is = omega (arith, a, is)
+    no-term variable_count Any a b is = is
 
-    no-terms : (vars : ℕ) (ts : List Term) → vars ≡ 0 → problem.objects ≡ 0 → All (IsTermOf problem vars) ts → ts ≡ []
-    no-terms vars [] a b all = refl
-    no-terms vars (t ∷ ts) a b all = absurd (no-term vars t a b (All-head (IsTermOf problem vars) t ts all))
+    no-terms : (variable_count : ℕ) (ts : List Term) → variable_count ≡ 0 → problem.objects ≡ 0 → All (IsTermOf problem variable_count) ts → ts ≡ []
+    no-terms variable_count [] a b all = refl
+    no-terms variable_count (t ∷ ts) a b all = absurd (no-term variable_count t a b (All-head (IsTermOf problem variable_count) t ts all))
 
     clause-bare : (clause : Clause) → Contains problem.axioms clause → (theta : List Term) → All IsBare (instance_of clause.lits theta)
     clause-bare clause has theta =
         All-map IsBare (substitute_literal theta) clause.lits
         (All-each (λ (lit : Lit). IsBare (substitute_literal theta lit)) clause.lits (λ lit here none_there.
-        let vars : clause.vars ≡ 0 = All-at (λ (c : Clause). c.vars ≡ 0) problem.axioms clause (valid.no_objects none_there).1 has in
-        let of : IsAtomOf problem clause.vars lit.atom = All-at (λ (l : Lit). IsAtomOf problem clause.vars l.atom) clause.lits lit
+        let variable_count : clause.variable_count ≡ 0 = All-at (λ (c : Clause). c.variable_count ≡ 0) problem.axioms clause (valid.no_objects none_there).1 has in
+        let of : IsAtomOf problem clause.variable_count lit.atom = All-at (λ (l : Lit). IsAtomOf problem clause.variable_count l.atom) clause.lits lit
         (All-at (IsAxiomOf problem) problem.axioms clause valid.axioms has).lits here in
-        ap (map (substitute theta)) (no-terms clause.vars lit.atom.args vars none_there of.1)))
+        ap (map (substitute theta)) (no-terms clause.variable_count lit.atom.args variable_count none_there of.1)))
 
     removed-all : {X : Type 0} (Q : X → Type 0) (xs : List X) (i : ℕ) → All Q xs → All Q (remove xs i)
     removed-all Q xs i all = All-append Q (take i xs) (drop (suc i) xs) (All-take Q i xs all) (All-drop Q (suc i) xs all)
@@ -154,7 +154,7 @@ module _ (problem : Problem) (params : ℕ) where
             let short = length-remove (instance_of clause.lits theta) place place_within in
             let same = length-map left complement_of in
             let none_chosen : NoneWithout theta = λ none_there. empty theta (uses.terms ∙
-            All-at (λ (c : Clause). c.vars ≡ 0) problem.axioms clause (valid.no_objects none_there).1 has) in (
+            All-at (λ (c : Clause). c.variable_count ≡ 0) problem.axioms clause (valid.no_objects none_there).1 has) in (
               omega (arith, within, few),
               omega (arith, place_within, counted, size.1),
               omega (arith, inner.1, same, short, counted, size.1),
@@ -169,7 +169,7 @@ module _ (problem : Problem) (params : ℕ) where
             → ProofsFit ds × (count_of ds ≡ length lits)
         proofs-fit path [] none proves leaves low bare = (tt, refl)
         proofs-fit path (lit ∷ lits) (also d ds) proves leaves low bare =
-            let one = proof-fits path lit d proves.0 (All-front LeafFits (leaves_of d) (all_leaves_of ds) leaves)
+            let one = proof-fits path lit d proves.0 (All-prefix LeafFits (leaves_of d) (all_leaves_of ds) leaves)
             (omega (arith, low)) bare.0 in
             let more = proofs-fit path lits ds proves.1 (All-back LeafFits (leaves_of d) (all_leaves_of ds) leaves)
             (omega (arith, low)) bare.1 in
@@ -189,7 +189,7 @@ module _ (problem : Problem) (params : ℕ) where
     row-fits (atom ∷ atoms) (d ∷ row) proves leaves low bare =
         let high = All-head (λ (x : Derivation). height x ≤ 56) d row low in (
           proof-fits (leaf_atoms (leaves_of d)) [] (positive_of atom) d proves.0.proves
-              (All-front LeafFits (leaves_of d) (row_leaves row) leaves) (omega (arith, high)) bare.0,
+              (All-prefix LeafFits (leaves_of d) (row_leaves row) leaves) (omega (arith, high)) bare.0,
           row-fits atoms row proves.1 (All-back LeafFits (leaves_of d) (row_leaves row) leaves)
               (All-tail (λ (x : Derivation). height x ≤ 56) d row low) bare.1,
         )
@@ -248,12 +248,12 @@ module _ (problem : Problem) (params : ℕ) where
       goal-bare terms [] bare = tt
       goal-bare terms (atom ∷ atoms) bare = (λ none_there. ap (map (substitute terms)) (bare.0 none_there), goal-bare terms atoms bare.1)
 
-      module _ (goal : List Atom) (goal_vars : ℕ) (bare : AtomsBare goal) where
+      module _ (goal : List Atom) (goal_variable_count : ℕ) (bare : AtomsBare goal) where
         abbrev RowsFit : List (List Derivation) → Type 0
         RowsFit rows = AllByRecursion (λ (row : List Derivation). ProofsFit (derivations row)) rows
 
         pub rows-fit : (first : ℕ) (left : List OpInst) (rows : List (List Derivation))
-            → RowsProve IsName problem params left goal goal_vars rows
+            → RowsProve IsName problem params left goal goal_variable_count rows
             → AllByRecursion (λ (inst : OpInst). inst.op < length problem.schemas) left
             → All OfProblem (marks_from first rows)
             → All (IsNamed problem steps) (marks_from first rows)
@@ -261,8 +261,8 @@ module _ (problem : Problem) (params : ℕ) where
         rows-fit first [] [] prove ops atoms named low small = absurd prove
         rows-fit first [] (row ∷ []) prove ops atoms named low small = (
           row-fits (map (substitute_atom (variables params ++ prove.0)) goal) row prove.2
-              (leaves-fit first row (omega (arith, small)) (All-front OfProblem (row_marks first row) [] atoms)
-              (All-front (IsNamed problem steps) (row_marks first row) [] named))
+              (leaves-fit first row (omega (arith, small)) (All-prefix OfProblem (row_marks first row) [] atoms)
+              (All-prefix (IsNamed problem steps) (row_marks first row) [] named))
               (All-head (All (λ (d : Derivation). height d ≤ 56)) row [] low) (goal-bare (variables params ++ prove.0) goal bare),
           tt,
         )
@@ -270,8 +270,8 @@ module _ (problem : Problem) (params : ℕ) where
         rows-fit first (inst ∷ left) [] prove ops atoms named low small = absurd prove
         rows-fit first (inst ∷ left) (row ∷ rows) prove ops atoms named low small = (
           row-fits (precondition problem inst) row prove.0
-              (leaves-fit first row (omega (arith, small)) (All-front OfProblem (row_marks first row) (marks_from (suc first) rows) atoms)
-              (All-front (IsNamed problem steps) (row_marks first row) (marks_from (suc first) rows) named))
+              (leaves-fit first row (omega (arith, small)) (All-prefix OfProblem (row_marks first row) (marks_from (suc first) rows) atoms)
+              (All-prefix (IsNamed problem steps) (row_marks first row) (marks_from (suc first) rows) named))
               (All-head (All (λ (d : Derivation). height d ≤ 56)) row rows low) (precondition-bare inst ops.0),
           rows-fit (suc first) left rows prove.1 ops.1 (All-back OfProblem (row_marks first row) (marks_from (suc first) rows) atoms)
               (All-back (IsNamed problem steps) (row_marks first row) (marks_from (suc first) rows) named)

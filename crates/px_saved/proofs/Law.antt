@@ -94,7 +94,7 @@ module _ (problem : Problem) (valid : IsValid problem) (short_lists : All (range
 
   -- with parameters of these sorts these rows make a table
   abbrev pub MakesTable : List ℕ → List (List Derivation) → Type 0
-  MakesTable sorts rows = rows_are_table problem table.params sorts table.steps table.goal table.goal_vars rows ≡ true
+  MakesTable sorts rows = rows_are_table problem table.params sorts table.steps table.goal table.goal_variable_count rows ≡ true
 
   pub rows-made : MakesTable (sorts_by_places problem table.steps table.params) (rows_of table.proofs)
   rows-made = subst (λ sorts. MakesTable sorts (rows_of table.proofs)) saved.sorts (and_parts _ _ saved.is_one).0
@@ -130,31 +130,31 @@ module _ (problem : Problem) (valid : IsValid problem) (short_lists : All (range
   bare-goal : AreBare table.goal
   bare-goal = each table.goal saved.no_objects
     where
-      front-none : (xs ys : List Term) → xs ++ ys ≡ [] → (xs ≡ []) × (ys ≡ [])
-      front-none [] ys e = (refl, e)
-      front-none (x ∷ xs) ys e = absurd (cc)
+      prefix-none : (xs ys : List Term) → xs ++ ys ≡ [] → (xs ≡ []) × (ys ≡ [])
+      prefix-none [] ys e = (refl, e)
+      prefix-none (x ∷ xs) ys e = absurd (cc)
 
       each : (atoms : List Atom) → (problem.objects ≡ 0 → flat_map (λ atom. atom.args) atoms ≡ []) → AreBare atoms
       each [] none_there = tt
       each (atom ∷ atoms) none_there = (
-        λ e. (front-none atom.args (flat_map (λ y. y.args) atoms) (none_there e)).0,
-        each atoms (λ e. (front-none atom.args (flat_map (λ y. y.args) atoms) (none_there e)).1),
+        λ e. (prefix-none atom.args (flat_map (λ y. y.args) atoms) (none_there e)).0,
+        each atoms (λ e. (prefix-none atom.args (flat_map (λ y. y.args) atoms) (none_there e)).1),
       )
 
-  goal-of : (atoms : List Atom) → AllByRecursion (IsAtomOf problem (table.params + table.goal_vars)) atoms → AreBare atoms
-      → AllByRecursion (AtomFits problem table.params (table.params + table.goal_vars)) atoms
+  goal-of : (atoms : List Atom) → AllByRecursion (IsAtomOf problem (table.params + table.goal_variable_count)) atoms → AreBare atoms
+      → AllByRecursion (AtomFits problem table.params (table.params + table.goal_variable_count)) atoms
   goal-of [] all bare = tt
   goal-of (atom ∷ atoms) all bare = (
-    (all.0.0, terms-fit problem table.params (table.params + table.goal_vars) atom.args all.0.1 bare.0),
+    (all.0.0, terms-fit problem table.params (table.params + table.goal_variable_count) atom.args all.0.1 bare.0),
     goal-of atoms all.1 bare.1,
   )
 
-  pub goal-fits : AllByRecursion (AtomFits problem table.params (table.params + table.goal_vars)) table.goal
+  pub goal-fits : AllByRecursion (AtomFits problem table.params (table.params + table.goal_variable_count)) table.goal
   goal-fits = goal-of table.goal
-      (by-recursion (IsAtomOf problem (table.params + table.goal_vars)) table.goal is-table.in_range.goal) bare-goal
+      (by-recursion (IsAtomOf problem (table.params + table.goal_variable_count)) table.goal is-table.in_range.goal) bare-goal
 
   pub all-rows-fit : AllByRecursion (λ (row : List Derivation). ProofsFit problem table.params (derivations row)) (rows_of table.proofs)
-  all-rows-fit = rows-fit problem table.params valid short_lists table.steps table.goal table.goal_vars bare-goal 1 table.steps
+  all-rows-fit = rows-fit problem table.params valid short_lists table.steps table.goal table.goal_variable_count bare-goal 1 table.steps
       (rows_of table.proofs) is-table.prove (operators-of table.steps steps-fit)
       (subst (All (λ mark. IsAtomOf problem table.params mark.atom)) is-table.marks is-table.atoms)
       (subst (All (IsNamed problem table.steps)) is-table.marks is-table.named)
@@ -175,7 +175,7 @@ module _ (problem : Problem) (valid : IsValid problem) (short_lists : All (range
         params = table.params;
         steps = table.steps;
         goal = table.goal;
-        goal_vars = table.goal_vars;
+        goal_variable_count = table.goal_variable_count;
         marks = marks i;
         proofs = back i;
         param_sorts = sym saved.sorts i;
@@ -287,14 +287,14 @@ module _ (stage : Stage) (words : HasBlocks stage) (d : Declared) (rs : List (Li
 
   pub block-text : AllByRecursion IsLineText (block_lines names name params table.steps table.goal rows)
   block-text =
-      let front = of-reads (table_bytes names name params) _ (table-line names params name is_text (omega (arith, few))) in
+      let prefix = of-reads (table_bytes names name params) _ (table-line names params name is_text (omega (arith, few))) in
       let few_variables = saved.few_variables in
       let goal = of-reads (goal_bytes names name params table.goal) _ (goal-line names params table.goal
       (before.goal-text d rs name params g few 0 (of_steps d table []) (refl, refl)
-      (params + table.goal_vars) (omega (arith, few_variables)) table.goal
+      (params + table.goal_variable_count) (omega (arith, few_variables)) table.goal
       (goal-fits (problem_here d) g.valid g.short_lists table saved))) in
       let ends = of-reads (end_bytes names name params) _ (end-line names params) in (
-        front,
+        prefix,
         all-both IsLineText (map (step_bytes names name params) table.steps) _
             (steps-text table.steps (steps-fit (problem_here d) g.valid g.short_lists table saved)) (
               goal,

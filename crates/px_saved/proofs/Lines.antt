@@ -16,15 +16,15 @@ feed b = b == 10
 
 -- ---- the parts between line feeds
 
-onto-front : (x : ℕ) (xs ys : List (List ℕ)) → 0 < length xs → onto_first x (xs ++ ys) ≡ onto_first x xs ++ ys
-onto-front x [] ys some = absurd (omega (arith, some))
-onto-front x (l ∷ xs) ys some = refl
+onto-prefix : (x : ℕ) (xs ys : List (List ℕ)) → 0 < length xs → onto_first x (xs ++ ys) ≡ onto_first x xs ++ ys
+onto-prefix x [] ys some = absurd (omega (arith, some))
+onto-prefix x (l ∷ xs) ys some = refl
 
-split-append : (front text : List ℕ) → slice_split feed (front ++ 10 ∷ text) ≡ slice_split feed front ++ slice_split feed text
+split-append : (prefix text : List ℕ) → slice_split feed (prefix ++ 10 ∷ text) ≡ slice_split feed prefix ++ slice_split feed text
 split-append [] text = refl
 split-append (x ∷ xs) text = by_test (x == 10) (λ e. rw e (ap (λ l. [] ∷ l) (split-append xs text)))
     (λ e. rw e (ap (onto_first x) (split-append xs text)
-    ∙ onto-front x (slice_split feed xs) (slice_split feed text) (let count = length-slice_split feed xs in omega (arith, count))))
+    ∙ onto-prefix x (slice_split feed xs) (slice_split feed text) (let count = length-slice_split feed xs in omega (arith, count))))
 
 no-feed : (line : List ℕ) → is_in_line line ≡ true → AllByRecursion (λ b. feed b ≡ false) line
 no-feed [] inside = tt
@@ -54,14 +54,14 @@ split-joined (line ∷ lines) inside = ap (slice_split feed) (append_assoc line 
 -- ---- the byte order mark
 
 -- What stands before the line feed, without a mark, is the same whatever comes after it.
-record Apart (front : List ℕ) : Type 0 where
+record Apart (prefix : List ℕ) : Type 0 where
   rest : List ℕ
-  same : (text : List ℕ) → without_mark (front ++ 10 ∷ text) ≡ rest ++ 10 ∷ text
+  same : (text : List ℕ) → without_mark (prefix ++ 10 ∷ text) ≡ rest ++ 10 ∷ text
 
 unmarked : (bytes : List ℕ) → bytes_eq (take 3 bytes) mark ≡ false → without_mark bytes ≡ bytes
 unmarked bytes e = ap (λ b. if b then drop 3 bytes else bytes) e
 
-apart : (front : List ℕ) → Apart front
+apart : (prefix : List ℕ) → Apart prefix
 apart [] = record { rest = []; same = λ text. refl }
 apart (b ∷ []) = record { rest = b ∷ []; same = λ text. unmarked (b ∷ 10 ∷ text) (and-false (b == 0xEF) _ refl) }
 apart (b ∷ c ∷ []) = record {
@@ -105,25 +105,25 @@ module _ (stage : Stage) where
   all-whole (line ∷ lines) inside = λ i. chars (kept-whole line inside.0 i) ∷ all-whole lines inside.1 i
 
   -- where the bytes up to a line feed pass, and further lines after what they leave, all pass
-  pub lines-after : (front : List ℕ) (lines : List (List ℕ)) (before after : Declared)
+  pub lines-after : (prefix : List ℕ) (lines : List (List ℕ)) (before after : Declared)
       → AllByRecursion (λ line. is_in_line line ≡ true) lines
-      → PassAll stage 1 nothing_declared (lines_of (front ++ 10 ∷ [])) before
+      → PassAll stage 1 nothing_declared (lines_of (prefix ++ 10 ∷ [])) before
       → ((m : ℕ) → PassAll stage m before (map chars lines) after)
-      → PassAll stage 1 nothing_declared (lines_of (front ++ 10 ∷ joined lines)) after
-  lines-after front lines before after inside old new =
-      let a = apart front in let front_lines = map line_of_bytes (slice_split feed a.rest) in
-      let old_lines : lines_of (front ++ 10 ∷ []) ≡ front_lines ++ line_of_bytes [] ∷ [] =
+      → PassAll stage 1 nothing_declared (lines_of (prefix ++ 10 ∷ joined lines)) after
+  lines-after prefix lines before after inside old new =
+      let a = apart prefix in let prefix_lines = map line_of_bytes (slice_split feed a.rest) in
+      let old_lines : lines_of (prefix ++ 10 ∷ []) ≡ prefix_lines ++ line_of_bytes [] ∷ [] =
       ap (λ t. map line_of_bytes (slice_split feed t)) (a.same []) ∙ ap (map line_of_bytes) (split-append a.rest [])
       ∙ map-append line_of_bytes (slice_split feed a.rest) ([] ∷ []) in
-      let new_lines : lines_of (front ++ 10 ∷ joined lines) ≡ front_lines ++ (map chars lines ++ line_of_bytes [] ∷ []) =
+      let new_lines : lines_of (prefix ++ 10 ∷ joined lines) ≡ prefix_lines ++ (map chars lines ++ line_of_bytes [] ∷ []) =
       ap (λ t. map line_of_bytes (slice_split feed t)) (a.same (joined lines)) ∙ ap (map line_of_bytes) (split-append a.rest (joined lines))
       ∙ map-append line_of_bytes (slice_split feed a.rest) (slice_split feed (joined lines))
-      ∙ ap (λ t. front_lines ++ map line_of_bytes t) (split-joined lines inside)
-      ∙ ap (λ t. front_lines ++ t)
+      ∙ ap (λ t. prefix_lines ++ map line_of_bytes t) (split-joined lines inside)
+      ∙ ap (λ t. prefix_lines ++ t)
       (map-append line_of_bytes lines ([] ∷ []) ∙ ap (λ t. t ++ line_of_bytes [] ∷ []) (all-whole lines inside)) in
-      let before_last = without-last 1 nothing_declared before front_lines
+      let before_last = without-last 1 nothing_declared before prefix_lines
       (subst (λ t. PassAll stage 1 nothing_declared t before) old_lines old) in
       subst (λ t. PassAll stage 1 nothing_declared t after) (sym new_lines)
-      (pass-more 1 nothing_declared before after front_lines (map chars lines ++ line_of_bytes [] ∷ []) before_last
+      (pass-more 1 nothing_declared before after prefix_lines (map chars lines ++ line_of_bytes [] ∷ []) before_last
       (λ m. pass-more m before after after (map chars lines) (line_of_bytes [] ∷ []) (new m)
       (λ k. (after, empty-passes k after, refl))))

@@ -94,11 +94,11 @@ module _ (names : NameLists) (params : ℕ) where
       proof-back (derivation.step clause theta place ds) more reads =
           let inner = all-proofs-back ds more reads.1 in
           let split = taken (listed ds) (proofs_read x more) (count_of ds) (count-listed ds) in
-          let front : derivations (take (count_of ds) (proofs_read x (all_parts ds ++ more))) ≡ ds =
+          let prefix : derivations (take (count_of ds) (proofs_read x (all_parts ds ++ more))) ≡ ds =
           ap (λ l. derivations (take (count_of ds) l)) inner ∙ ap derivations split.0 ∙ listed-back ds in
           let back : drop (count_of ds) (proofs_read x (all_parts ds ++ more)) ≡ proofs_read x more =
           ap (drop (count_of ds)) inner ∙ split.1 in
-          λ i. derivation.step clause (reads.0 i) place (front i) ∷ back i
+          λ i. derivation.step clause (reads.0 i) place (prefix i) ∷ back i
       proof-back (gap atom) more reads = absurd reads
       proof-back open_place more reads = absurd reads
 
@@ -123,11 +123,11 @@ module _ (names : NameLists) (params : ℕ) where
     height-back (derivation.step clause theta place ds) more whole =
         let inner = all-heights-back ds more whole in
         let split = taken (all_heights ds) (heights_of more) (count_of ds) (count-heights ds) in
-        let front : highest (take (count_of ds) (heights_of (all_parts ds ++ more))) ≡ greatest_height ds =
+        let prefix : highest (take (count_of ds) (heights_of (all_parts ds ++ more))) ≡ greatest_height ds =
         ap (λ l. highest (take (count_of ds) l)) inner ∙ ap highest split.0 ∙ highest-is ds in
         let back : drop (count_of ds) (heights_of (all_parts ds ++ more)) ≡ heights_of more =
         ap (drop (count_of ds)) inner ∙ split.1 in
-        λ i. (1 + front i) ∷ back i
+        λ i. (1 + prefix i) ∷ back i
     height-back (gap atom) more whole = absurd whole
     height-back open_place more whole = absurd whole
 

@@ -42,8 +42,8 @@ both-inside : (one other : List ℕ) → is_in_line one ≡ true → is_in_line 
 both-inside one other a b = list_all-append is_inside one other ∙ rw (a, b) refl
 
 -- an ASCII byte is its character
-pub ascii-front : (c : ℕ) (bytes : List ℕ) → c < 128 → chars (c ∷ bytes) ≡ c ∷ chars bytes
-ascii-front c bytes below =
+pub ascii-prefix : (c : ℕ) (bytes : List ℕ) → c < 128 → chars (c ∷ bytes) ≡ c ∷ chars bytes
+ascii-prefix c bytes below =
     let is : IsAscii (c ∷ []) = IsAscii-cons c [] below IsAscii-nil in
     chars-append (c ∷ []) bytes (IsUtf8-from_ascii (c ∷ []) is) ∙ ap (λ cs. cs ++ chars bytes) (chars-IsAscii (c ∷ []) is)
 
@@ -99,7 +99,7 @@ space-reads bytes lexeme lexemes reads =
         record {
           blanks = 32 ∷ old.blanks;
           text = old.text;
-          whole = ascii-front 32 bytes (omega arith) ∙ ap (λ cs. 32 ∷ cs) old.whole;
+          whole = ascii-prefix 32 bytes (omega arith) ∙ ap (λ cs. 32 ∷ cs) old.whole;
           blank = old.blank;
           is_lexeme = old.is_lexeme;
           ends = old.ends;
@@ -115,19 +115,19 @@ nothing-ends = rw chars-nil refl
 
 pub space-ends : (bytes : List ℕ) → Ends (32 ∷ bytes)
 unfolding unicode_ident
-space-ends bytes = rw (ascii-front 32 bytes (omega arith)) refl
+space-ends bytes = rw (ascii-prefix 32 bytes (omega arith)) refl
 
 pub comma-ends : (bytes : List ℕ) → Ends (44 ∷ bytes)
 unfolding unicode_ident
-comma-ends bytes = rw (ascii-front 44 bytes (omega arith)) refl
+comma-ends bytes = rw (ascii-prefix 44 bytes (omega arith)) refl
 
 pub opening-ends : (bytes : List ℕ) → Ends (40 ∷ bytes)
 unfolding unicode_ident
-opening-ends bytes = rw (ascii-front 40 bytes (omega arith)) refl
+opening-ends bytes = rw (ascii-prefix 40 bytes (omega arith)) refl
 
 pub closing-ends : (bytes : List ℕ) → Ends (41 ∷ bytes)
 unfolding unicode_ident
-closing-ends bytes = rw (ascii-front 41 bytes (omega arith)) refl
+closing-ends bytes = rw (ascii-prefix 41 bytes (omega arith)) refl
 
 -- ---- numbers
 

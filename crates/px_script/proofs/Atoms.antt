@@ -143,16 +143,16 @@ pub record AreRight (d : Declared) (manner : Manner) (xs : List SignedAtom) : Ty
   pub bound : list_any (λ a. not (takes d manner a)) (arguments_of xs) ≡ false
 
 -- What terms have that may stand: objects and variables of this many have it, and the wild card where it is accepted.
-record Accepts (d : Declared) (variables : List (List ℕ)) (vars : ℕ) (accepts : Argument → Bool) (P : Term → Type 0) : Type 0 where
+record Accepts (d : Declared) (variables : List (List ℕ)) (variable_count : ℕ) (accepts : Argument → Bool) (P : Term → Type 0) : Type 0 where
   object : (k : ℕ) → k < length d.names.objects → P (Obj k)
-  variable : (k : ℕ) → k < vars → P (Var k)
+  variable : (k : ℕ) → k < variable_count → P (Var k)
   wild : accepts anything ≡ true → P Any
   bound : (v : List ℕ) → accepts (open_variable v) ≡ true → has_name v variables ≡ true
-  parameters : length (parameters_here d) ≤ vars
-  few : length variables ≤ vars
+  parameters : length (parameters_here d) ≤ variable_count
+  few : length variables ≤ variable_count
 
-module _ (d : Declared) (predicates : length d.arities ≡ length d.names.predicates) (variables : List (List ℕ)) (vars : ℕ)
-    (accepts : Argument → Bool) (P : Term → Type 0) (a : Accepts d variables vars accepts P) where
+module _ (d : Declared) (predicates : length d.arities ≡ length d.names.predicates) (variables : List (List ℕ)) (variable_count : ℕ)
+    (accepts : Argument → Bool) (P : Term → Type 0) (a : Accepts d variables variable_count accepts P) where
   abbrev term : Argument → Term
   term = term_of (parameters_here d) variables d.names.objects
 
@@ -237,15 +237,15 @@ none-few n = omega arith
 module _ (d : Declared) (r : AreInRange d) (xs : List SignedAtom) where
   -- a line whose atoms have names alone as arguments
   pub atoms-with : (manner : Manner) → takes d manner anything ≡ false → ((v : List ℕ) → takes d manner (open_variable v) ≡ false)
-      → (vars : ℕ) → length (parameters_here d) ≤ vars → AreRight d manner xs → All (IsAtomOf (own_problem d) vars) (map (atom_of d []) xs)
-  atoms-with manner wild variable vars parameters right =
-      atoms-are d r.problem.predicates [] vars (takes d manner) (IsTermOf (own_problem d) vars) (search (none-few, both_answers))
+      → (variable_count : ℕ) → length (parameters_here d) ≤ variable_count → AreRight d manner xs → All (IsAtomOf (own_problem d) variable_count) (map (atom_of d []) xs)
+  atoms-with manner wild variable variable_count parameters right =
+      atoms-are d r.problem.predicates [] variable_count (takes d manner) (IsTermOf (own_problem d) variable_count) (search (none-few, both_answers))
       xs right right.bound
 
-  pub patterns-with : (vars : ℕ) → length (parameters_here d) ≤ vars → AreRight d patterns xs
-      → All (IsPatternOf (own_problem d) vars) (map (atom_of d []) xs)
-  patterns-with vars parameters right =
-      atoms-are d r.problem.predicates [] vars (takes d patterns) (IsPatternTermOf (own_problem d) vars) (search none-few)
+  pub patterns-with : (variable_count : ℕ) → length (parameters_here d) ≤ variable_count → AreRight d patterns xs
+      → All (IsPatternOf (own_problem d) variable_count) (map (atom_of d []) xs)
+  patterns-with variable_count parameters right =
+      atoms-are d r.problem.predicates [] variable_count (takes d patterns) (IsPatternTermOf (own_problem d) variable_count) (search none-few)
       xs right right.bound
 
   -- atoms with variables, numbered as they occur, and without a wild card

@@ -15,9 +15,9 @@ scan-more n (x ∷ xs) c = ap (λ t. disturbs_after n x ∷ t) (scan-more (distu
 
 pub more-results : (version : ℕ) (problem : Problem) (building : Option (List Thing)) (old new : ℕ) → old ≤ new → (command : Command)
     → IsCommandOf version problem building old command → IsCommandOf version problem building new command
-more-results version problem building old new le (Plan name goal vars) h = (omega (arith, h.0, le), h.1)
-more-results version problem building old new le (Pursue name goal vars) h = (omega (arith, h.0, le), h.1)
-more-results version problem building old new le (Tree name nodes goal vars) h = (omega (arith, h.0, le), h.1, h.2)
+more-results version problem building old new le (Plan name goal variable_count) h = (omega (arith, h.0, le), h.1)
+more-results version problem building old new le (Pursue name goal variable_count) h = (omega (arith, h.0, le), h.1)
+more-results version problem building old new le (Tree name nodes goal variable_count) h = (omega (arith, h.0, le), h.1, h.2)
 more-results version problem building old new le (Learn name source) h = (omega (arith, h.0, le), omega (arith, h.1, le))
 more-results version problem building old new le (Ask about name) h = omega (arith, h, le)
 more-results version problem building old new le (Run name bindings) h = (omega (arith, h.0, le), h.1, h.2)
@@ -69,12 +69,12 @@ none-given gives (c ∷ commands) none = absurd (omega (arith, none))
 module _ (version : ℕ) (p q : Problem) (things : List Thing) (first : List ℕ) (results : ℕ) (objects : p.objects ≡ q.objects)
     (more : Grows p q) where
   command-moved : (c : Command) → IsCommandOf version p (Some things) results c → IsCommandOf version q (Some things) results c
-  command-moved (Plan name goal vars) h =
-      (h.0, assumption (atoms-kept p q more vars goal h.1.atoms, λ (none : q.objects ≡ 0). h.1.no_objects (objects ∙ none)))
-  command-moved (Pursue name goal vars) h =
-      (h.0, assumption (atoms-kept p q more vars goal h.1.atoms, λ (none : q.objects ≡ 0). h.1.no_objects (objects ∙ none)))
-  command-moved (Tree name nodes goal vars) h =
-      (h.0, h.1, assumption (atoms-kept p q more vars goal h.2.atoms, λ (none : q.objects ≡ 0). h.2.no_objects (objects ∙ none)))
+  command-moved (Plan name goal variable_count) h =
+      (h.0, assumption (atoms-kept p q more variable_count goal h.1.atoms, λ (none : q.objects ≡ 0). h.1.no_objects (objects ∙ none)))
+  command-moved (Pursue name goal variable_count) h =
+      (h.0, assumption (atoms-kept p q more variable_count goal h.1.atoms, λ (none : q.objects ≡ 0). h.1.no_objects (objects ∙ none)))
+  command-moved (Tree name nodes goal variable_count) h =
+      (h.0, h.1, assumption (atoms-kept p q more variable_count goal h.2.atoms, λ (none : q.objects ≡ 0). h.2.no_objects (objects ∙ none)))
   command-moved (DisturbAtoms turn between edits) h = let no = h.1 in cc
   command-moved (Run name bindings) h = (h.0, (λ k d below. let is = h.1 k d below in (is.0, is.1, omega (arith, is.2, objects))), h.2)
   command-moved _ h = h

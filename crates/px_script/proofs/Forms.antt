@@ -43,11 +43,11 @@ pub record ReadsBack {A : Type 0} (good : A → Bool) (one : List Lexeme → Opt
 
 module _ {A : Type 0} (good : A → Bool) (one : List Lexeme → Option (A × List Lexeme)) (spell : A → List Lexeme)
     (back : ReadsBack good one spell) where
-  all-step : (n : ℕ) (lexemes : List Lexeme) (front : A × List Lexeme) → 0 < length lexemes → one lexemes ≡ Some front
-      → all_within one (suc n) lexemes ≡ option_map (λ more. front.0 ∷ more) (all_within one n front.1)
+  all-step : (n : ℕ) (lexemes : List Lexeme) (prefix : A × List Lexeme) → 0 < length lexemes → one lexemes ≡ Some prefix
+      → all_within one (suc n) lexemes ≡ option_map (λ more. prefix.0 ∷ more) (all_within one n prefix.1)
   unfolding all_within
-  all-step n [] front long e = absurd (omega (arith, long))
-  all-step n (x ∷ xs) front long e = rw e refl
+  all-step n [] prefix long e = absurd (omega (arith, long))
+  all-step n (x ∷ xs) prefix long e = rw e refl
 
   all-closed : (items : List A) → not_open (flat_map spell items) ≡ true
   all-closed [] = refl
@@ -71,7 +71,7 @@ module _ {A : Type 0} (good : A → Bool) (one : List Lexeme → Option (A × Li
 
 -- What a reader of one thing reads is spelled so.
 abbrev pub ReadsSpelled : {A : Type 0} → (List Lexeme → Option (A × List Lexeme)) → (A → List Lexeme) → Type 0
-ReadsSpelled one spell = (lexemes : List Lexeme) → IfSome (one lexemes) (λ front. lexemes ≡ spell front.0 ++ front.1)
+ReadsSpelled one spell = (lexemes : List Lexeme) → IfSome (one lexemes) (λ prefix. lexemes ≡ spell prefix.0 ++ prefix.1)
 
 pub all-sound : {A : Type 0} (one : List Lexeme → Option (A × List Lexeme)) (spell : A → List Lexeme) → ReadsSpelled one spell
     → (n : ℕ) (lexemes : List Lexeme) → IfSome (all_within one n lexemes) (λ items. lexemes ≡ flat_map spell items)
@@ -79,8 +79,8 @@ unfolding all_within
 all-sound one spell are zero [] = refl
 all-sound one spell are zero (x ∷ xs) = tt
 all-sound one spell are (suc n) [] = refl
-all-sound one spell are (suc n) (x ∷ xs) = then-there _ _ (one (x ∷ xs)) (are (x ∷ xs)) (λ front is.
-    map-there _ _ (all_within one n front.1) (all-sound one spell are n front.1) (λ more rest. is ∙ ap (λ t. spell front.0 ++ t) rest))
+all-sound one spell are (suc n) (x ∷ xs) = then-there _ _ (one (x ∷ xs)) (are (x ∷ xs)) (λ prefix is.
+    map-there _ _ (all_within one n prefix.1) (all-sound one spell are n prefix.1) (λ more rest. is ∙ ap (λ t. spell prefix.0 ++ t) rest))
 
 -- ---- lists in parentheses
 
@@ -169,8 +169,8 @@ names-among-sound (named n ∷ more) = map-there _ _ (names_among more) (names-a
 names-among-sound _ = tt
 
 pub names-at-sound : (lexemes : List Lexeme) → IfSome (names_at lexemes) (λ r. lexemes ≡ parenthesised (map name r.0) ++ r.1)
-names-at-sound lexemes = then-there _ _ (items_at argument_of lexemes) (arguments-sound lexemes) (λ front is.
-    map-there _ _ (names_among front.0) (names-among-sound front.0) (λ ns names. is ∙ ap (λ t. parenthesised t ++ front.1) names))
+names-at-sound lexemes = then-there _ _ (items_at argument_of lexemes) (arguments-sound lexemes) (λ prefix is.
+    map-there _ _ (names_among prefix.0) (names-among-sound prefix.0) (λ ns names. is ∙ ap (λ t. parenthesised t ++ prefix.1) names))
 
 pub names-again : (ns : List (List ℕ)) → names_of (map name ns ++ []) ≡ Some ns
 names-again [] = refl
@@ -284,14 +284,14 @@ sign-sound s = if-there _ _ _ (s == 126) (λ e. rw (eqb-true s 126 e) refl) (λ 
     (λ e. rw (eqb-true s 43 e) refl) (λ e. if-there _ _ _ (s == 45) (λ e. rw (eqb-true s 45 e) refl) (λ e. tt)))
 
 atom-after-sound : (before : Sign) (lexemes : List Lexeme)
-    → IfSome (atom_after before lexemes) (λ front. spell_sign before ++ lexemes ≡ spell_atom front.0 ++ front.1)
+    → IfSome (atom_after before lexemes) (λ prefix. spell_sign before ++ lexemes ≡ spell_atom prefix.0 ++ prefix.1)
 atom-after-sound before (name p ∷ rest) =
-    map-there _ _ (items_at argument_of rest) (arguments-sound rest) (λ front is. rw (is, append_assoc) refl)
+    map-there _ _ (items_at argument_of rest) (arguments-sound rest) (λ prefix is. rw (is, append_assoc) refl)
 atom-after-sound before _ = tt
 
 pub atom-sound : ReadsSpelled atom_at spell_atom
 atom-sound (sign s ∷ rest) = then-there _ _ (sign_of s) (sign-sound s)
-    (λ before is. IfSome_then (atom_after before rest) (atom-after-sound before rest) (λ front e. ap (λ t. t ++ rest) is ∙ e))
+    (λ before is. IfSome_then (atom_after before rest) (atom-after-sound before rest) (λ prefix e. ap (λ t. t ++ rest) is ∙ e))
 atom-sound lexemes = atom-after-sound bare lexemes
 
 pub room-edit-sound : ReadsSpelled room_edit_at spell_room_edit
@@ -328,20 +328,20 @@ terms-sound (sign s ∷ rest) = if-there _ _ _ (s == 40) (λ e. IfSome_then (ter
     (λ r is. ap (λ t. sign t ∷ rest) (eqb-true s 40 e) ∙ is)) (λ e. tt)
 terms-sound _ = tt
 
-fact-sound : (lexemes : List Lexeme) → IfSome (fact_at lexemes) (λ front. name (codes "f") ∷ lexemes ≡ spell_part front.0 ++ front.1)
+fact-sound : (lexemes : List Lexeme) → IfSome (fact_at lexemes) (λ prefix. name (codes "f") ∷ lexemes ≡ spell_part prefix.0 ++ prefix.1)
 fact-sound (number j ∷ number k ∷ rest) =
-    map-there _ _ (atom_at rest) (atom-sound rest) (λ front is. ap (λ t. name (codes "f") ∷ number j ∷ number k ∷ t) is)
+    map-there _ _ (atom_at rest) (atom-sound rest) (λ prefix is. ap (λ t. name (codes "f") ∷ number j ∷ number k ∷ t) is)
 fact-sound (number j ∷ _) = tt
 fact-sound _ = tt
 
 ancestor-sound : (lexemes : List Lexeme)
-    → IfSome (ancestor_at lexemes) (λ front. name (codes "a") ∷ lexemes ≡ spell_part front.0 ++ front.1)
+    → IfSome (ancestor_at lexemes) (λ prefix. name (codes "a") ∷ lexemes ≡ spell_part prefix.0 ++ prefix.1)
 ancestor-sound (number k ∷ rest) = refl
 ancestor-sound _ = tt
 
-axiom-sound : (lexemes : List Lexeme) → IfSome (axiom_at lexemes) (λ front. name (codes "s") ∷ lexemes ≡ spell_part front.0 ++ front.1)
+axiom-sound : (lexemes : List Lexeme) → IfSome (axiom_at lexemes) (λ prefix. name (codes "s") ∷ lexemes ≡ spell_part prefix.0 ++ prefix.1)
 axiom-sound (number k ∷ number place ∷ number count ∷ rest) = map-there _ _ (terms_at rest) (terms-sound rest)
-    (λ front is. ap (λ t. name (codes "s") ∷ number k ∷ number place ∷ number count ∷ t) is)
+    (λ prefix is. ap (λ t. name (codes "s") ∷ number k ∷ number place ∷ number count ∷ t) is)
 axiom-sound (number k ∷ number place ∷ _) = tt
 axiom-sound (number k ∷ _) = tt
 axiom-sound _ = tt

@@ -103,7 +103,7 @@ module _ (n : ℕ) (d : Declared) (line : ℕ) (o : OpenOperator) where
       let old = carried c q d.things r grows (saved-kept c q d.things refl r grows) f.order.after in
       let counts : length d.names.operators ≡ length all = omega (arith, length-append d.schemas (o.schema ∷ []), is.named) in
       let few = r.names.few_operators in let short : length all < u32_max = omega (arith, counts, few) in
-      let none : length d.names.objects ≡ 0 → All (λ schema. schema.params ≡ 0) all × All (λ clause. clause.vars ≡ 0) d.axioms = λ empty.
+      let none : length d.names.objects ≡ 0 → All (λ schema. schema.params ≡ 0) all × All (λ clause. clause.variable_count ≡ 0) d.axioms = λ empty.
       let no = old.no_objects empty in (All-push (λ schema. schema.params ≡ 0) d.schemas o.schema no.0 (is.no_objects empty), no.1) in
       let of = schema-kept (own_problem d) q more (omega arith) _ o.schema is.schema in
       let each = each-pushed (IsSchemaOf q) d.schemas o.schema no_schema old.schemas of in
@@ -500,7 +500,7 @@ module _ (d : Declared) where
       let few_objects = few-objects d.version p.objects r.names.few_objects in
       let light = buildings_are_valid p.objects p.height p.nodes p.shapes (some, few_objects) l.height l.nodes l.shapes in
       let valid : IsValid q = heavier _ p.weight l.weight light in
-      let laws = All-from_recursion (λ clause. AreNumbered clause.vars (map (λ lit. lit.atom) clause.lits)) (both_ways ∷ []) (refl, tt) in
+      let laws = All-from_recursion (λ clause. AreNumbered clause.variable_count (map (λ lit. lit.atom) clause.lits)) (both_ways ∷ []) (refl, tt) in
       let schemas = All-from_recursion (HasShortLists d.version) room_schemas (search leb-true depth 20) in
       let count = sym (ap length is.predicates_are) in let operators = ap length is.operators_are in
       let few = (no-own things true d.names [] d.version (rendering (first_state things))).1 in

@@ -151,7 +151,7 @@ saved-kept d q things same r more = λ k one below. saved-grows (problem_here d)
 pub record IsCarried (d : Declared) (q : Problem) (things : Option (List Thing)) : Type 0 where
   pub schemas : EachIndex d.schemas (λ k. IsSchemaOf q k (slice_index_or d.schemas k no_schema))
   pub axioms : All (IsAxiomOf q) d.axioms
-  pub no_objects : q.objects ≡ 0 → All (λ schema. schema.params ≡ 0) d.schemas × All (λ clause. clause.vars ≡ 0) d.axioms
+  pub no_objects : q.objects ≡ 0 → All (λ schema. schema.params ≡ 0) d.schemas × All (λ clause. clause.variable_count ≡ 0) d.axioms
   pub facts : All (IsAtomOf q 0) d.facts
   pub saved : All (λ one. IsSavedTable d.version (problem_of q things) one.1) d.saved
   pub commands : CommandsInRange d.version q things (from_blocks d) (length d.names.results) d.commands
@@ -286,8 +286,8 @@ module _ (n : ℕ) (d : Declared) where
 
     pub axiom-kept : (xs : List SignedAtom) → (not (is_empty xs) && true) ≡ true → Keeps n alone («axiom» xs)
     axiom-kept xs filled f = let has : HasAtoms (line_of («axiom» xs)) xs = record { atoms = refl; arguments = refl } in
-        let c = clause_of alone xs in let vars = variable_names_of xs in
-        let count : length c.lits ≡ length xs = length-map xs (literal_of alone vars) in let least = some-items xs filled in
+        let c = clause_of alone xs in let variable_count = variable_names_of xs in
+        let count : length c.lits ≡ length xs = length-map xs (literal_of alone variable_count) in let least = some-items xs filled in
         let most : length xs ≤ 6 = at-most _ _ f.limits.1.0 in
         let atoms = atoms-open alone r xs refl literals refl (atoms-right alone («axiom» xs) xs has f.right) in
         let all = d.axioms ++ c ∷ [] in let q : Problem = record p { axioms = all } in let more = alike p q refl refl in
@@ -300,19 +300,19 @@ module _ (n : ℕ) (d : Declared) where
           object_sorts = ([], sym (append-nil p.object_sorts));
         } in
         let few : length all ≤ 64 = rw length-append (at-most _ _ f.limits.0) in
-        let lits = All-map (λ lit. IsAtomOf p (length vars) lit.atom) (literal_of alone vars) xs
-        (unmap (atom_of alone vars) (IsAtomOf p (length vars)) xs atoms) in
-        let is : IsAxiomOf p c = record { vars = at-most _ _ f.limits.1.1.0; lits = lits } in
-        let N : Clause → Type 0 = λ clause. AreNumbered clause.vars (map (λ lit. lit.atom) clause.lits) in
+        let lits = All-map (λ lit. IsAtomOf p (length variable_count) lit.atom) (literal_of alone variable_count) xs
+        (unmap (atom_of alone variable_count) (IsAtomOf p (length variable_count)) xs atoms) in
+        let is : IsAxiomOf p c = record { variable_count = at-most _ _ f.limits.1.1.0; lits = lits } in
+        let N : Clause → Type 0 = λ clause. AreNumbered clause.variable_count (map (λ lit. lit.atom) clause.lits) in
         let old = carried alone q None r grows (saved-kept alone q None refl r grows) f.order.after in
-        let none : q.objects ≡ 0 → All (λ schema. schema.params ≡ 0) d.schemas × All (λ clause. clause.vars ≡ 0) all = λ empty.
+        let none : q.objects ≡ 0 → All (λ schema. schema.params ≡ 0) d.schemas × All (λ clause. clause.variable_count ≡ 0) all = λ empty.
         let no = old.no_objects empty in let new = no-variables alone (line_of («axiom» xs)) xs has f.order.early empty in
-        (no.0, All-push (λ clause. clause.vars ≡ 0) d.axioms c no.1 new) in
+        (no.0, All-push (λ clause. clause.variable_count ≡ 0) d.axioms c no.1 new) in
         let axioms = All-push (IsAxiomOf q) d.axioms c old.axioms (of-axiom-kept p q more c is) in
         let clauses = All-push IsClause d.axioms c r.problem.valid.arena.each
         (axiom-clause p c (omega (arith, count, least), omega (arith, count, most)) is) in
         let in_order = All-push N d.axioms c r.problem.axiom_variables
-        (subst (AreNumbered (length vars)) (sym (literal-atoms vars xs)) (numbered alone xs refl)) in
+        (subst (AreNumbered (length variable_count)) (sym (literal-atoms variable_count xs)) (numbered alone xs refl)) in
         assumption (old, axioms, clauses, in_order, in-version alone r, owned d.names d.arities)
       where
         -- the literals of an axiom are atoms with signs

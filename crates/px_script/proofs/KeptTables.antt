@@ -227,7 +227,7 @@ module _ (n : ℕ) (d : Declared) where
       let few = at-most _ _ f.limits.1.0 in let few_now : length now ≤ greatest d.version limit.tables =
       omega (arith, few, sizes, saved_count) in
       let small = at-most last_number count (or_parts (nat_lt last_number count) false f.limits.0).0 in
-      let fresh_table : WrittenTable = record { name = k; parameters = count; steps = []; goal = []; goal_vars = 0; rows = [] } in
+      let fresh_table : WrittenTable = record { name = k; parameters = count; steps = []; goal = []; goal_variable_count = 0; rows = [] } in
       let begun : IsTableBegun d.version fresh_table = record {
         short = omega arith;
         few_parameters = small;
@@ -268,7 +268,7 @@ module _ (n : ℕ) (d : Declared) (line : ℕ) (t : WrittenTable) where
       let size : length atoms ≡ length xs = length-map xs (atom_of steps_block (table_variables steps_block)) in
       let some = some-items xs filled in let few = at-most _ _ f.limits.0 in
       let aimed : IsTableAimed d.version (length d.names.objects)
-      (record t { goal = atoms; goal_vars = goal_variables steps_block xs }) = record {
+      (record t { goal = atoms; goal_variable_count = goal_variables steps_block xs }) = record {
         begun = record { short = is.short; few_parameters = is.few_parameters; low = is.low; closed = is.closed };
         some = omega (arith, size, some);
         few_atoms = omega (arith, size, few);
@@ -294,12 +294,12 @@ module _ (n : ℕ) (d : Declared) (line : ℕ) (t : WrittenTable) where
 
   -- the table that the block's parts make is one of the script
   made-saved : (p : Problem) → p.objects ≡ length d.names.objects → IsTableAimed d.version (length d.names.objects) t
-      → rows_are_table p t.parameters (sorts_by_places p t.steps t.parameters) t.steps t.goal t.goal_vars t.rows ≡ true
+      → rows_are_table p t.parameters (sorts_by_places p t.steps t.parameters) t.steps t.goal t.goal_variable_count t.rows ≡ true
       → IsSavedTable d.version p (table_made p t)
   made-saved p objects is right = let rows = rows-back t.rows is.begun.closed in let made = table_made p t in
       let marked : pointwise mark_eq made.marks made.marks ≡ true = (pointwise_decides mark_eq-decides made.marks made.marks).1 refl in
       let sorts = sorts_by_places p t.steps t.parameters in
-      let passes = ap (rows_are_table p t.parameters sorts t.steps t.goal t.goal_vars) rows ∙ right in record {
+      let passes = ap (rows_are_table p t.parameters sorts t.steps t.goal t.goal_variable_count) rows ∙ right in record {
         is_one = both _ _ passes marked;
         short = is.begun.short;
         low = subst (All (All (λ e. height_of e ≤ greatest d.version limit.proof_height))) (sym rows) is.begun.low;

@@ -2,30 +2,30 @@
 use Rattle.unicode_ident.proofs.Computing.{unicode_ident}
 use Rattle.px_script.proofs.Common.{is_xid_start-is_xid_continue, Lexeme, name, variable, number, sign, is_blank, is_sign, goes_on, is_comment, IsLexeme, ends_before, Begins, IsIgnored, ◌≡◌, ℕ, ◌<◌, ◌≤◌, Bool, true, false, not, ◌&&◌, ◌||◌, ◌==◌, List, [], ◌∷◌, ◌++◌, length, refl, sym, ap, ◌∙◌, subst, inl, inr, arith, eqb-true, leb-true, length-append, list_any, list_all, AllByRecursion, all_ascii_digits, is_ascii_digit, and_parts, cond, not-true, or_cases, is_xid_continue, is_xid_start-ascii, is_xid_continue-ascii, both_answers, starts_name}
 use Rattle.px_script.proofs.Lists.{by_test}
-use Rattle.px_script.proofs.Scanning.{First, found, ignored, bad, front_while, after_while, first_number, first_variable, first_at, first, stops}
+use Rattle.px_script.proofs.Scanning.{First, found, ignored, bad, prefix_while, after_while, first_number, first_variable, first_at, first, stops}
 
--- ---- the longest front of a list that passes a test
+-- ---- the longest prefix of a list that passes a test
 
 module _ (p : ℕ → Bool) where
-  pub front-after : (cs : List ℕ) → front_while p cs ++ after_while p cs ≡ cs
-  front-after [] = refl
-  front-after (c ∷ cs) = by_test (p c) (λ e. rw e (ap (λ t. c ∷ t) (front-after cs))) (λ e. rw e refl)
+  pub prefix-after : (cs : List ℕ) → prefix_while p cs ++ after_while p cs ≡ cs
+  prefix-after [] = refl
+  prefix-after (c ∷ cs) = by_test (p c) (λ e. rw e (ap (λ t. c ∷ t) (prefix-after cs))) (λ e. rw e refl)
 
-  pub front-all : (cs : List ℕ) → list_all p (front_while p cs) ≡ true
-  front-all [] = refl
-  front-all (c ∷ cs) = by_test (p c) (λ e. rw (e, e) (front-all cs)) (λ e. rw e refl)
+  pub prefix-all : (cs : List ℕ) → list_all p (prefix_while p cs) ≡ true
+  prefix-all [] = refl
+  prefix-all (c ∷ cs) = by_test (p c) (λ e. rw (e, e) (prefix-all cs)) (λ e. rw e refl)
 
   after-stops : (cs : List ℕ) → stops p (after_while p cs) ≡ true
   after-stops [] = refl
   after-stops (c ∷ cs) = by_test (p c) (λ e. rw e (after-stops cs)) (λ e. rw (e, e) refl)
 
-  -- a front that passes, before what stops
-  pub front-is : (front rest : List ℕ) → list_all p front ≡ true → stops p rest ≡ true → front_while p (front ++ rest) ≡ front
-  front-is [] [] all stop = refl
-  front-is [] (c ∷ cs) all stop = rw (not-true (p c) stop) refl
-  front-is (c ∷ cs) rest all stop = let both = and_parts (p c) _ all in rw both.0 (ap (λ t. c ∷ t) (front-is cs rest both.1 stop))
+  -- a prefix that passes, before what stops
+  pub prefix-is : (prefix rest : List ℕ) → list_all p prefix ≡ true → stops p rest ≡ true → prefix_while p (prefix ++ rest) ≡ prefix
+  prefix-is [] [] all stop = refl
+  prefix-is [] (c ∷ cs) all stop = rw (not-true (p c) stop) refl
+  prefix-is (c ∷ cs) rest all stop = let both = and_parts (p c) _ all in rw both.0 (ap (λ t. c ∷ t) (prefix-is cs rest both.1 stop))
 
-  pub after-is : (front rest : List ℕ) → list_all p front ≡ true → stops p rest ≡ true → after_while p (front ++ rest) ≡ rest
+  pub after-is : (prefix rest : List ℕ) → list_all p prefix ≡ true → stops p rest ≡ true → after_while p (prefix ++ rest) ≡ rest
   after-is [] [] all stop = refl
   after-is [] (c ∷ cs) all stop = rw (not-true (p c) stop) refl
   after-is (c ∷ cs) rest all stop = let both = and_parts (p c) _ all in rw both.0 (after-is cs rest both.1 stop)
@@ -89,18 +89,18 @@ unfolding unicode_ident
 at-lexeme (name n) [] rest is ends = let no = is.0 in cc
 at-lexeme (name n) (c ∷ cs) rest is ends = let both = and_parts (starts_name c) (list_all is_xid_continue cs) is.0 in
     let stop = stops-name rest ∙ ap not ends in
-    rw (both.0, front-is is_xid_continue cs rest both.1 stop, after-is is_xid_continue cs rest both.1 stop, is.1) refl
+    rw (both.0, prefix-is is_xid_continue cs rest both.1 stop, after-is is_xid_continue cs rest both.1 stop, is.1) refl
 at-lexeme (variable n) [] rest is ends = absurd is
 at-lexeme (variable n) (m ∷ []) rest is ends = let no = is.1 in cc
 at-lexeme (variable n) (m ∷ c ∷ cs) rest is ends = let both = and_parts (starts_name c) (list_all is_xid_continue cs) is.1 in
     let stop = stops-name rest ∙ ap not ends in
-    rw (is.0, both.0, front-is is_xid_continue cs rest both.1 stop, after-is is_xid_continue cs rest both.1 stop, is.2) refl
+    rw (is.0, both.0, prefix-is is_xid_continue cs rest both.1 stop, after-is is_xid_continue cs rest both.1 stop, is.2) refl
 at-lexeme (number n) [] rest is ends = absurd (omega (arith, is.0))
 at-lexeme (number n) (c ∷ cs) rest is ends =
     let both = and_parts (is_ascii_digit c) (list_all is_ascii_digit cs) (sym (digits-all (c ∷ cs)) ∙ is.1) in
     let range = digit-range c both.0 in
     let hash : (c == 35) ≡ false = grind (arith, range.0) in let mark : (c == 63) ≡ false = grind (arith, range.1) in
-    let stop = stops-digit rest ends in let whole = front-is is_ascii_digit cs rest both.1 stop in
+    let stop = stops-digit rest ends in let whole = prefix-is is_ascii_digit cs rest both.1 stop in
     rw (digit-starts c both.0, hash, mark, both.0, whole, after-is is_ascii_digit cs rest both.1 stop, ends, is.2) refl
 at-lexeme (sign s) text rest is ends = rw is.1 (sign-first s rest is.0)
 
@@ -145,21 +145,21 @@ module _ (blanks : List ℕ) (blank : list_all is_blank blanks ≡ true) where
   variable-says : (cs : List ℕ) → FirstSays (63 ∷ cs) (first_variable cs)
   variable-says [] = tt
   variable-says (c ∷ cs) = either (63 ∷ c ∷ cs) _ _ (starts_name c)
-      (λ starts. begins (variable _) (63 ∷ c ∷ front_while is_xid_continue cs) (after_while is_xid_continue cs) (63 ∷ c ∷ cs)
-      (ap (λ t. 63 ∷ c ∷ t) (front-after is_xid_continue cs)) (refl, rw starts (front-all is_xid_continue cs), refl) (name-ends cs))
+      (λ starts. begins (variable _) (63 ∷ c ∷ prefix_while is_xid_continue cs) (after_while is_xid_continue cs) (63 ∷ c ∷ cs)
+      (ap (λ t. 63 ∷ c ∷ t) (prefix-after is_xid_continue cs)) (refl, rw starts (prefix-all is_xid_continue cs), refl) (name-ends cs))
       (λ e. tt)
 
   number-says : (c : ℕ) (cs : List ℕ) → is_ascii_digit c ≡ true → FirstSays (c ∷ cs) (first_number (c ∷ cs))
   number-says c cs digit = either (c ∷ cs) _ _ (goes_on (after_while is_ascii_digit (c ∷ cs))) (λ e. tt)
-      (begins (number _) (front_while is_ascii_digit (c ∷ cs)) (after_while is_ascii_digit (c ∷ cs)) (c ∷ cs)
-      (front-after is_ascii_digit (c ∷ cs))
-      (rw digit (omega arith), digits-all (front_while is_ascii_digit (c ∷ cs)) ∙ front-all is_ascii_digit (c ∷ cs), refl))
+      (begins (number _) (prefix_while is_ascii_digit (c ∷ cs)) (after_while is_ascii_digit (c ∷ cs)) (c ∷ cs)
+      (prefix-after is_ascii_digit (c ∷ cs))
+      (rw digit (omega arith), digits-all (prefix_while is_ascii_digit (c ∷ cs)) ∙ prefix-all is_ascii_digit (c ∷ cs), refl))
 
   first-says : (cs : List ℕ) → FirstSays cs (first_at cs)
   first-says [] = refl
   first-says (c ∷ cs) = either (c ∷ cs) _ _ (starts_name c)
-      (λ starts. begins (name _) (c ∷ front_while is_xid_continue cs) (after_while is_xid_continue cs) (c ∷ cs)
-      (ap (λ t. c ∷ t) (front-after is_xid_continue cs)) (rw starts (front-all is_xid_continue cs), refl) (name-ends cs))
+      (λ starts. begins (name _) (c ∷ prefix_while is_xid_continue cs) (after_while is_xid_continue cs) (c ∷ cs)
+      (ap (λ t. c ∷ t) (prefix-after is_xid_continue cs)) (rw starts (prefix-all is_xid_continue cs), refl) (name-ends cs))
       (λ e. either (c ∷ cs) _ _ (c == 35) (λ hash. hash) (λ e. either (c ∷ cs) _ _ (c == 63)
       (λ mark. let P : ℕ → Type 0 = λ x. FirstSays (x ∷ cs) (first_variable cs) in at_code P c 63 mark (variable-says cs))
       (λ e. either (c ∷ cs) _ _ (is_ascii_digit c) (number-says c cs)
@@ -169,12 +169,12 @@ module _ (blanks : List ℕ) (blank : list_all is_blank blanks ≡ true) where
   said cs f e = subst (FirstSays cs) e (first-says cs)
 
 pub found-begins : (line : List ℕ) (l : Lexeme) (rest : List ℕ) → first line ≡ found l rest → Begins line l rest
-found-begins line l rest e = subst (λ t. Begins t l rest) (front-after is_blank line)
-    (said (front_while is_blank line) (front-all is_blank line) (after_while is_blank line) (found l rest) e)
+found-begins line l rest e = subst (λ t. Begins t l rest) (prefix-after is_blank line)
+    (said (prefix_while is_blank line) (prefix-all is_blank line) (after_while is_blank line) (found l rest) e)
 
 pub scanned-ignored : (line : List ℕ) → first line ≡ ignored → IsIgnored line
-scanned-ignored line e = let blanks = front_while is_blank line in let rest = after_while is_blank line in
-    let a = front-after is_blank line in let b = front-all is_blank line in
+scanned-ignored line e = let blanks = prefix_while is_blank line in let rest = after_while is_blank line in
+    let a = prefix-after is_blank line in let b = prefix-all is_blank line in
     record { blanks = blanks; rest = rest; whole = sym a; blank = b; comment = said [] refl rest ignored e }
 
 -- ---- one reading

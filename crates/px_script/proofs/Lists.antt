@@ -74,10 +74,10 @@ module _ {A : Type 0} (p : A → Bool) where
   place-below : (xs : List A) → list_any p xs ≡ true → position_or_len p xs < length xs
   place-below xs some = let there : nat_lt (position_or_len p xs) (length xs) ≡ true = within p xs ∙ some in grind (arith, nat_tests, there)
 
-  place-front : (xs ys : List A) → list_any p xs ≡ true → position_or_len p (xs ++ ys) ≡ position_or_len p xs
-  place-front [] ys some = cc
-  place-front (x ∷ xs) ys some = by_test (p x) (λ e. rw e refl)
-      (λ e. let more : list_any p xs ≡ true = rw e at some in rw e (ap (λ k. 1 + k) (place-front xs ys more)))
+  place-prefix : (xs ys : List A) → list_any p xs ≡ true → position_or_len p (xs ++ ys) ≡ position_or_len p xs
+  place-prefix [] ys some = cc
+  place-prefix (x ∷ xs) ys some = by_test (p x) (λ e. rw e refl)
+      (λ e. let more : list_any p xs ≡ true = rw e at some in rw e (ap (λ k. 1 + k) (place-prefix xs ys more)))
 
   place-after : (xs ys : List A) → list_any p xs ≡ false → position_or_len p (xs ++ ys) ≡ length xs + position_or_len p ys
   place-after [] ys none = omega arith
@@ -104,7 +104,7 @@ known-still n names more known = list_any-append (bytes_eq n) names more ∙ ap 
 
 -- more names leave the number of a name
 pub number-kept : (n : List ℕ) (names more : List (List ℕ)) → has_name n names ≡ true → number_in n (names ++ more) ≡ number_in n names
-number-kept n names more known = number-known n (names ++ more) (known-still n names more known) ∙ place-front (bytes_eq n) names more known
+number-kept n names more known = number-known n (names ++ more) (known-still n names more known) ∙ place-prefix (bytes_eq n) names more known
     ∙ sym (number-known n names known)
 
 pub known-last : (n : List ℕ) (names more : List (List ℕ)) → has_name n (names ++ n ∷ more) ≡ true

@@ -36,7 +36,7 @@ unfoldable pub all_within : {A : Type 0} → (List Lexeme → Option (A × List 
 all_within one zero [] = Some []
 all_within one zero (x ∷ xs) = None
 all_within one (suc n) [] = Some []
-all_within one (suc n) (x ∷ xs) = option_and_then (λ front. option_map (λ more. front.0 ∷ more) (all_within one n front.1)) (one (x ∷ xs))
+all_within one (suc n) (x ∷ xs) = option_and_then (λ prefix. option_map (λ more. prefix.0 ∷ more) (all_within one n prefix.1)) (one (x ∷ xs))
 
 abbrev pub all_of : {A : Type 0} → (List Lexeme → Option (A × List Lexeme)) → List Lexeme → Option (List A)
 all_of one lexemes = all_within one (length lexemes) lexemes
@@ -120,14 +120,14 @@ abbrev pub terms_at : List Lexeme → Option (List Argument × List Lexeme)
 terms_at = after_sign 40 terms_after
 
 abbrev pub fact_at : List Lexeme → Option (Part × List Lexeme)
-fact_at = after_number (λ j. after_number (λ k rest. option_map (λ front. (a_fact j k front.0, front.1)) (atom_at rest)))
+fact_at = after_number (λ j. after_number (λ k rest. option_map (λ prefix. (a_fact j k prefix.0, prefix.1)) (atom_at rest)))
 
 abbrev pub ancestor_at : List Lexeme → Option (Part × List Lexeme)
 ancestor_at = after_number (λ k rest. Some (an_ancestor k, rest))
 
 abbrev pub axiom_at : List Lexeme → Option (Part × List Lexeme)
 axiom_at = after_number (λ k. after_number (λ place. after_number (λ count rest.
-    option_map (λ front. (an_axiom k place count front.0, front.1)) (terms_at rest))))
+    option_map (λ prefix. (an_axiom k place count prefix.0, prefix.1)) (terms_at rest))))
 
 abbrev pub part_for : List ℕ → List Lexeme → Option (Part × List Lexeme)
 part_for w rest = if bytes_eq w (codes "f") then fact_at rest
@@ -159,4 +159,4 @@ names_among _ = None
 
 -- names in parentheses, or none, and what follows
 abbrev pub names_at : List Lexeme → Option (List (List ℕ) × List Lexeme)
-names_at lexemes = option_and_then (λ front. option_map (λ ns. (ns, front.1)) (names_among front.0)) (items_at argument_of lexemes)
+names_at lexemes = option_and_then (λ prefix. option_map (λ ns. (ns, prefix.1)) (names_among prefix.0)) (items_at argument_of lexemes)

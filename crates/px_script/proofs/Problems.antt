@@ -35,23 +35,23 @@ alike p q objects arities = record {
 }
 
 module _ (p q : Problem) (more : Grows p q) where
-  term-kept : (vars : ℕ) (t : Term) → IsTermOf p vars t → IsTermOf q vars t
-  term-kept vars (Obj n) h = omega (arith, h, more.objects)
-  term-kept vars _ h = h
+  term-kept : (variable_count : ℕ) (t : Term) → IsTermOf p variable_count t → IsTermOf q variable_count t
+  term-kept variable_count (Obj n) h = omega (arith, h, more.objects)
+  term-kept variable_count _ h = h
 
-  pattern_term-kept : (vars : ℕ) (t : Term) → IsPatternTermOf p vars t → IsPatternTermOf q vars t
-  pattern_term-kept vars (Obj n) h = omega (arith, h, more.objects)
-  pattern_term-kept vars _ h = h
+  pattern_term-kept : (variable_count : ℕ) (t : Term) → IsPatternTermOf p variable_count t → IsPatternTermOf q variable_count t
+  pattern_term-kept variable_count (Obj n) h = omega (arith, h, more.objects)
+  pattern_term-kept variable_count _ h = h
 
   arity-kept : (atom : Atom) → HasArity p atom → HasArity q atom
   arity-kept atom h = let there = more.arities atom.pred h.0 in (there.0, h.1 ∙ sym there.1)
 
-  pub atoms-kept : (vars : ℕ) (atoms : List Atom) → All (IsAtomOf p vars) atoms → All (IsAtomOf q vars) atoms
-  atoms-kept vars atoms h = λ k d below. (arity-kept _ (h k d below).0, λ j t inner. term-kept vars _ ((h k d below).1 j t inner))
+  pub atoms-kept : (variable_count : ℕ) (atoms : List Atom) → All (IsAtomOf p variable_count) atoms → All (IsAtomOf q variable_count) atoms
+  atoms-kept variable_count atoms h = λ k d below. (arity-kept _ (h k d below).0, λ j t inner. term-kept variable_count _ ((h k d below).1 j t inner))
 
-  patterns-kept : (vars : ℕ) (atoms : List Atom) → All (IsPatternOf p vars) atoms → All (IsPatternOf q vars) atoms
-  patterns-kept vars atoms h =
-      λ k d below. (arity-kept _ (h k d below).0, λ j t inner. pattern_term-kept vars _ ((h k d below).1 j t inner))
+  patterns-kept : (variable_count : ℕ) (atoms : List Atom) → All (IsPatternOf p variable_count) atoms → All (IsPatternOf q variable_count) atoms
+  patterns-kept variable_count atoms h =
+      λ k d below. (arity-kept _ (h k d below).0, λ j t inner. pattern_term-kept variable_count _ ((h k d below).1 j t inner))
 
   pub schema-kept : p.sorts ≤ q.sorts → (place : ℕ) (schema : Schema) → IsSchemaOf p place schema → IsSchemaOf q place schema
   schema-kept more_sorts place schema h = let deletes = patterns-kept schema.params schema.del h.del in
@@ -60,7 +60,7 @@ module _ (p q : Problem) (more : Grows p q) where
 
   pub of-axiom-kept : (clause : Clause) → IsAxiomOf p clause → IsAxiomOf q clause
   of-axiom-kept clause is = record {
-    vars = is.vars;
+    variable_count = is.variable_count;
     lits = λ j lit inner. let of = is.lits j lit inner in (arity-kept _ of.0, λ i t within. term-kept _ _ (of.1 i t within));
   }
 
@@ -81,14 +81,14 @@ heavier p weight few is = let q : Problem = record p { weight = weight } in let 
 
 -- ---- axioms
 
-plain-term : (p : Problem) (vars : ℕ) (t : Term) → IsTermOf p vars t → IsPlainBelow vars t
-plain-term p vars (Obj n) h = tt
-plain-term p vars _ h = h
+plain-term : (p : Problem) (variable_count : ℕ) (t : Term) → IsTermOf p variable_count t → IsPlainBelow variable_count t
+plain-term p variable_count (Obj n) h = tt
+plain-term p variable_count _ h = h
 
 -- an axiom of the problem is a clause, if its length is right
 pub axiom-clause : (p : Problem) (c : Clause) → HasClauseLength c.lits → IsAxiomOf p c → IsClause c
 axiom-clause p c size is =
-    record { size = size; plain = λ k lit below. λ j t inner. plain-term p c.vars _ ((is.lits k lit below).1 j t inner) }
+    record { size = size; plain = λ k lit below. λ j t inner. plain-term p c.variable_count _ ((is.lits k lit below).1 j t inner) }
 
 -- ---- a problem that begins with another
 

@@ -7,9 +7,9 @@ pub data First : Type 0 where
   bad : First
 
 -- the characters in front that pass a test, and what follows them
-abbrev pub front_while : (ℕ → Bool) → List ℕ → List ℕ
-front_while p [] = []
-front_while p (c ∷ cs) = if p c then c ∷ front_while p cs else []
+abbrev pub prefix_while : (ℕ → Bool) → List ℕ → List ℕ
+prefix_while p [] = []
+prefix_while p (c ∷ cs) = if p c then c ∷ prefix_while p cs else []
 
 abbrev pub after_while : (ℕ → Bool) → List ℕ → List ℕ
 after_while p [] = []
@@ -22,12 +22,12 @@ stops p (c ∷ cs) = not (p c)
 
 abbrev pub first_number : List ℕ → First
 first_number cs = if goes_on (after_while is_ascii_digit cs) then bad
-    else found (number (number_value (front_while is_ascii_digit cs))) (after_while is_ascii_digit cs)
+    else found (number (number_value (prefix_while is_ascii_digit cs))) (after_while is_ascii_digit cs)
 
 abbrev pub first_variable : List ℕ → First
 first_variable [] = bad
 first_variable (c ∷ cs) =
-    if starts_name c then found (variable (encode_utf8_all (c ∷ front_while is_xid_continue cs))) (after_while is_xid_continue cs) else bad
+    if starts_name c then found (variable (encode_utf8_all (c ∷ prefix_while is_xid_continue cs))) (after_while is_xid_continue cs) else bad
 
 abbrev pub first_sign : ℕ → List ℕ → First
 first_sign c cs = if is_sign c then found (sign c) cs else bad
@@ -36,7 +36,7 @@ first_sign c cs = if is_sign c then found (sign c) cs else bad
 abbrev pub first_at : List ℕ → First
 first_at [] = ignored
 first_at (c ∷ cs) =
-    if starts_name c then found (name (encode_utf8_all (c ∷ front_while is_xid_continue cs))) (after_while is_xid_continue cs)
+    if starts_name c then found (name (encode_utf8_all (c ∷ prefix_while is_xid_continue cs))) (after_while is_xid_continue cs)
     else (if c == 35 then ignored
     else (if c == 63 then first_variable cs
     else (if is_ascii_digit c then first_number (c ∷ cs)

@@ -61,8 +61,8 @@ pub record IsTableAimed (version objects : ℕ) (t : WrittenTable) : Type 0 wher
   pub begun : IsTableBegun version t
   pub some : 1 ≤ length t.goal
   pub few_atoms : length t.goal ≤ greatest version limit.goal_atoms
-  pub few_variables : t.goal_vars ≤ greatest version limit.variables
-  pub last_occurs : t.goal_vars ≡ fold max 0 (map (goal_place t.parameters) (flat_map (λ atom. atom.args) t.goal))
+  pub few_variables : t.goal_variable_count ≤ greatest version limit.variables
+  pub last_occurs : t.goal_variable_count ≡ fold max 0 (map (goal_place t.parameters) (flat_map (λ atom. atom.args) t.goal))
   pub no_objects : objects ≡ 0 → flat_map (λ atom. atom.args) t.goal ≡ []
 
 abbrev pub IsBlockInRange : ℕ → ℕ → BlockKind → Type 0

@@ -34,7 +34,7 @@ pub record WrittenTable : Type 0 where
   pub parameters : ℕ
   pub steps : List OpInst
   pub goal : List Atom
-  pub goal_vars : ℕ
+  pub goal_variable_count : ℕ
   pub rows : List (List Derivation)
 
 -- A table's block, of version 2, is one of steps up to its goal, and one of rows after it.
@@ -229,7 +229,7 @@ abbrev pub literal_of : Declared → List (List ℕ) → SignedAtom → Lit
 literal_of d variables x = record { positive = is_bare x.sign; atom = atom_of d variables x }
 
 abbrev pub clause_of : Declared → List SignedAtom → Clause
-clause_of d xs = record { vars = length (variable_names_of xs); lits = map (literal_of d (variable_names_of xs)) xs }
+clause_of d xs = record { variable_count = length (variable_names_of xs); lits = map (literal_of d (variable_names_of xs)) xs }
 
 abbrev pub edit_by : Sign → Atom → AtomEdit
 edit_by added atom = atom_edit.Add atom
@@ -315,7 +315,7 @@ problem_here d = problem_of (own_problem d) d.things
 -- the table that these parts make, with the sorts of its parameters by their places, and with the marks of its rows
 abbrev pub table_made : Problem → WrittenTable → Table
 table_made problem t =
-    table_of_rows t.parameters (sorts_by_places problem t.steps t.parameters) t.steps t.goal t.goal_vars (map (map proof_of) t.rows)
+    table_of_rows t.parameters (sorts_by_places problem t.steps t.parameters) t.steps t.goal t.goal_variable_count (map (map proof_of) t.rows)
 
 -- the block closed: from its `end` on an operator's schema is the script's, and so is a table
 abbrev pub schema_closed : Option OpenOperator → List Schema
@@ -454,12 +454,12 @@ declares n d (table m parameters) = open_block n (of_table_steps (record {
   parameters = parameters;
   steps = [];
   goal = [];
-  goal_vars = 0;
+  goal_variable_count = 0;
   rows = [];
 })) d
 declares n d (step o ts) = in_block (change_table (λ t. record t { steps = t.steps ++ instance_of_step d o ts ∷ [] })) d
 declares n d (goal xs) = in_block (λ kind. after_goal (change_table
-    (λ t. record t { goal = map (atom_of d (table_variables d)) xs; goal_vars = goal_variables d xs }) kind)) d
+    (λ t. record t { goal = map (atom_of d (table_variables d)) xs; goal_variable_count = goal_variables d xs }) kind)) d
 declares n d (proof parts) = in_block (change_table (λ t. record t { rows = t.rows ++ proofs_read d parts ∷ [] })) d
 declares n d (pursue m xs) =
     with_command (Pursue (length d.names.results) (map (atom_of d (variable_names_of xs)) xs) (length (variable_names_of xs))) d

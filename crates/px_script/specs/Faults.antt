@@ -155,7 +155,7 @@ passed test = (test.0, record { code = 8; limit = test.1 })
 abbrev pub is_bad_block : Problem → BlockKind → Bool
 is_bad_block problem (of_table_steps t) = true
 is_bad_block problem (of_table_rows t) =
-    not (rows_are_table problem t.parameters (sorts_by_places problem t.steps t.parameters) t.steps t.goal t.goal_vars t.rows)
+    not (rows_are_table problem t.parameters (sorts_by_places problem t.steps t.parameters) t.steps t.goal t.goal_variable_count t.rows)
 is_bad_block problem kind = false
 
 -- the line closes such a block

@@ -29,13 +29,13 @@ ruleset sums = (⊎_set, props)
 Term-set : IsSet Term
 Term-set = Prim.hlevel sums
 
-pub IsTermOf-prop : (problem : Problem) (vars : ℕ) (t : Term) → IsProp (IsTermOf problem vars t)
-IsTermOf-prop problem vars (Obj n) = Prim.hlevel props
-IsTermOf-prop problem vars _ = Prim.hlevel props
+pub IsTermOf-prop : (problem : Problem) (variable_count : ℕ) (t : Term) → IsProp (IsTermOf problem variable_count t)
+IsTermOf-prop problem variable_count (Obj n) = Prim.hlevel props
+IsTermOf-prop problem variable_count _ = Prim.hlevel props
 
-pub IsPatternTermOf-prop : (problem : Problem) (vars : ℕ) (t : Term) → IsProp (IsPatternTermOf problem vars t)
-IsPatternTermOf-prop problem vars (Obj n) = Prim.hlevel props
-IsPatternTermOf-prop problem vars _ = Prim.hlevel props
+pub IsPatternTermOf-prop : (problem : Problem) (variable_count : ℕ) (t : Term) → IsProp (IsPatternTermOf problem variable_count t)
+IsPatternTermOf-prop problem variable_count (Obj n) = Prim.hlevel props
+IsPatternTermOf-prop problem variable_count _ = Prim.hlevel props
 
 IsPlainBelow-prop : (limit : ℕ) (t : Term) → IsProp (IsPlainBelow limit t)
 IsPlainBelow-prop limit (Obj n) = Prim.hlevel props
@@ -43,8 +43,8 @@ IsPlainBelow-prop limit _ = Prim.hlevel props
 
 ruleset terms = (IsTermOf-prop, IsPatternTermOf-prop, IsPlainBelow-prop, props)
 
-pub IsAtomOf-prop : (problem : Problem) (vars : ℕ) (atom : Atom) → IsProp (IsAtomOf problem vars atom)
-IsAtomOf-prop problem vars atom = Prim.hlevel terms
+pub IsAtomOf-prop : (problem : Problem) (variable_count : ℕ) (atom : Atom) → IsProp (IsAtomOf problem variable_count atom)
+IsAtomOf-prop problem variable_count atom = Prim.hlevel terms
 
 pub IsValid-prop : (problem : Problem) → IsProp (IsValid problem)
 IsValid-prop problem = Prim.hlevel terms
@@ -110,7 +110,7 @@ IsCommandOf-prop version problem building results (DisturbRooms turn between edi
 IsCommandOf-prop version problem building results _ = Prim.hlevel parts
 
 NamesEarlier-prop : (given : List ℕ) (before : List Command) (command : Command) → IsProp (NamesEarlier given before command)
-NamesEarlier-prop given before (Plan name goal vars) = Prim.hlevel props
+NamesEarlier-prop given before (Plan name goal variable_count) = Prim.hlevel props
 NamesEarlier-prop given before _ = Prim.hlevel props
 
 pub IsInRange-prop : (script : ScriptValue) → IsProp (IsInRange script)

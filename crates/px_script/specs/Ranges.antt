@@ -50,7 +50,7 @@ first_occurrences (n ∷ ns) = n ∷ filter (λ m. not (m == n)) (first_occurren
 
 -- The atoms have as many variables, numbered from 0 in the order in which they first occur.
 abbrev pub AreNumbered : ℕ → List Atom → Type 0
-AreNumbered vars atoms = first_occurrences (filter_map variable_in (flat_map (λ atom. atom.args) atoms)) ≡ range_with_len 0 vars
+AreNumbered variable_count atoms = first_occurrences (filter_map variable_in (flat_map (λ atom. atom.args) atoms)) ≡ range_with_len 0 variable_count
 
 -- each list of the operator has few atoms
 abbrev pub HasShortLists : ℕ → Schema → Type 0
@@ -67,7 +67,7 @@ pub record ProblemInRange (version : ℕ) (names : NameLists) (problem : Problem
   pub objects : problem.objects ≡ length names.objects
   pub predicates : length problem.arities ≡ length names.predicates
   pub arities : All (λ n. n ≤ greatest version limit.arity) problem.arities
-  pub axiom_variables : All (λ clause. AreNumbered clause.vars (map (λ lit. lit.atom) clause.lits)) problem.axioms
+  pub axiom_variables : All (λ clause. AreNumbered clause.variable_count (map (λ lit. lit.atom) clause.lits)) problem.axioms
   pub short_lists : All (HasShortLists version) problem.schemas
   pub few_sorts : problem.sorts ≤ greatest version limit.sorts
 
@@ -117,8 +117,8 @@ pub record IsSavedTable (version : ℕ) (problem : Problem) (table : Table) : Ty
   pub few_parameters : table.params ≤ last_number
   pub some : 1 ≤ length table.goal
   pub few_atoms : length table.goal ≤ greatest version limit.goal_atoms
-  pub few_variables : table.goal_vars ≤ greatest version limit.variables
-  pub last_occurs : table.goal_vars ≡ last_goal_variable table
+  pub few_variables : table.goal_variable_count ≤ greatest version limit.variables
+  pub last_occurs : table.goal_variable_count ≡ last_goal_variable table
   pub sorts : table.param_sorts ≡ sorts_by_places problem table.steps table.params
   pub no_objects : problem.objects ≡ 0 → flat_map (λ atom. atom.args) table.goal ≡ []
 
@@ -137,13 +137,13 @@ abbrev pub HasTurn : ℕ → ℕ → ℕ → Type 0
 HasTurn version turn edits = IsWithin of_turn turn × (1 ≤ edits) × (edits ≤ greatest version limit.edits)
 
 -- A goal has an atom, not too many atoms and variables, and no variable where there is no object.
-pub record IsGoalOf (version : ℕ) (problem : Problem) (goal : List Atom) (vars : ℕ) : Type 0 where
+pub record IsGoalOf (version : ℕ) (problem : Problem) (goal : List Atom) (variable_count : ℕ) : Type 0 where
   pub some : 1 ≤ length goal
   pub few : length goal ≤ greatest version limit.goal_atoms
-  pub few_variables : vars ≤ greatest version limit.variables
-  pub no_objects : problem.objects ≡ 0 → vars ≡ 0
-  pub atoms : All (IsAtomOf problem vars) goal
-  pub numbered : AreNumbered vars goal
+  pub few_variables : variable_count ≤ greatest version limit.variables
+  pub no_objects : problem.objects ≡ 0 → variable_count ≡ 0
+  pub atoms : All (IsAtomOf problem variable_count) goal
+  pub numbered : AreNumbered variable_count goal
 
 -- a parameter has a number from 1 to the last, and an object of the problem
 abbrev pub IsBindingOf : Problem → ℕ × ℕ → Type 0
@@ -164,10 +164,10 @@ pub record ArePairsOf (version : ℕ) (wanted : List (ℕ × ℕ)) : Type 0 wher
 -- The command's atoms and objects are the problem's, and its names are among the given number of results. With a building its
 -- edits are of rooms, and without one of atoms. No parameter is bound twice.
 abbrev pub IsCommandOf : ℕ → Problem → Option (List Thing) → ℕ → Command → Type 0
-IsCommandOf version problem building results (Plan name goal vars) = (name < results) × IsGoalOf version problem goal vars
-IsCommandOf version problem building results (Pursue name goal vars) = (name < results) × IsGoalOf version problem goal vars
-IsCommandOf version problem building results (Tree name nodes goal vars) =
-    (name < results) × IsWithin of_tree nodes × IsGoalOf version problem goal vars
+IsCommandOf version problem building results (Plan name goal variable_count) = (name < results) × IsGoalOf version problem goal variable_count
+IsCommandOf version problem building results (Pursue name goal variable_count) = (name < results) × IsGoalOf version problem goal variable_count
+IsCommandOf version problem building results (Tree name nodes goal variable_count) =
+    (name < results) × IsWithin of_tree nodes × IsGoalOf version problem goal variable_count
 IsCommandOf version problem building results (Learn name source) = (name < results) × (source < results)
 IsCommandOf version problem building results (Ask about name) = name < results
 IsCommandOf version problem building results (DisturbAtoms turn between edits) =
@@ -183,22 +183,22 @@ IsCommandOf version problem building results Facts = Unit {0}
 
 -- the result that a command gives, by its number
 abbrev pub result_given : Command → List ℕ
-result_given (Plan name goal vars) = name ∷ []
+result_given (Plan name goal variable_count) = name ∷ []
 result_given (Learn name source) = name ∷ []
 result_given (Edit name source prefix wanted) = name ∷ []
-result_given (Pursue name goal vars) = name ∷ []
-result_given (Tree name nodes goal vars) = name ∷ []
+result_given (Pursue name goal variable_count) = name ∷ []
+result_given (Tree name nodes goal variable_count) = name ∷ []
 result_given _ = []
 
 -- the result that a plan gives
 abbrev pub plan_given : Command → List ℕ
-plan_given (Plan name goal vars) = name ∷ []
+plan_given (Plan name goal variable_count) = name ∷ []
 plan_given _ = []
 
 -- the result that a command gives, if it is a table
 abbrev pub table_given : Command → List ℕ
-table_given (Pursue name goal vars) = []
-table_given (Tree name nodes goal vars) = []
+table_given (Pursue name goal variable_count) = []
+table_given (Tree name nodes goal variable_count) = []
 table_given command = result_given command
 
 abbrev pub IsAmong : List ℕ → ℕ → Type 0
@@ -253,9 +253,9 @@ pub record IsInRange (script : ScriptValue) : Type 0 where
 
 -- the word of a command
 abbrev pub word_of : Command → List ℕ
-word_of (Plan name goal vars) = codes "plan"
-word_of (Pursue name goal vars) = codes "pursue"
-word_of (Tree name nodes goal vars) = codes "tree"
+word_of (Plan name goal variable_count) = codes "plan"
+word_of (Pursue name goal variable_count) = codes "pursue"
+word_of (Tree name nodes goal variable_count) = codes "tree"
 word_of (Learn name source) = codes "learn"
 word_of (Ask about name) = ask_word about
 word_of (Run name bindings) = codes "run"

@@ -77,7 +77,7 @@ abbrev pub denied : Atom → Lit
 denied atom = record { positive = false; atom = atom }
 
 abbrev pub clause : ℕ → List Lit → Clause
-clause n literals = record { vars = n; lits = literals }
+clause n literals = record { variable_count = n; lits = literals }
 
 abbrev pub small : List ℕ
 small = codes "object a b\npredicate P 1\npredicate Q 0"
@@ -197,7 +197,7 @@ abbrev operators : ℕ → Declared → Declared
 operators n d = record d { names = record d.names { operators = replicate n (codes "x") } }
 
 abbrev axioms : ℕ → Declared → Declared
-axioms n d = record d { axioms = replicate n (record { vars = 0; lits = [] }) }
+axioms n d = record d { axioms = replicate n (record { variable_count = 0; lits = [] }) }
 
 abbrev facts : ℕ → Declared → Declared
 facts n d = record d { facts = map (λ k. numbered 0 (Obj k ∷ [])) (range_with_len 0 n) }

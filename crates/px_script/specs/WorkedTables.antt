@@ -77,7 +77,7 @@ pub record WorkedTables : Type 0 where
       (((proof_of (derivation.step 0 (Var 0 ∷ []) 1
       (also (derivation.fact (record { column = 0; index = 0; atom = numbered 0 (Var 0 ∷ []) })) none)) ∷ []) ∷ []) ∷ [])
   pub variables : Leave (codes "script 2\nobject a\npredicate P 1\ntable T 1\ngoal P(?g2) P(?p1)\nproof f 0 0 P(a) f 0 0 P(?p1)\nend")
-      (λ d. map (λ (one : ℕ × Table). one.1.goal_vars) d.saved) (2 ∷ [])
+      (λ d. map (λ (one : ℕ × Table). one.1.goal_variable_count) d.saved) (2 ∷ [])
   pub closed : LeaveBoth (all_rows ++ codes "\nend") (λ d. d.block) None (λ d. d.roles.tables) (codes "M" ∷ [])
   pub in_a_building : Leave (codes "script 2\n" ++ closed_building ++ codes "\ntable T 0\ngoal ROOM(R1)\nproof f 0 0 ROOM(R1)\nend")
       (λ d. length d.saved) 1

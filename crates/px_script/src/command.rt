@@ -53,11 +53,11 @@ pub enum About {
 /// A command, with its names by their numbers.
 #[derive(Drop)]
 pub enum Command {
-    /// Plan for a goal with `vars` variables.
+    /// Plan for a goal with `variable_count` variables.
     Plan {
         name: u32,
         goal: Sequence<Atom>,
-        vars: u32,
+        variable_count: u32,
     },
     /// Learn a table from a plan.
     Learn {
@@ -103,14 +103,14 @@ pub enum Command {
     Pursue {
         name: u32,
         goal: Sequence<Atom>,
-        vars: u32,
+        variable_count: u32,
     },
     /// Search for a goal with room for so many nodes, and answer the tree of the search. It gives no table.
     Tree {
         name: u32,
         nodes: u32,
         goal: Sequence<Atom>,
-        vars: u32,
+        variable_count: u32,
     },
     /// Answer the facts.
     Facts,

@@ -48,9 +48,9 @@ step_move kept (x ∷ ss) [] i s are at = absurd are
 step_move kept (x ∷ ss) (m ∷ ms) zero s are at = let same : x ≡ s = cc in (m, refl, subst (λ (y : Step). DescribesMove kept y m) same are.0)
 step_move kept (x ∷ ss) (m ∷ ms) (suc i) s are at = step_move kept ss ms i s are.1 at
 
-take_front : {A : Type 0} (xs : List A) (x : A) (n : ℕ) → n ≡ length xs → take n (xs ++ x ∷ []) ≡ xs
-take_front [] x n long = rw long refl
-take_front (y ∷ xs) x n long = rw long (ap (λ t. y ∷ t) (take_front xs x (length xs) refl))
+take_prefix : {A : Type 0} (xs : List A) (x : A) (n : ℕ) → n ≡ length xs → take n (xs ++ x ∷ []) ≡ xs
+take_prefix [] x n long = rw long refl
+take_prefix (y ∷ xs) x n long = rw long (ap (λ t. y ∷ t) (take_prefix xs x (length xs) refl))
 
 module _ (task : Task) where
   -- ---- what is kept
@@ -291,7 +291,7 @@ module _ (task : Task) where
           ap (λ (l : List Node). take task.nodes l)
           (one_list kept keys nodes (map (node_of task) all_lists) stand full.are.numbered.stand
           ∙ map-append (node_of task) full.found (full.end.last ∷ []))
-          ∙ take_front (map (node_of task) full.found) (node_of task full.end.last) task.nodes
+          ∙ take_prefix (map (node_of task) full.found) (node_of task full.end.last) task.nodes
           (sym full.end.full ∙ sym (length-map full.found (node_of task)));
     }
 

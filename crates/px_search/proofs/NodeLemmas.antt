@@ -1,4 +1,4 @@
--- One more item of the front of a list.
+-- One more item of the prefix of a list.
 use Rattle.std.proofs.Common.{◌≡◌, ◌+◌, ◌++◌, ℕ, zero, suc, List, [], ◌∷◌, take, slice_get, Some, ap, arith, ◌∙◌}
 
 take_suc : {A : Type 0} (xs : List A) (k : ℕ) (x : A) → slice_get xs k ≡ Some x → take (suc k) xs ≡ take k xs ++ x ∷ []

@@ -31,9 +31,9 @@ use Rattle.px_ends.specs.Trees.{EndsTree, IsAskedAmong, IsFirstLimit, IsTree, Te
 
 -- ---- lists
 
-same-front : {A : Type 0} (xs ys rest : List A) → ys ≡ xs ++ rest → length xs ≡ length ys → xs ≡ ys
-same-front xs ys [] is same = none-behind xs ∙ sym is
-same-front xs ys (y ∷ rest) is same = absurd (omega (arith, same, ap length is, length-append xs (y ∷ rest)))
+same-prefix : {A : Type 0} (xs ys rest : List A) → ys ≡ xs ++ rest → length xs ≡ length ys → xs ≡ ys
+same-prefix xs ys [] is same = none-behind xs ∙ sym is
+same-prefix xs ys (y ∷ rest) is same = absurd (omega (arith, same, ap length is, length-append xs (y ∷ rest)))
 
 same-each : {A : Type 0} (xs ys : List A) → length xs ≡ length ys
     → ((k : ℕ) (x y : A) → slice_get xs k ≡ Some x → slice_get ys k ≡ Some y → x ≡ y) → xs ≡ ys
@@ -74,10 +74,10 @@ module _ (task : Task) (weight : ℕ) where
   begins-same found lists b c same = elim (order_of b.1.0 c.1.0) [
     | inl low ↦
         let r = prefixes (space_of task) (order_by task weight) total b.1.0 c.1.0 found lists b.0 c.0 (omega (arith, low)) b.1.1 c.1.1 in
-        same-front found lists r.0 r.1 same
+        same-prefix found lists r.0 r.1 same
     | inr high ↦
         let r = prefixes (space_of task) (order_by task weight) total c.1.0 b.1.0 lists found c.0 b.0 high c.1.1 b.1.1 in
-        sym (same-front lists found r.0 r.1 (sym same))
+        sym (same-prefix lists found r.0 r.1 (sym same))
   ]
 
   -- ---- the end

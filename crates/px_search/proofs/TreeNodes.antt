@@ -193,18 +193,18 @@ module _ (task : Task) (kept : Kept) where
       ])
 
   -- the nodes of the first of the lists
-  tells-front : (found : List (List Move)) (last : List Move) (nodes : List TreeNode) → TellsNodes task (found ++ last ∷ []) nodes
+  tells-prefix : (found : List (List Move)) (last : List Move) (nodes : List TreeNode) → TellsNodes task (found ++ last ∷ []) nodes
       → TellsNodes task found nodes
-  tells-front found last nodes tells place node moves at at_moves =
+  tells-prefix found last nodes tells place node moves at at_moves =
       subst (λ (l : List (List Move)). TellsNode task l moves node)
-      (front-taken place found last (place-within-list found place moves at_moves))
+      (prefix-taken place found last (place-within-list found place moves at_moves))
       (tells place node moves at (still_there found (last ∷ []) place moves at_moves))
     where
-      front-taken : {A : Type 0} (n : ℕ) (xs : List A) (x : A) → n < length xs → take n (xs ++ x ∷ []) ≡ take n xs
-      front-taken zero [] x below = refl
-      front-taken zero (y ∷ xs) x below = refl
-      front-taken (suc n) [] x below = absurd (omega (arith, below))
-      front-taken (suc n) (y ∷ xs) x below = ap (λ t. y ∷ t) (front-taken n xs x (omega (arith, below)))
+      prefix-taken : {A : Type 0} (n : ℕ) (xs : List A) (x : A) → n < length xs → take n (xs ++ x ∷ []) ≡ take n xs
+      prefix-taken zero [] x below = refl
+      prefix-taken zero (y ∷ xs) x below = refl
+      prefix-taken (suc n) [] x below = absurd (omega (arith, below))
+      prefix-taken (suc n) (y ∷ xs) x below = ap (λ t. y ∷ t) (prefix-taken n xs x (omega (arith, below)))
 
 -- ---- the tree
 
@@ -282,7 +282,7 @@ module _ (task : Task) (explored : Explored) where
           long,
         );
     nodes =
-        tells-front task explored.cache.numbers full.found full.end.last nodes (tells (full.found ++ full.end.last ∷ []) full.are);
+        tells-prefix task explored.cache.numbers full.found full.end.last nodes (tells (full.found ++ full.end.last ∷ []) full.are);
     end = full.end;
   }
   came-tree (tree_end.ShapeLimit shapes) nodes count all (limit, limited, is) all_is count_is long tells = record {

@@ -40,22 +40,22 @@ module _ (task : Task) (weight : ℕ) where
         )
       ]
     where
-      parent : (place : ℕ) (front : List Move) → place < 1 → At (a ∷ b ∷ rest) place front → front ≡ []
-      parent zero front below at = sym (some-one a front at) ∙ first-empty a (b ∷ rest) begun
-      parent (suc place) front below at = absurd (omega (arith, below))
+      parent : (place : ℕ) (prefix : List Move) → place < 1 → At (a ∷ b ∷ rest) place prefix → prefix ≡ []
+      parent zero prefix below at = sym (some-one a prefix at) ∙ first-empty a (b ∷ rest) begun
+      parent (suc place) prefix below at = absurd (omega (arith, below))
 
   -- where two moves are found third, the second list has the first of them
   third-two : (a b : List Move) (m n : Move) → IsBeginning (a ∷ b ∷ (m ∷ n ∷ []) ∷ []) → b ≡ m ∷ []
   third-two a b m n begun =
       elim (origins (space_of task) (order_by task weight) begun.1.0 (a ∷ b ∷ (m ∷ n ∷ []) ∷ []) begun.0 begun.1.1 2 (m ∷ n ∷ []) refl) [
         | inl none ↦ absurd (omega (arith, none.0))
-        | inr from ↦ parent from.place from.parent from.earlier from.stands (front from.parent from.m from.moves_are)
+        | inr from ↦ parent from.place from.parent from.earlier from.stands (prefix from.parent from.m from.moves_are)
       ]
     where
-      front : (l : List Move) (k : Move) → m ∷ n ∷ [] ≡ l ++ k ∷ [] → m ∷ [] ≡ l
-      front [] k e = absurd (cc)
-      front (x ∷ []) k e = cc
-      front (x ∷ y ∷ l) k e = absurd (omega (arith, ap length e, length-append l (k ∷ [])))
+      prefix : (l : List Move) (k : Move) → m ∷ n ∷ [] ≡ l ++ k ∷ [] → m ∷ [] ≡ l
+      prefix [] k e = absurd (cc)
+      prefix (x ∷ []) k e = cc
+      prefix (x ∷ y ∷ l) k e = absurd (omega (arith, ap length e, length-append l (k ∷ [])))
 
       parent : (place : ℕ) (l : List Move) → place < 2 → At (a ∷ b ∷ (m ∷ n ∷ []) ∷ []) place l → m ∷ [] ≡ l → b ≡ m ∷ []
       parent zero l below at is =

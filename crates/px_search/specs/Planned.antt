@@ -17,9 +17,9 @@ pub record IsPlanned (task : Task) (plan : Found) : Type 0 where
   pub found : IsFound task task.problem.weight plan.moves
   pub steps : plan.steps ≡ steps_of task.tables [] plan.moves
   pub rows : MovesRows task (initial_node task) [] plan.moves (rows_of plan.support.items)
-  pub supports : Supports task.problem task.initial plan.steps task.goal task.vars (rows_of plan.support.items)
+  pub supports : Supports task.problem task.initial plan.steps task.goal task.variable_count (rows_of plan.support.items)
   pub of_problem : AreOfProblem task.problem (rows_of plan.support.items)
   pub instances : All (IsInstanceOf task.problem) plan.steps
   pub fitting : All (IsWellSorted task.problem) plan.steps
-  pub carries : Carries task.problem task.initial plan.steps task.vars task.goal
+  pub carries : Carries task.problem task.initial plan.steps task.variable_count task.goal
   pub short : length plan.steps < u32_max

@@ -82,7 +82,13 @@ impl Cache {
             → IsKnownOf asked.now.problem.now (needs_at (task_for asked.now) node) known) }
     {
         match self.numbers.top(key.stack) {
-            None => known_formula(asked.alloc, asked.problem, asked.goal, asked.vars, model),
+            None => known_formula(
+                asked.alloc,
+                asked.problem,
+                asked.goal,
+                asked.variable_count,
+                model,
+            ),
             Some(frame) => self.known_top(asked, self.numbers.entry(frame.entry), model),
         }
     }

@@ -158,7 +158,7 @@ impl Cache {
             asked.alloc,
             asked.problem,
             asked.goal,
-            asked.vars,
+            asked.variable_count,
             &current.model,
         )?;
         match known {

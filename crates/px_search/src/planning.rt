@@ -66,42 +66,42 @@ pub fn search(
     problem: &Problem,
     initial: &Model,
     goal: &[Atom],
-    vars: u32,
+    variable_count: u32,
     tables: &[Table],
 ) -> Result<Found, SearchErr>
     requires problem { IsValid problem.now }
-    requires goal { All (IsAtomOf problem.now vars) goal.now }
-    requires few_variables { vars ≤ most_formula_variables }
-    requires some_object { 0 < vars → 0 < problem.now.objects }
+    requires goal { All (IsAtomOf problem.now variable_count) goal.now }
+    requires few_variables { variable_count ≤ most_formula_variables }
+    requires some_object { 0 < variable_count → 0 < problem.now.objects }
     requires tables { AreLearned problem.now tables.now }
-    ensures found { IfOk result (λ plan. IsFound (task_of problem.now tables.now initial.now.atoms goal.now vars) problem.now.weight
+    ensures found { IfOk result (λ plan. IsFound (task_of problem.now tables.now initial.now.atoms goal.now variable_count) problem.now.weight
         plan.moves) }
     ensures few { IfOk result (λ plan. length plan.moves < problem.now.nodes) }
     ensures steps { IfOk result (λ plan. plan.steps ≡ steps_of tables.now [] plan.moves) }
-    ensures rows { IfOk result (λ plan. MovesRows (task_of problem.now tables.now initial.now.atoms goal.now vars)
-        (initial_node (task_of problem.now tables.now initial.now.atoms goal.now vars)) [] plan.moves (rows_of plan.support.items)) }
-    ensures supports { IfOk result (λ plan. Supports problem.now initial.now.atoms plan.steps goal.now vars (rows_of plan.support.items)) }
+    ensures rows { IfOk result (λ plan. MovesRows (task_of problem.now tables.now initial.now.atoms goal.now variable_count)
+        (initial_node (task_of problem.now tables.now initial.now.atoms goal.now variable_count)) [] plan.moves (rows_of plan.support.items)) }
+    ensures supports { IfOk result (λ plan. Supports problem.now initial.now.atoms plan.steps goal.now variable_count (rows_of plan.support.items)) }
     ensures of_problem { IfOk result (λ plan. AreOfProblem problem.now (rows_of plan.support.items)) }
     ensures instances { IfOk result (λ plan. All (IsInstanceOf problem.now) plan.steps) }
     ensures fitting { IfOk result (λ plan. All (IsWellSorted problem.now) plan.steps) }
-    ensures carries { IfOk result (λ plan. Carries problem.now initial.now.atoms plan.steps vars goal.now) }
+    ensures carries { IfOk result (λ plan. Carries problem.now initial.now.atoms plan.steps variable_count goal.now) }
     ensures short { IfOk result (λ plan. length plan.steps < u32_max) }
     ensures exhausted { IsErrOf result SearchErr.Exhausted
-        → IsExhausted (task_of problem.now tables.now initial.now.atoms goal.now vars) problem.now.weight }
+        → IsExhausted (task_of problem.now tables.now initial.now.atoms goal.now variable_count) problem.now.weight }
     ensures node_limit { (nodes : List Node) (moves : ℕ) → IsErrOf result (SearchErr.NodeLimit nodes moves)
-        → IsNodeLimit (task_of problem.now tables.now initial.now.atoms goal.now vars) problem.now.weight nodes moves }
+        → IsNodeLimit (task_of problem.now tables.now initial.now.atoms goal.now variable_count) problem.now.weight nodes moves }
     ensures shape_limit { (node : Node) (limit : MetLimit) → IsErrOf result (SearchErr.ShapeLimit node limit)
-        → IsShapeLimit (task_of problem.now tables.now initial.now.atoms goal.now vars) problem.now.weight node limit }
+        → IsShapeLimit (task_of problem.now tables.now initial.now.atoms goal.now variable_count) problem.now.weight node limit }
     ensures always_found { (moves : List Move)
-        → IsFound (task_of problem.now tables.now initial.now.atoms goal.now vars) problem.now.weight moves
+        → IsFound (task_of problem.now tables.now initial.now.atoms goal.now variable_count) problem.now.weight moves
         → IfOk result (λ plan. plan.moves ≡ moves) × IfErr result (λ e. e ≡ SearchErr.NoMemory) }
-    ensures always_exhausted { IsExhausted (task_of problem.now tables.now initial.now.atoms goal.now vars) problem.now.weight
+    ensures always_exhausted { IsExhausted (task_of problem.now tables.now initial.now.atoms goal.now variable_count) problem.now.weight
         → IsErrOf result SearchErr.Exhausted ⊎ IsErrOf result SearchErr.NoMemory }
     ensures always_node_limit { (nodes : List Node) (moves : ℕ)
-        → IsNodeLimit (task_of problem.now tables.now initial.now.atoms goal.now vars) problem.now.weight nodes moves
+        → IsNodeLimit (task_of problem.now tables.now initial.now.atoms goal.now variable_count) problem.now.weight nodes moves
         → IsErrOf result (SearchErr.NodeLimit nodes moves) ⊎ IsErrOf result SearchErr.NoMemory }
     ensures always_shape_limit { (node : Node) (limit : MetLimit)
-        → IsShapeLimit (task_of problem.now tables.now initial.now.atoms goal.now vars) problem.now.weight node limit
+        → IsShapeLimit (task_of problem.now tables.now initial.now.atoms goal.now variable_count) problem.now.weight node limit
         → ((there : Node) × (first : MetLimit) × IsErrOf result (SearchErr.ShapeLimit there first))
         ⊎ IsErrOf result SearchErr.NoMemory }
 {
@@ -112,7 +112,7 @@ pub fn search(
         tables,
         initial,
         goal,
-        vars,
+        variable_count,
     };
     match never_limited(alloc, problem, tables) {
         Ok(is_never_limited) => found_plan(&asked, is_never_limited),

@@ -186,16 +186,16 @@ pub fn search_tree(
     nodes: u32,
     initial: &Model,
     goal: &[Atom],
-    vars: u32,
+    variable_count: u32,
     tables: &[Table],
 ) -> Result<Tree, NoMemory>
     requires problem { IsValid problem.now }
     requires nodes { (1 ≤ nodes) × (nodes ≤ most_nodes) }
-    requires goal { All (IsAtomOf problem.now vars) goal.now }
-    requires few_variables { vars ≤ most_formula_variables }
-    requires some_object { 0 < vars → 0 < problem.now.objects }
+    requires goal { All (IsAtomOf problem.now variable_count) goal.now }
+    requires few_variables { variable_count ≤ most_formula_variables }
+    requires some_object { 0 < variable_count → 0 < problem.now.objects }
     requires tables { AreLearned problem.now tables.now }
-    ensures { IfOk result (IsTree (task_with problem.now nodes tables.now initial.now.atoms goal.now vars) problem.now.weight) }
+    ensures { IfOk result (IsTree (task_with problem.now nodes tables.now initial.now.atoms goal.now variable_count) problem.now.weight) }
 {
     let asked = Asked {
         alloc,
@@ -204,7 +204,7 @@ pub fn search_tree(
         tables,
         initial,
         goal,
-        vars,
+        variable_count,
     };
     let is_never_limited = never_limited(alloc, problem, tables)?;
     tree_for(&asked, is_never_limited)

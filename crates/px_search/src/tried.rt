@@ -20,5 +20,11 @@ pub fn try_node(asked: &Asked, numbers: &Numbers, key: NodeKey) -> Result<Tried,
         return Ok(Tried::Unanswered);
     }
     let model = numbers.model(asked.alloc, key.model)?;
-    try_formula(asked.alloc, asked.problem, asked.goal, asked.vars, &model)
+    try_formula(
+        asked.alloc,
+        asked.problem,
+        asked.goal,
+        asked.variable_count,
+        &model,
+    )
 }

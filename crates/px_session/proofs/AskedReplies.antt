@@ -322,7 +322,7 @@ module _ (problem : Problem) (names : NameLists) (named : AreNameLists names) (s
 
   of-command : (given : Command) (number : ℕ) (table : Table) → HasName names kind.Result number
       → Lawful problem old given (reply.Saved number table) new → ReplyIsReadBack problem names (reply.Saved number table)
-  of-command (command.Plan n goal vars) number table has is = absurd is
+  of-command (command.Plan n goal variable_count) number table has is = absurd is
   of-command (command.Learn n source) number table has is = absurd is
   of-command (command.Edit n source prefix wanted) number table has is = absurd is
   of-command (command.Ask about n) number table has is = of-asked about n number table has is
@@ -330,8 +330,8 @@ module _ (problem : Problem) (names : NameLists) (named : AreNameLists names) (s
   of-command (command.DisturbRooms turn between edits) number table has is = absurd is
   of-command (command.Run n bound) number table has is = absurd is
   of-command (command.Duo first second numbers) number table has is = absurd is
-  of-command (command.Pursue n goal vars) number table has is = absurd is
-  of-command (command.Tree n nodes goal vars) number table has is = absurd is
+  of-command (command.Pursue n goal variable_count) number table has is = absurd is
+  of-command (command.Tree n nodes goal variable_count) number table has is = absurd is
   of-command command.Facts number table has is = absurd is
 
   pub reply-read-back : (given : Command) (answer : Reply) → IsReplyNamed names answer → Lawful problem old given answer new

@@ -46,7 +46,7 @@ module _ (problem : Problem) (old : SessionState) (new : SessionState) (valid : 
 
   of-command : (given : Command) (name : ℕ) (bytes : List ℕ) → Lawful problem old given (reply.Certified name bytes) new
       → IsAccepted problem old name bytes
-  of-command (command.Plan n goal vars) name bytes is = absurd is
+  of-command (command.Plan n goal variable_count) name bytes is = absurd is
   of-command (command.Learn n source) name bytes is = absurd is
   of-command (command.Edit n source prefix wanted) name bytes is = absurd is
   of-command (command.Ask about n) name bytes is = of-certify n name bytes (certified-asked problem old n about name bytes new is)
@@ -54,8 +54,8 @@ module _ (problem : Problem) (old : SessionState) (new : SessionState) (valid : 
   of-command (command.DisturbRooms turn between edits) name bytes is = absurd is
   of-command (command.Run n bound) name bytes is = absurd is
   of-command (command.Duo first second numbers) name bytes is = absurd is
-  of-command (command.Pursue n goal vars) name bytes is = absurd is
-  of-command (command.Tree n nodes goal vars) name bytes is = absurd is
+  of-command (command.Pursue n goal variable_count) name bytes is = absurd is
+  of-command (command.Tree n nodes goal variable_count) name bytes is = absurd is
   of-command command.Facts name bytes is = absurd is
 
   pub reply-accepted : (given : Command) (answer : Reply) → Lawful problem old given answer new → ReplyIsAccepted problem old answer

@@ -38,9 +38,9 @@ use Rattle.px_session.proofs.RoomEdits.{OwnsRoomEdits, at_first, each-building, 
 
 -- ---- the opening
 
-some-object : (objects vars : ℕ) → (objects ≡ 0 → vars ≡ 0) → 0 < vars → 0 < objects
-some-object zero vars none some = absurd (omega (arith, none refl, some))
-some-object (suc objects) vars none some = omega arith
+some-object : (objects variable_count : ℕ) → (objects ≡ 0 → variable_count ≡ 0) → 0 < variable_count → 0 < objects
+some-object zero variable_count none some = absurd (omega (arith, none refl, some))
+some-object (suc objects) variable_count none some = omega arith
 
 binding-ready : (problem : Problem) (bound : List (ℕ × ℕ)) → All (IsBindingOf problem) bound → AllPairs (λ one other. one.0 ≢ other.0) bound
     → IsBindingToRun problem bound
@@ -62,9 +62,9 @@ IsReady problem building results given = IsRunnable problem (at_first building) 
 ready : (version : ℕ) (problem : Problem) (building : Option (List Thing)) (results : ℕ) (c : Command)
     → IfSome building (OwnsRoomEdits problem) → IsCommandOf version problem building results c
     → IsReady problem building results c
-ready version problem building results (command.Plan name goal vars) owns of = (
+ready version problem building results (command.Plan name goal variable_count) owns of = (
   (
-    record { atoms = of.1.atoms; few = of.1.few_variables; some_object = some-object problem.objects vars of.1.no_objects },
+    record { atoms = of.1.atoms; few = of.1.few_variables; some_object = some-object problem.objects variable_count of.1.no_objects },
     no-edits problem (at_first building),
   ),
   (of.0, of.1.atoms),
@@ -81,19 +81,19 @@ ready version problem building results (command.Run name bindings) owns of =
     ((binding-ready problem bindings of.1 of.2, no-edits problem (at_first building)), of.0)
 ready version problem building results (command.Duo first second numbers) owns of =
     ((tt, no-edits problem (at_first building)), (of.0, of.1))
-ready version problem building results (command.Pursue name goal vars) owns of = (
+ready version problem building results (command.Pursue name goal variable_count) owns of = (
   (
-    record { atoms = of.1.atoms; few = of.1.few_variables; some_object = some-object problem.objects vars of.1.no_objects },
+    record { atoms = of.1.atoms; few = of.1.few_variables; some_object = some-object problem.objects variable_count of.1.no_objects },
     no-edits problem (at_first building),
   ),
   (of.0, of.1.atoms),
 )
-ready version problem building results (command.Tree name nodes goal vars) owns of = (
+ready version problem building results (command.Tree name nodes goal variable_count) owns of = (
   (
     (
       of.1.0,
       omega (arith, of.1.1),
-      record { atoms = of.2.atoms; few = of.2.few_variables; some_object = some-object problem.objects vars of.2.no_objects },
+      record { atoms = of.2.atoms; few = of.2.few_variables; some_object = some-object problem.objects variable_count of.2.no_objects },
     ),
     no-edits problem (at_first building),
   ),
@@ -151,7 +151,7 @@ keeps-parts : (problem : Problem) (old : SessionState) (given : Command) (answer
     → Lawful problem old given answer new → KeepsParts (result_given given) old new
 keeps-parts problem old given answer new is =
     replied problem old given (KeepsParts (result_given given) old) (record { recorded = omega arith; learned = λ n has. inl has })
-    (λ name goal vars count steps new by is. record { recorded = omega arith; learned = λ n has. inl has })
+    (λ name goal variable_count count steps new by is. record { recorded = omega arith; learned = λ n has. inl has })
     -- the name of the table is the last one
     (λ name source params steps new by is. subst (KeepsParts (result_given given) old) (sym is.learned)
     (record {
@@ -173,14 +173,14 @@ keeps-parts problem old given answer new is =
     (record { recorded = omega arith; learned = λ n has. inl has }))
     (λ first second numbers lines new by is. subst (KeepsParts (result_given given) old) (sym is.changed)
     (record { recorded = omega arith; learned = λ n has. inl has }))
-    (λ name goal vars searches told end new by is. subst (KeepsParts (result_given given) old) (sym is.changed)
+    (λ name goal variable_count searches told end new by is. subst (KeepsParts (result_given given) old) (sym is.changed)
     (record { recorded = omega arith; learned = λ n has. inl has }))
     answer new is
 
 -- the goal of a command that can be run is one of the problem
 pub own-goal : (problem : Problem) (building : Option RoomState) (given : Command) → IsRunnable problem building given
     → IsOwnGoal problem given
-own-goal problem building (command.Plan name goal vars) runs = runs.0.atoms
+own-goal problem building (command.Plan name goal variable_count) runs = runs.0.atoms
 own-goal problem building (command.Learn name source) runs = tt
 own-goal problem building (command.Edit name source prefix wanted) runs = tt
 own-goal problem building (command.Ask about name) runs = tt
@@ -188,13 +188,13 @@ own-goal problem building (command.DisturbAtoms turn between edits) runs = tt
 own-goal problem building (command.DisturbRooms turn between edits) runs = tt
 own-goal problem building (command.Run name bound) runs = tt
 own-goal problem building (command.Duo first second numbers) runs = tt
-own-goal problem building (command.Pursue name goal vars) runs = runs.0.atoms
-own-goal problem building (command.Tree name nodes goal vars) runs = runs.0.2.atoms
+own-goal problem building (command.Pursue name goal variable_count) runs = runs.0.atoms
+own-goal problem building (command.Tree name nodes goal variable_count) runs = runs.0.2.atoms
 own-goal problem building command.Facts runs = tt
 
 -- a pursuit's goal is so where the problem is valid
 pub own-pursuit : (problem : Problem) → IsValid problem → (given : Command) → IsOwnGoal problem given → IsOwnPursuit problem given
-own-pursuit problem valid (command.Pursue name goal vars) own = (valid, own)
+own-pursuit problem valid (command.Pursue name goal variable_count) own = (valid, own)
 own-pursuit problem valid given own = tt
 
 -- so are those of a script
@@ -250,7 +250,7 @@ kept-after building left session given answer new done kept more below is runs a
     }
 
 tells-of-named : (results : ℕ) (state : SessionState) (given : Command) → HasTableNames results state → TellsOfNamed results state given
-tells-of-named results state (command.Tree name nodes goal vars) named = named
+tells-of-named results state (command.Tree name nodes goal variable_count) named = named
 tells-of-named results state given named = tt
 
 pub named-after : (building : Option RoomState) (session : SessionValue) (given : Command) (answer : Reply) (new : SessionState)

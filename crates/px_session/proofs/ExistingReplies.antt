@@ -72,10 +72,10 @@ turns-back (turn ∷ turns) =
 
 -- ---- trees
 
-tree-reply : (problem : Problem) (old : SessionState) (name nodes : ℕ) (goal : List Atom) (vars : ℕ)
-    → ¬ ¬ HasReply problem old (command.Tree name nodes goal vars)
-tree-reply problem old name nodes goal vars never =
-    trees_exist (task_with problem nodes old.learned.tables old.atoms goal vars) problem.weight
+tree-reply : (problem : Problem) (old : SessionState) (name nodes : ℕ) (goal : List Atom) (variable_count : ℕ)
+    → ¬ ¬ HasReply problem old (command.Tree name nodes goal variable_count)
+tree-reply problem old name nodes goal variable_count never =
+    trees_exist (task_with problem nodes old.learned.tables old.atoms goal variable_count) problem.weight
     (λ grown. never (reply.Tree name old.learned.names grown.0, (old, (refl, refl, grown.1, refl))))
 
 -- ---- each command
@@ -166,11 +166,11 @@ module _ (traces-exist : TracesExist leaves_edit) (duo-traces-exist : DuoTracesE
         by (Some one) first_named (Some other) second_named = duo-by first second numbers one other first_named second_named
 
     other-reply : (given : Command) → AsksNoSearch given → HasReply problem old given
-    other-reply (command.Plan name goal vars) asks = absurd asks
+    other-reply (command.Plan name goal variable_count) asks = absurd asks
     other-reply (command.Learn name source) asks = learn-reply problem old valid session name source
     other-reply (command.Edit name source prefix wanted) asks = absurd asks
-    other-reply (command.Pursue name goal vars) asks = absurd asks
-    other-reply (command.Tree name nodes goal vars) asks = absurd asks
+    other-reply (command.Pursue name goal variable_count) asks = absurd asks
+    other-reply (command.Tree name nodes goal variable_count) asks = absurd asks
     other-reply (command.Ask about name) asks = asked-reply problem old name about
     other-reply (command.DisturbAtoms turn between edits) asks = noted turn between (map of_atoms edits)
     other-reply (command.DisturbRooms turn between edits) asks = noted turn between (map of_rooms edits)
@@ -180,11 +180,11 @@ module _ (traces-exist : TracesExist leaves_edit) (duo-traces-exist : DuoTracesE
 
     -- ---- plans
 
-    module _ (name : ℕ) (goal : List Atom) (vars : ℕ) (own : All (IsAtomOf problem vars) goal) where
+    module _ (name : ℕ) (goal : List Atom) (variable_count : ℕ) (own : All (IsAtomOf problem variable_count) goal) where
       abbrev task : Task
-      task = task_of problem old.learned.tables old.atoms goal vars
+      task = task_of problem old.learned.tables old.atoms goal variable_count
 
-      by-end : HasEnd task problem.weight → HasReply problem old (command.Plan name goal vars)
+      by-end : HasEnd task problem.weight → HasReply problem old (command.Plan name goal variable_count)
       by-end (inl found) =
           let moves = found.0 in
           let made = found_have_tables task problem.weight moves valid own (are-learned problem old session) found.1 in (
@@ -201,12 +201,12 @@ module _ (traces-exist : TracesExist leaves_edit) (duo-traces-exist : DuoTracesE
       by-end (inr (inr (inl limit))) = (reply.NodeLimit name limit.0 limit.1, (old, (refl, limit.2, refl)))
       by-end (inr (inr (inr limit))) = (reply.ShapeLimit name limit.0 limit.1, (old, (refl, limit.2, refl)))
 
-      plan-reply : ¬ ¬ HasReply problem old (command.Plan name goal vars)
+      plan-reply : ¬ ¬ HasReply problem old (command.Plan name goal variable_count)
       plan-reply never = searches_end task problem.weight (λ end. never (by-end end))
 
-      pursuit-reply : ¬ ¬ HasReply problem old (command.Pursue name goal vars)
+      pursuit-reply : ¬ ¬ HasReply problem old (command.Pursue name goal variable_count)
       pursuit-reply never =
-          pursuits_end traces-exist problem valid old.learned.tables (are-learned problem old session) goal vars own old.recorded old.atoms
+          pursuits_end traces-exist problem valid old.learned.tables (are-learned problem old session) goal variable_count own old.recorded old.atoms
           (λ found. never (
             reply.Pursuit name found.0 (map told_of found.1) found.2.0,
             (
@@ -215,7 +215,7 @@ module _ (traces-exist : TracesExist leaves_edit) (duo-traces-exist : DuoTracesE
                 refl,
                 record {
                   after = found.2.1;
-                  pursues = subst (λ (ts : List TurnValue). IsPursuit leaves_edit problem old.learned.tables goal vars old.recorded old.atoms
+                  pursues = subst (λ (ts : List TurnValue). IsPursuit leaves_edit problem old.learned.tables goal variable_count old.recorded old.atoms
                       found.0 ts found.2.0 found.2.1) (sym (turns-back found.1)) found.2.2;
                   changed = refl;
                 },
@@ -224,9 +224,9 @@ module _ (traces-exist : TracesExist leaves_edit) (duo-traces-exist : DuoTracesE
           ))
 
     each-reply : (given : Command) → IsOwnGoal problem given → ¬ ¬ HasReply problem old given
-    each-reply (command.Plan name goal vars) own = plan-reply name goal vars own
-    each-reply (command.Pursue name goal vars) own = pursuit-reply name goal vars own
-    each-reply (command.Tree name nodes goal vars) own = tree-reply problem old name nodes goal vars
+    each-reply (command.Plan name goal variable_count) own = plan-reply name goal variable_count own
+    each-reply (command.Pursue name goal variable_count) own = pursuit-reply name goal variable_count own
+    each-reply (command.Tree name nodes goal variable_count) own = tree-reply problem old name nodes goal variable_count
     each-reply (command.Edit name source prefix wanted) own = edit-reply problem old name source prefix wanted valid session
     each-reply (command.Learn name source) own = λ never. never (other-reply (command.Learn name source) tt)
     each-reply (command.Ask about name) own = λ never. never (other-reply (command.Ask about name) tt)
@@ -272,10 +272,10 @@ module _ (traces-exist : TracesExist leaves_edit) (duo-traces-exist : DuoTracesE
   replies_exist = record {
     others = λ problem old given valid session asks.
         other-reply traces-exist duo-traces-exist stay-ready problem old valid session given asks;
-    plans = λ problem old name goal vars valid session own.
-        plan-reply traces-exist duo-traces-exist stay-ready problem old valid session name goal vars own;
-    pursued = λ problem old name goal vars valid session own.
-        pursuit-reply traces-exist duo-traces-exist stay-ready problem old valid session name goal vars own;
+    plans = λ problem old name goal variable_count valid session own.
+        plan-reply traces-exist duo-traces-exist stay-ready problem old valid session name goal variable_count own;
+    pursued = λ problem old name goal variable_count valid session own.
+        pursuit-reply traces-exist duo-traces-exist stay-ready problem old valid session name goal variable_count own;
     grown = tree-reply;
     edited = λ problem old name source prefix wanted valid session. edit-reply problem old name source prefix wanted valid session;
   }

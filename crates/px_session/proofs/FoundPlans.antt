@@ -77,26 +77,26 @@ kept-proper problem table instances atoms kept =
 
 -- the table that is built of a support
 abbrev pub built : List OpInst → List Atom → ℕ → List (List Proof) → Table
-built steps goal vars support = table_of_rows 0 [] steps goal vars support
+built steps goal variable_count support = table_of_rows 0 [] steps goal variable_count support
 
-pub built-plan : (problem : Problem) (atoms : List Atom) (steps : List OpInst) (goal : List Atom) (vars : ℕ) (support : List (List Proof))
-    → All (IsInstanceOf problem) steps → Supports problem atoms steps goal vars (rows_of support) → AreOfProblem problem (rows_of support)
-    → IsTable problem (built steps goal vars support) → IsPlanTable problem (built steps goal vars support)
-built-plan problem atoms steps goal vars support instances supports of table = record {
+pub built-plan : (problem : Problem) (atoms : List Atom) (steps : List OpInst) (goal : List Atom) (variable_count : ℕ) (support : List (List Proof))
+    → All (IsInstanceOf problem) steps → Supports problem atoms steps goal variable_count (rows_of support) → AreOfProblem problem (rows_of support)
+    → IsTable problem (built steps goal variable_count support) → IsPlanTable problem (built steps goal variable_count support)
+built-plan problem atoms steps goal variable_count support instances supports of table = record {
   table = table;
   no_params = refl;
-  proper = kept-proper problem (built steps goal vars support) instances (marks-are_of problem (rows_of support) of) supports.kept;
+  proper = kept-proper problem (built steps goal variable_count support) instances (marks-are_of problem (rows_of support) of) supports.kept;
 }
 
 pub built-moves : (task : Task) (moves : List Move) (steps : List OpInst) (support : List (List Proof))
     → steps ≡ steps_of task.tables [] moves
-    → MovesRows task (initial_node task) [] moves (rows_of support) → IsTableOfMoves task moves (built steps task.goal task.vars support)
+    → MovesRows task (initial_node task) [] moves (rows_of support) → IsTableOfMoves task moves (built steps task.goal task.variable_count support)
 built-moves task moves steps support taken rows =
-    record { params = refl; steps = taken; goal = refl; goal_vars = refl; rows = rows; marks = refl; param_sorts = refl }
+    record { params = refl; steps = taken; goal = refl; goal_variable_count = refl; rows = rows; marks = refl; param_sorts = refl }
 
 -- what is reported of a plan that is found, where its table is stored
 pub finds-plan : (task : Task) (name count : ℕ) (old new : SessionState) (plan : Found) (made : Table) → IsFoundPlan task plan
-    → made ≡ built plan.steps task.goal task.vars plan.support.items → count ≡ length plan.moves
+    → made ≡ built plan.steps task.goal task.variable_count plan.support.items → count ≡ length plan.moves
     → new ≡ record old { plans = with_table old.plans name made } → FindsPlan task name old count plan.steps new
 finds-plan task name count old new plan made is made_is counted stored =
     record {

@@ -31,7 +31,7 @@ use Rattle.px_session.specs.Lawful.{FindsPlan}
 use Rattle.px_session.specs.Sessions.{IsPlanTable, SessionState}
 use Rattle.px_session.proofs.FoundPlans.{built, built-plan}
 
-module _ (task : Task) (valid : IsValid task.problem) (goal_of : All (IsAtomOf task.problem task.vars) task.goal)
+module _ (task : Task) (valid : IsValid task.problem) (goal_of : All (IsAtomOf task.problem task.variable_count) task.goal)
     (learned : AreLearned task.problem task.tables) (room : task.nodes ≤ most_nodes) where
   -- ---- how many steps moves take
 
@@ -68,9 +68,9 @@ module _ (task : Task) (valid : IsValid task.problem) (goal_of : All (IsAtomOf t
     support : AreSupport task is.moves (rows_of is.made.proofs)
     support = moves_support answers-support task is.moves (rows_of is.made.proofs) valid goal_of learned moves-are is.table.rows
 
-    pub found-carries : Carries task.problem task.initial steps task.vars task.goal
+    pub found-carries : Carries task.problem task.initial steps task.variable_count task.goal
     found-carries =
-        subst (λ (s : List OpInst). Carries task.problem task.initial s task.vars task.goal) (sym is.taken) support.carries
+        subst (λ (s : List OpInst). Carries task.problem task.initial s task.variable_count task.goal) (sym is.taken) support.carries
 
     short : length taken < u32_max
     short =
@@ -78,23 +78,23 @@ module _ (task : Task) (valid : IsValid task.problem) (goal_of : All (IsAtomOf t
         let all = steps-short task.initial [] is.moves (All-nil (IsEntry task.problem task.tables)) moves-are in
         omega (arith, few, all, room)
 
-    made-is : is.made ≡ built taken task.goal task.vars is.made.proofs
+    made-is : is.made ≡ built taken task.goal task.variable_count is.made.proofs
     made-is = λ i. record {
       params = is.table.params i;
       steps = is.table.steps i;
       goal = is.table.goal i;
-      goal_vars = is.table.goal_vars i;
+      goal_variable_count = is.table.goal_variable_count i;
       marks = is.table.marks i;
       proofs = is.made.proofs;
       param_sorts = is.table.param_sorts i;
     }
 
-    of-support : IsTable task.problem (built taken task.goal task.vars is.made.proofs)
+    of-support : IsTable task.problem (built taken task.goal task.variable_count is.made.proofs)
     of-support =
-        support_table task.problem valid task.initial taken task.goal task.vars is.made.proofs support.supports support.instances goal_of
+        support_table task.problem valid task.initial taken task.goal task.variable_count is.made.proofs support.supports support.instances goal_of
         support.of_problem short support.fitting
 
     pub found-table : IsPlanTable task.problem is.made
     found-table = subst (IsPlanTable task.problem) (sym made-is)
-        (built-plan task.problem task.initial taken task.goal task.vars is.made.proofs support.instances support.supports support.of_problem
+        (built-plan task.problem task.initial taken task.goal task.variable_count is.made.proofs support.instances support.supports support.of_problem
         of-support)

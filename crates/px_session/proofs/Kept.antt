@@ -114,10 +114,10 @@ kept : (problem : Problem) (old : SessionState) (given : Command) (answer : Repl
     → IsSession problem old → IsOwnGoal problem given → Lawful problem old given answer new → IsSession problem new
 kept problem old given answer new valid session own is =
     replied problem old given (IsSession problem) session
-    (λ name goal vars count steps new by is. record {
+    (λ name goal variable_count count steps new by is. record {
       atoms = session.atoms;
       plans = one-more (IsPlanTable problem) old.plans.tables is.made session.plans
-          (found-table (task_of problem old.learned.tables old.atoms goal vars) valid (subst (IsOwnGoal problem) by own)
+          (found-table (task_of problem old.learned.tables old.atoms goal variable_count) valid (subst (IsOwnGoal problem) by own)
           (are-learned problem old session) valid.nodes.1 name count old new steps is);
       learned = session.learned;
       few = session.few;
@@ -140,9 +140,9 @@ kept problem old given answer new valid session own is =
       learned = session.learned;
       few = session.few;
     }))
-    (λ name goal vars searches told end new by is. subst (IsSession problem) (sym is.changed)
+    (λ name goal variable_count searches told end new by is. subst (IsSession problem) (sym is.changed)
     (record {
-      atoms = pursuit-set problem old.learned.tables goal vars old.recorded old.atoms searches (map turn_told told) end is.after is.pursues
+      atoms = pursuit-set problem old.learned.tables goal variable_count old.recorded old.atoms searches (map turn_told told) end is.after is.pursues
           session.atoms;
       plans = session.plans;
       learned = session.learned;
@@ -166,7 +166,7 @@ sessions_are_kept = record {
   kept = kept;
   kernels = kernels;
   own = own-kept;
-  plans = λ problem old name goal vars given count steps new valid session own is.
-      found-carries (task_of problem old.learned.tables old.atoms goal vars) valid own (are-learned problem old session) valid.nodes.1 name
+  plans = λ problem old name goal variable_count given count steps new valid session own is.
+      found-carries (task_of problem old.learned.tables old.atoms goal variable_count) valid own (are-learned problem old session) valid.nodes.1 name
       count old new steps is.1;
 }

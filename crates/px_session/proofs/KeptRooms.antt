@@ -104,10 +104,10 @@ module _ (problem : Problem) (old : SessionState) (building : RoomState) (sessio
       )
   duo-answered first second numbers answer new is = absurd is
 
-  pursuit-answered : (name : ℕ) (goal : List Atom) (vars : ℕ) → IsOwnPursuit problem (command.Pursue name goal vars) → (answer : Reply)
-      (new : SessionState) → TellsPursuit problem old name goal vars answer new → Answered (command.Pursue name goal vars) answer new
-  pursuit-answered name goal vars own (reply.Pursuit given searches told end) new is =
-      let run = pursuit-in problem own.0 old.learned.tables (are-learned problem old session) goal vars own.1 old.recorded building old.atoms
+  pursuit-answered : (name : ℕ) (goal : List Atom) (variable_count : ℕ) → IsOwnPursuit problem (command.Pursue name goal variable_count) → (answer : Reply)
+      (new : SessionState) → TellsPursuit problem old name goal variable_count answer new → Answered (command.Pursue name goal variable_count) answer new
+  pursuit-answered name goal variable_count own (reply.Pursuit given searches told end) new is =
+      let run = pursuit-in problem own.0 old.learned.tables (are-learned problem old session) goal variable_count own.1 old.recorded building old.atoms
       searches (map turn_told told) end is.1.after
       (record { is_state = inside.is_state; rules = inside.placed.place.1; taken = inside.placed.edits; facts = inside.placed.place.0 })
       is.1.pursues in (
@@ -124,7 +124,7 @@ module _ (problem : Problem) (old : SessionState) (building : RoomState) (sessio
           same = same-left building run.after run.left;
         },
       )
-  pursuit-answered name goal vars own answer new is = absurd is
+  pursuit-answered name goal variable_count own answer new is = absurd is
 
   unmoved : (given : Command) → RunsNothing given → (answer : Reply) (new : SessionState)
       → LeavesRooms old given answer building building
@@ -135,7 +135,7 @@ module _ (problem : Problem) (old : SessionState) (building : RoomState) (sessio
   answered : (given : Command) (answer : Reply) (new : SessionState) → HasTakenEdits (Some building) given → IsOwnPursuit problem given
       → Lawful problem old given answer new
       → Answered given answer new
-  answered (command.Plan name goal vars) answer new taken own is = unmoved (command.Plan name goal vars) tt answer new refl taken is
+  answered (command.Plan name goal variable_count) answer new taken own is = unmoved (command.Plan name goal variable_count) tt answer new refl taken is
   answered (command.Learn name source) answer new taken own is = unmoved (command.Learn name source) tt answer new refl taken is
   answered (command.Edit name source prefix wanted) answer new taken own is =
       unmoved (command.Edit name source prefix wanted) tt answer new refl taken is
@@ -146,9 +146,9 @@ module _ (problem : Problem) (old : SessionState) (building : RoomState) (sessio
       unmoved (command.DisturbRooms turn between edits) tt answer new refl taken is
   answered (command.Run name bound) answer new taken own is = run-answered name bound answer new is
   answered (command.Duo first second numbers) answer new taken own is = duo-answered first second numbers answer new is
-  answered (command.Pursue name goal vars) answer new taken own is = pursuit-answered name goal vars own answer new is
-  answered (command.Tree name nodes goal vars) answer new taken own is =
-      unmoved (command.Tree name nodes goal vars) tt answer new refl taken is
+  answered (command.Pursue name goal variable_count) answer new taken own is = pursuit-answered name goal variable_count own answer new is
+  answered (command.Tree name nodes goal variable_count) answer new taken own is =
+      unmoved (command.Tree name nodes goal variable_count) tt answer new refl taken is
   answered command.Facts answer new taken own is = unmoved command.Facts tt answer new refl taken is
 
 -- ---- all commands

@@ -90,27 +90,27 @@ module _ (problem : Problem) (names : NameLists) (all : AreNamesOfProblem proble
   abbrev IsNamedRow : List Proof → Type 0
   IsNamedRow row = AreNamedProofs names (derivations (map derivation_of row))
 
-  named-rows : (first : ℕ) (steps : List OpInst) (goal : List Atom) (goal_vars : ℕ) (rows : List (List Proof))
-      → RowsProve Is problem params steps goal goal_vars (rows_of rows) → Marked (marks_from first (rows_of rows)) → All IsNamedRow rows
-  named-rows first [] goal goal_vars [] proves marked = absurd proves
-  named-rows first [] goal goal_vars (row ∷ []) proves marked =
+  named-rows : (first : ℕ) (steps : List OpInst) (goal : List Atom) (goal_variable_count : ℕ) (rows : List (List Proof))
+      → RowsProve Is problem params steps goal goal_variable_count (rows_of rows) → Marked (marks_from first (rows_of rows)) → All IsNamedRow rows
+  named-rows first [] goal goal_variable_count [] proves marked = absurd proves
+  named-rows first [] goal goal_variable_count (row ∷ []) proves marked =
       All-cons IsNamedRow row []
       (named-row (map (substitute_atom (variables params ++ proves.0)) goal) (map derivation_of row) proves.2
       (in-row first (map derivation_of row) [] marked)) (All-nil IsNamedRow)
-  named-rows first [] goal goal_vars (row ∷ second ∷ rows) proves marked = absurd proves
-  named-rows first (inst ∷ steps) goal goal_vars [] proves marked = absurd proves
-  named-rows first (inst ∷ steps) goal goal_vars (row ∷ rows) proves marked =
+  named-rows first [] goal goal_variable_count (row ∷ second ∷ rows) proves marked = absurd proves
+  named-rows first (inst ∷ steps) goal goal_variable_count [] proves marked = absurd proves
+  named-rows first (inst ∷ steps) goal goal_variable_count (row ∷ rows) proves marked =
       All-cons IsNamedRow row rows
       (named-row (precondition problem inst) (map derivation_of row) proves.0 (in-row first (map derivation_of row) (rows_of rows) marked))
-      (named-rows (suc first) steps goal goal_vars rows proves.1
+      (named-rows (suc first) steps goal goal_variable_count rows proves.1
       (λ mark has. marked mark (Contains-append_right (row_marks first (map derivation_of row)) (marks_from (suc first) (rows_of rows)) mark has)))
 
 pub named-block : (problem : Problem) (names : NameLists) → AreNamesOfProblem problem names → (table : Table) → IsTable problem table
     → IsNamedBlock names table
 named-block problem names all table is = record {
   steps = named-steps problem names all table.params table.steps is.in_range.steps;
-  goal = named-atoms problem names all (table.params + table.goal_vars) table.goal is.in_range.goal;
-  rows = named-rows problem names all table.params 1 table.steps table.goal table.goal_vars table.proofs is.prove
+  goal = named-atoms problem names all (table.params + table.goal_variable_count) table.goal is.in_range.goal;
+  rows = named-rows problem names all table.params 1 table.steps table.goal table.goal_variable_count table.proofs is.prove
       (λ mark has. named-atom problem names all table.params mark.atom
       (All-at (λ (m : Mark). IsAtomOf problem table.params m.atom) table.marks mark is.atoms
       (subst (λ (marks : List Mark). Contains marks mark) (sym is.marks) has)));

@@ -50,10 +50,10 @@ module _ (problem : Problem) (names : NameLists) (all : AreNamesOfProblem proble
 
   -- ---- replies
 
-  module _ (valid : IsValid problem) (old : SessionState) (session : IsSession problem old) (goal : List Atom) (vars : ℕ)
-      (own : All (IsAtomOf problem vars) goal) (name : ℕ) where
+  module _ (valid : IsValid problem) (old : SessionState) (session : IsSession problem old) (goal : List Atom) (variable_count : ℕ)
+      (own : All (IsAtomOf problem variable_count) goal) (name : ℕ) where
     abbrev task : Task
-    task = task_of problem old.learned.tables old.atoms goal vars
+    task = task_of problem old.learned.tables old.atoms goal variable_count
 
     -- the steps of a plan that is found are those of its table
     named-plan : (count : ℕ) (steps : List OpInst) (new : SessionState) → FindsPlan task name old count steps new
@@ -73,26 +73,26 @@ module _ (problem : Problem) (names : NameLists) (all : AreNamesOfProblem proble
     named-search answer new below is = absurd is
 
     named-pursuit : (answer : Reply) (new : SessionState) → name < length names.results
-        → TellsPursuit problem old name goal vars answer new → IsReplyNamed names answer
+        → TellsPursuit problem old name goal variable_count answer new → IsReplyNamed names answer
     named-pursuit (reply.Pursuit given searches told end) new below is =
-        let steps = pursuit-steps problem old.learned.tables goal vars old.recorded valid (are-learned problem old session) own old.atoms
+        let steps = pursuit-steps problem old.learned.tables goal variable_count old.recorded valid (are-learned problem old session) own old.atoms
         searches (map turn_told told) end is.1.after is.1.pursues in
         (same-result given name (length names.results) is.0 below, named-turns problem names all told steps)
     named-pursuit answer new below is = absurd is
 
   -- the tables of a tree are those of the session
   named-tree : (old : SessionState) (session : IsSession problem old) (tables_named : HasTableNames (length names.results) old)
-      (nodes : ℕ) (goal : List Atom) (vars name : ℕ) (answer : Reply) (new : SessionState) → name < length names.results
-      → TellsTree (task_with problem nodes old.learned.tables old.atoms goal vars) name old answer new → IsReplyNamed names answer
-  named-tree old session tables_named nodes goal vars name (reply.Tree given tables tree) new below is = (
+      (nodes : ℕ) (goal : List Atom) (variable_count name : ℕ) (answer : Reply) (new : SessionState) → name < length names.results
+      → TellsTree (task_with problem nodes old.learned.tables old.atoms goal variable_count) name old answer new → IsReplyNamed names answer
+  named-tree old session tables_named nodes goal variable_count name (reply.Tree given tables tree) new below is = (
     same-result given name (length names.results) is.0 below,
     record {
       tables = subst (All (λ n. n < length names.results)) (sym is.1) tables_named.known;
-      nodes = named-nodes (task_with problem nodes old.learned.tables old.atoms goal vars) names all (are-learned problem old session) tables
+      nodes = named-nodes (task_with problem nodes old.learned.tables old.atoms goal variable_count) names all (are-learned problem old session) tables
           (ap length is.1 ∙ tables_named.each) problem.weight tree is.2;
     },
   )
-  named-tree old session tables_named nodes goal vars name answer new below is = absurd is
+  named-tree old session tables_named nodes goal variable_count name answer new below is = absurd is
 
   module _ (old : SessionState) (plans : All (IsPlanTable problem) old.plans.tables)
       (learned : All (IsLearnedTable problem) old.learned.tables) where
@@ -163,12 +163,12 @@ named-each : (problem : Problem) (names : NameLists) (old : SessionState) (given
     → IsValid problem → AreNamesOfProblem problem names → All (IsAtomOf problem 0) old.atoms → IsSession problem old
     → TellsOfNamed (length names.results) old given → IsTellable problem (length names.results) given
     → Lawful problem old given answer new → IsReplyNamed names answer
-named-each problem names old (command.Plan name goal vars) answer new valid all atoms session tables tellable is =
-    named-search problem names all valid old session goal vars tellable.1 name answer new tellable.0 is
-named-each problem names old (command.Pursue name goal vars) answer new valid all atoms session tables tellable is =
-    named-pursuit problem names all valid old session goal vars tellable.1 name answer new tellable.0 is
-named-each problem names old (command.Tree name nodes goal vars) answer new valid all atoms session tables tellable is =
-    named-tree problem names all old session tables nodes goal vars name answer new tellable.0 is
+named-each problem names old (command.Plan name goal variable_count) answer new valid all atoms session tables tellable is =
+    named-search problem names all valid old session goal variable_count tellable.1 name answer new tellable.0 is
+named-each problem names old (command.Pursue name goal variable_count) answer new valid all atoms session tables tellable is =
+    named-pursuit problem names all valid old session goal variable_count tellable.1 name answer new tellable.0 is
+named-each problem names old (command.Tree name nodes goal variable_count) answer new valid all atoms session tables tellable is =
+    named-tree problem names all old session tables nodes goal variable_count name answer new tellable.0 is
 named-each problem names old (command.Ask about name) answer new valid all atoms session tables tellable is =
     named-asked problem old name names all session.plans session.learned tellable about answer new is
 named-each problem names old (command.Duo first second numbers) answer new valid all atoms session tables tellable is =

@@ -39,7 +39,7 @@ pub tables-named-later : (problem : Problem) (results : ℕ) (old : SessionState
     → HasTableNames results old → IsTellable problem results given → Lawful problem old given answer new → HasTableNames results new
 tables-named-later problem results old given answer new named tellable is =
     replied problem old given (HasTableNames results) named
-    (λ name goal vars count steps new by is. record { each = named.each; known = named.known })
+    (λ name goal variable_count count steps new by is. record { each = named.each; known = named.known })
     (λ name source params steps new by is. subst (HasTableNames results) (sym is.learned)
     (named-more results old name is.general named (subst (IsTellable problem results) by tellable).0))
     (λ name source prefix wanted params steps new by is. subst (HasTableNames results) (sym is.learned)
@@ -48,6 +48,6 @@ tables-named-later problem results old given answer new named tellable is =
     (λ name bound told new by is. subst (HasTableNames results) (sym is.changed) (record { each = named.each; known = named.known }))
     (λ first second numbers lines new by is. subst (HasTableNames results) (sym is.changed)
     (record { each = named.each; known = named.known }))
-    (λ name goal vars searches told end new by is. subst (HasTableNames results) (sym is.changed)
+    (λ name goal variable_count searches told end new by is. subst (HasTableNames results) (sym is.changed)
     (record { each = named.each; known = named.known }))
     answer new is

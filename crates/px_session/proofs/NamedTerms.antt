@@ -29,23 +29,23 @@ number_of _ = 0
 module _ (problem : Problem) (names : NameLists) (all : AreNamesOfProblem problem names) where
   -- ---- terms, atoms and steps of the problem
 
-  pub named-term : (vars : ℕ) (t : Term) → IsTermOf problem vars t → IsNamedTerm names t
-  named-term vars (Obj n) of = λ number e.
+  pub named-term : (variable_count : ℕ) (t : Term) → IsTermOf problem variable_count t → IsNamedTerm names t
+  named-term variable_count (Obj n) of = λ number e.
       let same : n ≡ number = ap number_of e in
       omega (arith, same, of, all.objects)
-  named-term vars (Var v) of = λ number e. absurd (cc)
-  named-term vars Any of = elim of [ ]
+  named-term variable_count (Var v) of = λ number e. absurd (cc)
+  named-term variable_count Any of = elim of [ ]
 
-  pub named-terms : (vars : ℕ) (terms : List Term) → All (IsTermOf problem vars) terms → All (IsNamedTerm names) terms
-  named-terms vars terms of =
-      All-each (IsNamedTerm names) terms (λ t has. named-term vars t (All-at (IsTermOf problem vars) terms t of has))
+  pub named-terms : (variable_count : ℕ) (terms : List Term) → All (IsTermOf problem variable_count) terms → All (IsNamedTerm names) terms
+  named-terms variable_count terms of =
+      All-each (IsNamedTerm names) terms (λ t has. named-term variable_count t (All-at (IsTermOf problem variable_count) terms t of has))
 
-  pub named-atom : (vars : ℕ) (atom : Atom) → IsAtomOf problem vars atom → IsNamedAtom names atom
-  named-atom vars atom of = record { predicate = omega (arith, of.0.0, all.predicates); objects = named-terms vars atom.args of.1 }
+  pub named-atom : (variable_count : ℕ) (atom : Atom) → IsAtomOf problem variable_count atom → IsNamedAtom names atom
+  named-atom variable_count atom of = record { predicate = omega (arith, of.0.0, all.predicates); objects = named-terms variable_count atom.args of.1 }
 
-  pub named-atoms : (vars : ℕ) (atoms : List Atom) → All (IsAtomOf problem vars) atoms → All (IsNamedAtom names) atoms
-  named-atoms vars atoms of =
-      All-each (IsNamedAtom names) atoms (λ atom has. named-atom vars atom (All-at (IsAtomOf problem vars) atoms atom of has))
+  pub named-atoms : (variable_count : ℕ) (atoms : List Atom) → All (IsAtomOf problem variable_count) atoms → All (IsNamedAtom names) atoms
+  named-atoms variable_count atoms of =
+      All-each (IsNamedAtom names) atoms (λ atom has. named-atom variable_count atom (All-at (IsAtomOf problem variable_count) atoms atom of has))
 
   pub named-step : (params : ℕ) (inst : OpInst) → IsStepOf problem params inst → IsNamedInstance names inst
   named-step params inst of = record { operator = omega (arith, of.op, all.operators); objects = named-terms params inst.args of.terms }
@@ -74,7 +74,7 @@ module _ (problem : Problem) (names : NameLists) (all : AreNamesOfProblem proble
   pub named-table : (table : Table) → IsTable problem table → IsNamedTable names table
   named-table table is = record {
     steps = named-steps table.params table.steps is.in_range.steps;
-    goal = named-atoms (table.params + table.goal_vars) table.goal is.in_range.goal;
+    goal = named-atoms (table.params + table.goal_variable_count) table.goal is.in_range.goal;
     marks = All-each (λ (mark : Mark). IsNamedAtom names mark.atom) table.marks
         (λ mark has.
         let of = All-at (λ (m : Mark). IsAtomOf problem table.params m.atom) table.marks mark is.atoms has in

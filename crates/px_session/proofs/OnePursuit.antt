@@ -36,17 +36,17 @@ same-pursuit name given searches others turns more end also names counts told (i
   ends = ends;
 }))
 
-pub pursuit-one : (problem : Problem) (old : SessionState) (name : ℕ) (goal : List Atom) (vars : ℕ) (one other : Reply)
-    (new later : SessionState) → TellsPursuit problem old name goal vars one new → TellsPursuit problem old name goal vars other later
+pub pursuit-one : (problem : Problem) (old : SessionState) (name : ℕ) (goal : List Atom) (variable_count : ℕ) (one other : Reply)
+    (new later : SessionState) → TellsPursuit problem old name goal variable_count one new → TellsPursuit problem old name goal variable_count other later
     → SameReply one other × (new ≡ later)
-pursuit-one problem old name goal vars (reply.Pursuit n searches turns end) (reply.Pursuit m others more also) new later p q =
-    let same = pursuits_are_one leaves_edit problem old.learned.tables goal vars old.recorded old.atoms p.1.after q.1.after searches others
+pursuit-one problem old name goal variable_count (reply.Pursuit n searches turns end) (reply.Pursuit m others more also) new later p q =
+    let same = pursuits_are_one leaves_edit problem old.learned.tables goal variable_count old.recorded old.atoms p.1.after q.1.after searches others
     (map turn_told turns) (map turn_told more) end also p.1.pursues q.1.pursues in (
       same-pursuit n m searches others turns more end also (p.0 ∙ sym q.0) same.0 (same-told turns more same.1) same.2,
       p.1.changed ∙ ap (λ (atoms : List Atom). record old { atoms = atoms; recorded = [] }) same.3 ∙ sym q.1.changed,
     )
-pursuit-one problem old name goal vars (reply.Pursuit n searches turns end) other new later p q = absurd q
-pursuit-one problem old name goal vars one other new later p q = absurd p
+pursuit-one problem old name goal variable_count (reply.Pursuit n searches turns end) other new later p q = absurd q
+pursuit-one problem old name goal variable_count one other new later p q = absurd p
 
 end-text : (end also : PursueEnd) → AreLimitEnds end also → pursue_end_text end ≡ pursue_end_text also
 end-text end also are =

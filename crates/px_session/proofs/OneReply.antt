@@ -55,8 +55,8 @@ facts-one old one other new later p q = absurd p
 reply-one : (problem : Problem) (old : SessionState) (given : Command) (one other : Reply) (new later : SessionState)
     → IsValid problem → IsSession problem old
     → Lawful problem old given one new → Lawful problem old given other later → SameReply one other × (new ≡ later)
-reply-one problem old (command.Plan name goal vars) one other new later valid session p q =
-    search-one (task_of problem old.learned.tables old.atoms goal vars) name old one other new later p q
+reply-one problem old (command.Plan name goal variable_count) one other new later valid session p q =
+    search-one (task_of problem old.learned.tables old.atoms goal variable_count) name old one other new later p q
 reply-one problem old (command.Learn name source) one other new later valid session p q =
     learning-one problem valid old session name source one other new later p q
 reply-one problem old (command.Edit name source prefix wanted) one other new later valid session p q =
@@ -71,10 +71,10 @@ reply-one problem old (command.Run name bound) one other new later valid session
     run-one problem old name bound one other new later p q
 reply-one problem old (command.Duo first second numbers) one other new later valid session p q =
     duo-one problem old first second numbers one other new later p q
-reply-one problem old (command.Pursue name goal vars) one other new later valid session p q =
-    pursuit-one problem old name goal vars one other new later p q
-reply-one problem old (command.Tree name nodes goal vars) one other new later valid session p q =
-    tree-one (task_with problem nodes old.learned.tables old.atoms goal vars) name old one other new later p q
+reply-one problem old (command.Pursue name goal variable_count) one other new later valid session p q =
+    pursuit-one problem old name goal variable_count one other new later p q
+reply-one problem old (command.Tree name nodes goal variable_count) one other new later valid session p q =
+    tree-one (task_with problem nodes old.learned.tables old.atoms goal variable_count) name old one other new later p q
 reply-one problem old command.Facts one other new later valid session p q = facts-one old one other new later p q
 
 pub text-one : (names : NameLists) (one other : Reply) → SameReply one other → reply_text names one ≡ reply_text names other

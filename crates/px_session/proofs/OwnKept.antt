@@ -26,7 +26,7 @@ pub own-kept : (problem : Problem) (old : SessionState) (given : Command) (answe
     → IsOwnState problem new
 own-kept problem old given answer new valid session own edits pursuit is =
     replied problem old given (IsOwnState problem) own
-    (λ name goal vars count steps new by is. record { atoms = own.atoms; edits = own.edits })
+    (λ name goal variable_count count steps new by is. record { atoms = own.atoms; edits = own.edits })
     (λ name source params steps new by is. subst (IsOwnState problem) (sym is.learned) (record { atoms = own.atoms; edits = own.edits }))
     (λ name source prefix wanted params steps new by is. subst (IsOwnState problem) (sym is.learned)
     (record { atoms = own.atoms; edits = own.edits }))
@@ -51,9 +51,9 @@ own-kept problem old given answer new valid session own edits pursuit is =
           is.runs own.atoms;
       edits = own.edits;
     }))
-    (λ name goal vars searches told end new by is. subst (IsOwnState problem) (sym is.changed)
+    (λ name goal variable_count searches told end new by is. subst (IsOwnState problem) (sym is.changed)
     (record {
-      atoms = pursuit-own problem old.learned.tables goal vars old.recorded valid (are-learned problem old session)
+      atoms = pursuit-own problem old.learned.tables goal variable_count old.recorded valid (are-learned problem old session)
           (subst (IsOwnPursuit problem) by pursuit).1 old.atoms searches (map turn_told told) end is.after is.pursues own.edits own.atoms;
       edits = All-nil (HasOwn problem);
     }))

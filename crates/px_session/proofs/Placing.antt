@@ -50,7 +50,7 @@ place-left problem (Rooms building) same = (refl, same)
 abbrev pub RunsNothing : Command → Type 0
 RunsNothing (command.Run name bound) = ⊥
 RunsNothing (command.Duo first second numbers) = ⊥
-RunsNothing (command.Pursue name goal vars) = ⊥
+RunsNothing (command.Pursue name goal variable_count) = ⊥
 RunsNothing _ = Unit {0}
 
 pub placed-later : (problem : Problem) (building : Option RoomState) (old : SessionState) → IsPlaced problem building old
@@ -59,7 +59,7 @@ pub placed-later : (problem : Problem) (building : Option RoomState) (old : Sess
     → IsPlaced problem building new
 placed-later problem building old placed given no_run taken answer new is =
     replied problem old given (IsPlaced problem building) placed
-    (λ name goal vars count steps new by is. record { place = placed.place; edits = placed.edits })
+    (λ name goal variable_count count steps new by is. record { place = placed.place; edits = placed.edits })
     (λ name source params steps new by is. subst (IsPlaced problem building) (sym is.learned)
     (record { place = placed.place; edits = placed.edits }))
     (λ name source prefix wanted params steps new by is. subst (IsPlaced problem building) (sym is.learned)
@@ -71,7 +71,7 @@ placed-later problem building old placed given no_run taken answer new is =
     })
     (λ name bound told new by is. absurd (subst RunsNothing by no_run))
     (λ first second numbers lines new by is. absurd (subst RunsNothing by no_run))
-    (λ name goal vars searches told end new by is. absurd (subst RunsNothing by no_run))
+    (λ name goal variable_count searches told end new by is. absurd (subst RunsNothing by no_run))
     answer new is
 
 -- what is noted is placed, where its edits are taken

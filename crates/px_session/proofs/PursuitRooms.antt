@@ -48,7 +48,7 @@ pub record StandsIn (problem : Problem) (recorded : List (Recorded Edit)) (build
   pub facts : atoms ≡ rendering building
 
 module _ (problem : Problem) (valid : IsValid problem) (tables : List Table) (learned : AreLearned problem tables) (goal : List Atom)
-    (vars : ℕ) (own : All (IsAtomOf problem vars) goal) (recorded : List (Recorded Edit)) where
+    (variable_count : ℕ) (own : All (IsAtomOf problem variable_count) goal) (recorded : List (Recorded Edit)) where
   stands-later : (building : RoomState) (atoms : List Atom) (number : ℕ) (turns : List TurnValue) (after : List Atom)
       → StandsIn problem recorded building atoms → (leaves : RunLeaves recorded number turns building after)
       → StandsIn problem recorded leaves.after after
@@ -80,13 +80,13 @@ module _ (problem : Problem) (valid : IsValid problem) (tables : List Table) (le
 
   run-there : (building : RoomState) (number : ℕ) (atoms : List Atom) (run : List TurnValue) (after : List Atom)
       → StandsIn problem recorded building atoms
-      → RunsPlan leaves_edit problem tables goal vars recorded number atoms run after → RunLeaves recorded number run building after
+      → RunsPlan leaves_edit problem tables goal variable_count recorded number atoms run after → RunLeaves recorded number run building after
   run-there building number atoms run after stands plan =
-      turns-in problem plan.plan (run-table problem tables goal vars recorded valid learned own number atoms run after plan) [] recorded
+      turns-in problem plan.plan (run-table problem tables goal variable_count recorded valid learned own number atoms run after plan) [] recorded
       number building _ run _ stands.is_state stands.rules stands.taken stands.facts plan.takes
 
   vain-there : (count : ℕ) (building : RoomState) (number : ℕ) (atoms : List Atom) (turns : List TurnValue) (after : List Atom)
-      → StandsIn problem recorded building atoms → RunsInVain leaves_edit problem tables goal vars recorded count number atoms turns after
+      → StandsIn problem recorded building atoms → RunsInVain leaves_edit problem tables goal variable_count recorded count number atoms turns after
       → RunLeaves recorded number turns building after
   vain-there zero building number atoms turns after stands is = nothing-done building atoms number turns after stands is.0 is.1
   vain-there (suc count) building number atoms turns after stands (run, rest, (mid, plan, ends, are, later)) =
@@ -97,7 +97,7 @@ module _ (problem : Problem) (valid : IsValid problem) (tables : List Table) (le
       (both-runs building number run rest mid after first more)
 
   ends-there : (building : RoomState) (number : ℕ) (atoms : List Atom) (run : List TurnValue) (end : PursueEnd) (after : List Atom)
-      → StandsIn problem recorded building atoms → EndsBy leaves_edit problem tables goal vars recorded number atoms run end after
+      → StandsIn problem recorded building atoms → EndsBy leaves_edit problem tables goal variable_count recorded number atoms run end after
       → RunLeaves recorded number run building after
   ends-there building number atoms run Goal after stands ends = run-there building number atoms run after stands ends.0
   ends-there building number atoms run Exhausted after stands ends = nothing-done building atoms number run after stands ends.1 ends.2
@@ -107,7 +107,7 @@ module _ (problem : Problem) (valid : IsValid problem) (tables : List Table) (le
       nothing-done building atoms number run after stands ends.1 ends.2
 
   pub pursuit-in : (building : RoomState) (atoms : List Atom) (searches : ℕ) (turns : List TurnValue) (end : PursueEnd) (after : List Atom)
-      → StandsIn problem recorded building atoms → IsPursuit leaves_edit problem tables goal vars recorded atoms searches turns end after
+      → StandsIn problem recorded building atoms → IsPursuit leaves_edit problem tables goal variable_count recorded atoms searches turns end after
       → RunLeaves recorded 1 turns building after
   pursuit-in building atoms searches turns end after stands is =
       let first = vain-there is.in_vain building 1 atoms is.before is.mid stands is.vain in

@@ -21,18 +21,18 @@ use Rattle.px_session.specs.Sessions.{Edit, leaves_edit}
 use Rattle.px_session.proofs.Ascending.{turns-set}
 use Rattle.px_session.proofs.OwnRuns.{AreOwn, IsOwnStep, turns-own, turns-steps}
 
-module _ (problem : Problem) (tables : List Table) (goal : List Atom) (vars : ℕ) (recorded : List (Recorded Edit)) where
+module _ (problem : Problem) (tables : List Table) (goal : List Atom) (variable_count : ℕ) (recorded : List (Recorded Edit)) where
   abbrev pub Runs : ℕ → List Atom → List TurnValue → List Atom → Type 0
-  Runs = RunsPlan leaves_edit problem tables goal vars recorded
+  Runs = RunsPlan leaves_edit problem tables goal variable_count recorded
 
   abbrev pub Vain : ℕ → ℕ → List Atom → List TurnValue → List Atom → Type 0
-  Vain = RunsInVain leaves_edit problem tables goal vars recorded
+  Vain = RunsInVain leaves_edit problem tables goal variable_count recorded
 
   abbrev pub Ends : ℕ → List Atom → List TurnValue → PursueEnd → List Atom → Type 0
-  Ends = EndsBy leaves_edit problem tables goal vars recorded
+  Ends = EndsBy leaves_edit problem tables goal variable_count recorded
 
   abbrev Pursues : List Atom → ℕ → List TurnValue → PursueEnd → List Atom → Type 0
-  Pursues = IsPursuit leaves_edit problem tables goal vars recorded
+  Pursues = IsPursuit leaves_edit problem tables goal variable_count recorded
 
   -- ---- the atoms
 
@@ -91,15 +91,15 @@ module _ (problem : Problem) (tables : List Table) (goal : List Atom) (vars : �
 
   -- ---- of the problem
 
-  module _ (valid : IsValid problem) (learned : AreLearned problem tables) (own : All (IsAtomOf problem vars) goal) where
-    pub searchable : (atoms : List Atom) → IsSearchable (task_of problem tables atoms goal vars)
+  module _ (valid : IsValid problem) (learned : AreLearned problem tables) (own : All (IsAtomOf problem variable_count) goal) where
+    pub searchable : (atoms : List Atom) → IsSearchable (task_of problem tables atoms goal variable_count)
     searchable atoms = record { valid = valid; goal = own; learned = learned; nodes = valid.nodes.1 }
 
     -- the table of each run is one
     pub run-table : (number : ℕ) (atoms : List Atom) (run : List TurnValue) (after : List Atom) (plan : Runs number atoms run after)
         → IsTable problem plan.plan
     run-table number atoms run after plan =
-        found-table (task_of problem tables atoms goal vars) (searchable atoms) plan.moves plan.plan plan.found plan.made
+        found-table (task_of problem tables atoms goal variable_count) (searchable atoms) plan.moves plan.plan plan.found plan.made
 
     pub pursuit-steps : (atoms : List Atom) (searches : ℕ) (turns : List TurnValue) (end : PursueEnd) (after : List Atom)
         → Pursues atoms searches turns end after → All (λ turn. IsOwnStep problem turn.op) turns

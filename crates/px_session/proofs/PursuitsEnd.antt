@@ -48,28 +48,28 @@ ends-run problem table recorded (turn ∷ next ∷ turns) number old new (mid, t
     ends-run problem table recorded (next ∷ turns) (suc number) mid new later.1
 
 module _ (traces-exist : TracesExist leaves_edit) (problem : Problem) (valid : IsValid problem) (tables : List Table)
-    (learned : AreLearned problem tables) (goal : List Atom) (vars : ℕ) (own : All (IsAtomOf problem vars) goal)
+    (learned : AreLearned problem tables) (goal : List Atom) (variable_count : ℕ) (own : All (IsAtomOf problem variable_count) goal)
     (recorded : List (Recorded Edit)) where
   abbrev from : List Atom → Task
-  from atoms = task_of problem tables atoms goal vars
+  from atoms = task_of problem tables atoms goal variable_count
 
   abbrev Run : ℕ → List Atom → List TurnValue → List Atom → Type 0
-  Run = Runs problem tables goal vars recorded
+  Run = Runs problem tables goal variable_count recorded
 
   -- searches and runs from that turn on, up to the last
   record GoesOn (number : ℕ) (atoms : List Atom) : Type 0 where
     pub count : ℕ
     pub before : List TurnValue
     pub mid : List Atom
-    pub vain : Vain problem tables goal vars recorded count number atoms before mid
+    pub vain : Vain problem tables goal variable_count recorded count number atoms before mid
     pub last : List TurnValue
     pub end : PursueEnd
     pub after : List Atom
-    pub ends : Ends problem tables goal vars recorded (number + length before) mid last end after
+    pub ends : Ends problem tables goal variable_count recorded (number + length before) mid last end after
 
   -- the last search is the first
   at-once : (number : ℕ) (atoms : List Atom) (run : List TurnValue) (end : PursueEnd) (after : List Atom)
-      → Ends problem tables goal vars recorded number atoms run end after → GoesOn number atoms
+      → Ends problem tables goal variable_count recorded number atoms run end after → GoesOn number atoms
   at-once number atoms run end after ends = record {
     count = 0;
     before = [];
@@ -79,7 +79,7 @@ module _ (traces-exist : TracesExist leaves_edit) (problem : Problem) (valid : I
     end = end;
     after = after;
     ends = let none : number ≡ number + 0 = omega arith in
-        subst (λ n. Ends problem tables goal vars recorded n atoms run end after) none ends;
+        subst (λ n. Ends problem tables goal variable_count recorded n atoms run end after) none ends;
   }
 
   -- one run in vain before
@@ -95,7 +95,7 @@ module _ (traces-exist : TracesExist leaves_edit) (problem : Problem) (valid : I
     after = rest.after;
     ends = let place : (number + length run) + length rest.before ≡ number + length (run ++ rest.before) =
         omega (arith, length-append run rest.before) in
-        subst (λ n. Ends problem tables goal vars recorded n rest.mid rest.last rest.end rest.after) place rest.ends;
+        subst (λ n. Ends problem tables goal variable_count recorded n rest.mid rest.last rest.end rest.after) place rest.ends;
   }
 
   -- the plan is executed
@@ -108,7 +108,7 @@ module _ (traces-exist : TracesExist leaves_edit) (problem : Problem) (valid : I
   runs-there : (number : ℕ) → 1 ≤ number → (atoms : List Atom) (moves : List Move) → FindsMoves (from atoms) moves → HasRun number atoms
   runs-there number some atoms moves found =
       let made = found_have_tables (from atoms) problem.weight moves valid own learned found in
-      let is_table = found-table (from atoms) (searchable problem tables goal vars recorded valid learned own atoms) moves made.0 found
+      let is_table = found-table (from atoms) (searchable problem tables goal variable_count recorded valid learned own atoms) moves made.0 found
       made.1 in
       let run = turns-end leaves_edit problem made.0 [] recorded number some atoms traces-exist valid is_table in
       record {
@@ -127,8 +127,8 @@ module _ (traces-exist : TracesExist leaves_edit) (problem : Problem) (valid : I
     by-run : (ran : HasRun number atoms) → EndsRun AtGoal ran.run ⊎ EndsRun AtNoKernel ran.run → ⊥
     by-run ran (inl reached) = never (at-once number atoms ran.run Goal ran.after (ran.plan, reached))
     by-run ran (inr none) =
-        let used = plan_uses leaves_edit problem tables goal vars recorded atoms
-        (searchable problem tables goal vars recorded valid learned own atoms) number atoms ran.run ran.after ran.plan none in
+        let used = plan_uses leaves_edit problem tables goal variable_count recorded atoms
+        (searchable problem tables goal variable_count recorded valid learned own atoms) number atoms ran.run ran.after ran.plan none in
         later (number + length ran.run) (omega (arith, some)) ran.after (omega (arith, used, enough))
         (λ rest. never (after-vain number atoms ran.run ran.after ran.plan none rest))
 
@@ -146,7 +146,7 @@ module _ (traces-exist : TracesExist leaves_edit) (problem : Problem) (valid : I
 
   abbrev HasPursuit : List Atom → Type 0
   HasPursuit atoms = (searches : ℕ) × (turns : List TurnValue) × ((end : PursueEnd) × (after : List Atom)
-      × IsPursuit leaves_edit problem tables goal vars recorded atoms searches turns end after)
+      × IsPursuit leaves_edit problem tables goal variable_count recorded atoms searches turns end after)
 
   -- it can't be that there is no pursuit
   pub pursuits_end : (atoms : List Atom) → ¬ ¬ HasPursuit atoms
@@ -166,7 +166,7 @@ module _ (traces-exist : TracesExist leaves_edit) (problem : Problem) (valid : I
             mid = is.mid;
             vain = is.vain;
             ends = let place : 1 + length is.before ≡ length is.before + 1 = omega arith in
-                subst (λ n. Ends problem tables goal vars recorded n is.mid is.last is.end is.after) place is.ends;
+                subst (λ n. Ends problem tables goal variable_count recorded n is.mid is.last is.end is.after) place is.ends;
           },
         ),
       ))

@@ -21,8 +21,8 @@ use Rattle.px_session.proofs.AskedReplies.{asked-same}
 -- What holds of the state, and of each state that one more plan, one more learned or edited table, one more disturbance, a run, two
 -- executors or a pursuit leave of it, holds of the state after each lawful reply.
 module _ (problem : Problem) (old : SessionState) (given : Command) (P : SessionState → Type 0) (same : P old)
-    (stored : (name : ℕ) (goal : List Atom) (vars count : ℕ) (steps : List OpInst) (new : SessionState) → given ≡ command.Plan name goal vars
-    → (is : FindsPlan (task_of problem old.learned.tables old.atoms goal vars) name old count steps new)
+    (stored : (name : ℕ) (goal : List Atom) (variable_count count : ℕ) (steps : List OpInst) (new : SessionState) → given ≡ command.Plan name goal variable_count
+    → (is : FindsPlan (task_of problem old.learned.tables old.atoms goal variable_count) name old count steps new)
     → P (record old { plans = with_table old.plans name is.made }))
     (learned : (name source params steps : ℕ) (new : SessionState) → given ≡ command.Learn name source
     → IsLearned problem name source old params steps new → P new)
@@ -33,19 +33,19 @@ module _ (problem : Problem) (old : SessionState) (given : Command) (P : Session
     → IsRunOf problem name bound old told new → P new)
     (dual : (first second : ℕ) (numbers : List ℕ) (lines : List DuoLine) (new : SessionState) → given ≡ command.Duo first second numbers
     → IsDuoOf problem first second numbers old lines new → P new)
-    (pursued : (name : ℕ) (goal : List Atom) (vars searches : ℕ) (told : List Turn) (end : PursueEnd) (new : SessionState)
-    → given ≡ command.Pursue name goal vars → IsPursuitOf problem goal vars old searches told end new → P new) where
+    (pursued : (name : ℕ) (goal : List Atom) (variable_count searches : ℕ) (told : List Turn) (end : PursueEnd) (new : SessionState)
+    → given ≡ command.Pursue name goal variable_count → IsPursuitOf problem goal variable_count old searches told end new → P new) where
   unchanged : (new : SessionState) → new ≡ old → P new
   unchanged new is = subst P (sym is) same
 
-  after-search : (name : ℕ) (goal : List Atom) (vars : ℕ) → given ≡ command.Plan name goal vars → (answer : Reply) (new : SessionState)
-      → TellsSearch (task_of problem old.learned.tables old.atoms goal vars) name old answer new → P new
-  after-search name goal vars by (reply.Plan told count steps) new is =
-      subst P (sym is.1.stored) (stored name goal vars count steps new by is.1)
-  after-search name goal vars by (reply.Exhausted told) new is = unchanged new is.2
-  after-search name goal vars by (reply.NodeLimit told nodes moves) new is = unchanged new is.2
-  after-search name goal vars by (reply.ShapeLimit told node limit) new is = unchanged new is.2
-  after-search name goal vars by answer new is = absurd is
+  after-search : (name : ℕ) (goal : List Atom) (variable_count : ℕ) → given ≡ command.Plan name goal variable_count → (answer : Reply) (new : SessionState)
+      → TellsSearch (task_of problem old.learned.tables old.atoms goal variable_count) name old answer new → P new
+  after-search name goal variable_count by (reply.Plan told count steps) new is =
+      subst P (sym is.1.stored) (stored name goal variable_count count steps new by is.1)
+  after-search name goal variable_count by (reply.Exhausted told) new is = unchanged new is.2
+  after-search name goal variable_count by (reply.NodeLimit told nodes moves) new is = unchanged new is.2
+  after-search name goal variable_count by (reply.ShapeLimit told node limit) new is = unchanged new is.2
+  after-search name goal variable_count by answer new is = absurd is
 
   after-learning : (name source : ℕ) → given ≡ command.Learn name source → (answer : Reply) (new : SessionState)
       → TellsLearning problem old name source answer new → P new
@@ -81,10 +81,10 @@ module _ (problem : Problem) (old : SessionState) (given : Command) (P : Session
   after-duo first second numbers by (reply.DuoRan one other lines) new is = dual first second numbers lines new by is.2
   after-duo first second numbers by answer new is = absurd is
 
-  after-pursuit : (name : ℕ) (goal : List Atom) (vars : ℕ) → given ≡ command.Pursue name goal vars → (answer : Reply) (new : SessionState)
-      → TellsPursuit problem old name goal vars answer new → P new
-  after-pursuit name goal vars by (reply.Pursuit told searches turns end) new is = pursued name goal vars searches turns end new by is.1
-  after-pursuit name goal vars by answer new is = absurd is
+  after-pursuit : (name : ℕ) (goal : List Atom) (variable_count : ℕ) → given ≡ command.Pursue name goal variable_count → (answer : Reply) (new : SessionState)
+      → TellsPursuit problem old name goal variable_count answer new → P new
+  after-pursuit name goal variable_count by (reply.Pursuit told searches turns end) new is = pursued name goal variable_count searches turns end new by is.1
+  after-pursuit name goal variable_count by answer new is = absurd is
 
   after-tree : (task : Task) (name : ℕ) (answer : Reply) (new : SessionState) → TellsTree task name old answer new → P new
   after-tree task name (reply.Tree told tables tree) new is = unchanged new is.3
@@ -95,8 +95,8 @@ module _ (problem : Problem) (old : SessionState) (given : Command) (P : Session
   after-facts answer new is = absurd is
 
   after-reply : (one : Command) → given ≡ one → (answer : Reply) (new : SessionState) → Lawful problem old one answer new → P new
-  after-reply (command.Plan name goal vars) by answer new is =
-      after-search name goal vars by answer new is
+  after-reply (command.Plan name goal variable_count) by answer new is =
+      after-search name goal variable_count by answer new is
   after-reply (command.Learn name source) by answer new is = after-learning name source by answer new is
   after-reply (command.Edit name source prefix wanted) by answer new is = after-editing name source prefix wanted by answer new is
   after-reply (command.Ask about name) by answer new is = unchanged new (asked-same problem old name about answer new is)
@@ -106,9 +106,9 @@ module _ (problem : Problem) (old : SessionState) (given : Command) (P : Session
       after-notes turn between (map of_rooms edits) (ap edits_given by) answer new is
   after-reply (command.Run name bound) by answer new is = after-run name bound by answer new is
   after-reply (command.Duo first second numbers) by answer new is = after-duo first second numbers by answer new is
-  after-reply (command.Pursue name goal vars) by answer new is = after-pursuit name goal vars by answer new is
-  after-reply (command.Tree name nodes goal vars) by answer new is =
-      after-tree (task_with problem nodes old.learned.tables old.atoms goal vars) name answer new is
+  after-reply (command.Pursue name goal variable_count) by answer new is = after-pursuit name goal variable_count by answer new is
+  after-reply (command.Tree name nodes goal variable_count) by answer new is =
+      after-tree (task_with problem nodes old.learned.tables old.atoms goal variable_count) name answer new is
   after-reply command.Facts by answer new is = after-facts answer new is
 
   pub replied : (answer : Reply) (new : SessionState) → Lawful problem old given answer new → P new

@@ -45,8 +45,8 @@ module _ (task : Task) (weight : ℕ) where
   before : (found : List (List Move)) (place : ℕ) → place ≤ length found → (moves : List Move) (origin : Option TreeOrigin)
       → TellsOrigin task (take place found) moves origin → ComesFromBefore place origin
   before found place below moves None is = tt
-  before found place below moves (Some origin) (front, m, parts, stands, tells) =
-      let inside = place-within-list (take place found) origin.parent front stands in
+  before found place below moves (Some origin) (prefix, m, parts, stands, tells) =
+      let inside = place-within-list (take place found) origin.parent prefix stands in
       omega (arith, inside, length-take-le place found below)
 
   from-before : (tree : Tree) → IsTree task weight tree → (place : ℕ) (node : TreeNode) → slice_get tree.nodes place ≡ Some node
@@ -94,10 +94,10 @@ module _ (task : Task) (name : ℕ) (old : SessionState) (tree : Tree) (is : IsT
 
 pub told_trees : ToldTrees
 told_trees = record {
-  few = λ problem old name given nodes goal vars tables tree new is.
-      nodes-few (task_with problem nodes old.learned.tables old.atoms goal vars) problem.weight tree is.2;
-  upward = λ problem old name given nodes goal vars tables tree new place node is at.
-      from-before (task_with problem nodes old.learned.tables old.atoms goal vars) problem.weight tree is.2 place node at;
-  planned = λ problem old name other given goal vars tables tree answer new later is plan.
-      as-planned (task_of problem old.learned.tables old.atoms goal vars) other old tree is.2 answer later plan;
+  few = λ problem old name given nodes goal variable_count tables tree new is.
+      nodes-few (task_with problem nodes old.learned.tables old.atoms goal variable_count) problem.weight tree is.2;
+  upward = λ problem old name given nodes goal variable_count tables tree new place node is at.
+      from-before (task_with problem nodes old.learned.tables old.atoms goal variable_count) problem.weight tree is.2 place node at;
+  planned = λ problem old name other given goal variable_count tables tree answer new later is plan.
+      as-planned (task_of problem old.learned.tables old.atoms goal variable_count) other old tree is.2 answer later plan;
 }

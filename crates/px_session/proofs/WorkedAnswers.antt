@@ -53,7 +53,7 @@ rows-are = λ i. (derivation_of-fact p_leaf i ∷ []) ∷ []
 tested : is_table idle p_at_once ≡ true
 tested =
     subst (λ (made : List (List Derivation)). (rows_are_table idle p_at_once.params p_at_once.param_sorts p_at_once.steps p_at_once.goal
-    p_at_once.goal_vars made && pointwise mark_eq p_at_once.marks (marks_from 1 made)) ≡ true)
+    p_at_once.goal_variable_count made && pointwise mark_eq p_at_once.marks (marks_from 1 made)) ≡ true)
     (sym rows-are) refl
 
 is-table : IsTable idle p_at_once

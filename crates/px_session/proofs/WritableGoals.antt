@@ -55,26 +55,26 @@ mapped f (y ∷ xs) x has = elim (Contains-cases y xs x has) [
 -- ---- the terms of a goal
 
 abbrev AreTerms : Problem → ℕ → List Term → Type 0
-AreTerms problem vars terms = All (IsTermOf problem vars) terms
+AreTerms problem variable_count terms = All (IsTermOf problem variable_count) terms
 
 -- the arguments of atoms of the problem are terms of it
-pub are-terms : (problem : Problem) (vars : ℕ) (goal : List Atom) → All (IsAtomOf problem vars) goal → AreTerms problem vars (arguments_of goal)
-are-terms problem vars goal of =
-    All-flat_map (IsTermOf problem vars) (λ (atom : Atom). atom.args) goal
-    (λ atom has. (All-at (IsAtomOf problem vars) goal atom of has).1)
+pub are-terms : (problem : Problem) (variable_count : ℕ) (goal : List Atom) → All (IsAtomOf problem variable_count) goal → AreTerms problem variable_count (arguments_of goal)
+are-terms problem variable_count goal of =
+    All-flat_map (IsTermOf problem variable_count) (λ (atom : Atom). atom.args) goal
+    (λ atom has. (All-at (IsAtomOf problem variable_count) goal atom of has).1)
 
-place-low : (problem : Problem) (params goal_vars : ℕ) (t : Term) → IsTermOf problem (params + goal_vars) t → goal_place params t ≤ goal_vars
-place-low problem params goal_vars (Obj n) of = omega arith
-place-low problem params goal_vars (Var v) of = omega (arith, of)
-place-low problem params goal_vars WildCard of = omega arith
+place-low : (problem : Problem) (params goal_variable_count : ℕ) (t : Term) → IsTermOf problem (params + goal_variable_count) t → goal_place params t ≤ goal_variable_count
+place-low problem params goal_variable_count (Obj n) of = omega arith
+place-low problem params goal_variable_count (Var v) of = omega (arith, of)
+place-low problem params goal_variable_count WildCard of = omega arith
 
 -- the last variable is one of the goal's
-pub last-low : (problem : Problem) (params goal_vars : ℕ) (terms : List Term) → AreTerms problem (params + goal_vars) terms
-    → last_of params terms ≤ goal_vars
-last-low problem params goal_vars terms of =
-    most-from goal_vars 0 (map (goal_place params) terms) (omega arith)
-    (All-map (λ n. n ≤ goal_vars) (goal_place params) terms
-    (λ k d below. place-low problem params goal_vars _ (of k d below)))
+pub last-low : (problem : Problem) (params goal_variable_count : ℕ) (terms : List Term) → AreTerms problem (params + goal_variable_count) terms
+    → last_of params terms ≤ goal_variable_count
+last-low problem params goal_variable_count terms of =
+    most-from goal_variable_count 0 (map (goal_place params) terms) (omega arith)
+    (All-map (λ n. n ≤ goal_variable_count) (goal_place params) terms
+    (λ k d below. place-low problem params goal_variable_count _ (of k d below)))
 
 -- without objects and variables there are no terms
 pub no-terms : (problem : Problem) → problem.objects ≡ 0 → (terms : List Term) → AreTerms problem 0 terms → terms ≡ []
@@ -111,56 +111,56 @@ in-range count v below =
     (v, omega (arith, below, length-range_with_len 0 count), read ∙ omega arith)
 
 -- without parameters
-last-within : (problem : Problem) (vars : ℕ) (terms : List Term) → AreTerms problem vars terms → last_of 0 terms ≤ vars
-last-within problem vars terms of =
-    let same : vars ≡ 0 + vars = omega arith in
-    last-low problem 0 vars terms (subst (λ (n : ℕ). AreTerms problem n terms) same of)
+last-within : (problem : Problem) (variable_count : ℕ) (terms : List Term) → AreTerms problem variable_count terms → last_of 0 terms ≤ variable_count
+last-within problem variable_count terms of =
+    let same : variable_count ≡ 0 + variable_count = omega arith in
+    last-low problem 0 variable_count terms (subst (λ (n : ℕ). AreTerms problem n terms) same of)
 
 -- the last of as many variables as there are is the last that occurs
-pub numbered-last : (problem : Problem) (vars : ℕ) (goal : List Atom) → All (IsAtomOf problem vars) goal → AreNumbered vars goal
-    → vars ≡ last_of 0 (arguments_of goal)
+pub numbered-last : (problem : Problem) (variable_count : ℕ) (goal : List Atom) → All (IsAtomOf problem variable_count) goal → AreNumbered variable_count goal
+    → variable_count ≡ last_of 0 (arguments_of goal)
 numbered-last problem zero goal of numbered =
     let low = last-within problem 0 (arguments_of goal) (are-terms problem 0 goal of) in omega (arith, low)
-numbered-last problem (suc vars) goal of numbered =
+numbered-last problem (suc variable_count) goal of numbered =
     let terms = arguments_of goal in
-    let low = last-within problem (suc vars) terms (are-terms problem (suc vars) goal of) in
-    let first = subst (λ (vs : List ℕ). Contains vs vars) (sym numbered) (in-range (suc vars) vars (omega arith)) in
-    let there = occurs terms vars (occurs-first (filter_map variable_in terms) vars first) in
-    let reached = reached-from 0 (vars + 1 - 0) (map (goal_place 0) terms) (mapped (goal_place 0) terms (Var vars) there) in
+    let low = last-within problem (suc variable_count) terms (are-terms problem (suc variable_count) goal of) in
+    let first = subst (λ (vs : List ℕ). Contains vs variable_count) (sym numbered) (in-range (suc variable_count) variable_count (omega arith)) in
+    let there = occurs terms variable_count (occurs-first (filter_map variable_in terms) variable_count first) in
+    let reached = reached-from 0 (variable_count + 1 - 0) (map (goal_place 0) terms) (mapped (goal_place 0) terms (Var variable_count) there) in
     omega (arith, low, reached)
 
 -- ---- under objects
 
-module _ (problem : Problem) (params goal_vars : ℕ) (objects : List ℕ) (count : length objects ≡ params) where
+module _ (problem : Problem) (params goal_variable_count : ℕ) (objects : List ℕ) (count : length objects ≡ params) where
   -- the objects for the parameters, and the goal's own variables numbered from 0
   abbrev pub chosen : List Term
-  chosen = map Obj objects ++ variables goal_vars
+  chosen = map Obj objects ++ variables goal_variable_count
 
   objects-count : params ≡ length (map Obj objects)
   objects-count = sym (length-map objects Obj ∙ count)
 
-  place-read : (t : Term) → IsTermOf problem (params + goal_vars) t → goal_place 0 (substitute chosen t) ≡ goal_place params t
+  place-read : (t : Term) → IsTermOf problem (params + goal_variable_count) t → goal_place 0 (substitute chosen t) ≡ goal_place params t
   place-read (Obj n) of = refl
   place-read WildCard of = refl
   place-read (Var v) of = elim (less_or_not v params) [
     | inl inside ↦
-        let read = read-left (map Obj objects) (variables goal_vars) v (omega (arith, inside, objects-count))
+        let read = read-left (map Obj objects) (variables goal_variable_count) v (omega (arith, inside, objects-count))
         ∙ read-objects objects v (omega (arith, inside, count)) in
         ap (goal_place 0) read ∙ omega (arith, inside)
     | inr outside ↦
         let back : params + (v - params) ≡ v = omega (arith, outside) in
         let read = ap (λ k. substitute chosen (Var k)) (sym back)
-        ∙ read-right (map Obj objects) (variables goal_vars) params (v - params) objects-count
-        ∙ read-variable 0 goal_vars (v - params) (omega (arith, outside, of)) in
+        ∙ read-right (map Obj objects) (variables goal_variable_count) params (v - params) objects-count
+        ∙ read-variable 0 goal_variable_count (v - params) (omega (arith, outside, of)) in
         ap (goal_place 0) read ∙ omega (arith, outside)
   ]
 
-  places-read : (terms : List Term) → AreTerms problem (params + goal_vars) terms
+  places-read : (terms : List Term) → AreTerms problem (params + goal_variable_count) terms
       → map (goal_place 0) (map (substitute chosen) terms) ≡ map (goal_place params) terms
   places-read [] of = refl
   places-read (t ∷ terms) of =
-      let here = place-read t (All-head (IsTermOf problem (params + goal_vars)) t terms of) in
-      let rest = places-read terms (All-tail (IsTermOf problem (params + goal_vars)) t terms of) in
+      let here = place-read t (All-head (IsTermOf problem (params + goal_variable_count)) t terms of) in
+      let rest = places-read terms (All-tail (IsTermOf problem (params + goal_variable_count)) t terms of) in
       λ i. here i ∷ rest i
 
   arguments-under : (goal : List Atom) → arguments_of (map (substitute_atom chosen) goal) ≡ map (substitute chosen) (arguments_of goal)
@@ -169,11 +169,11 @@ module _ (problem : Problem) (params goal_vars : ℕ) (objects : List ℕ) (coun
       (λ atom. refl) goal
 
   -- the last variable is the same
-  pub last-under : (goal : List Atom) → All (IsAtomOf problem (params + goal_vars)) goal
+  pub last-under : (goal : List Atom) → All (IsAtomOf problem (params + goal_variable_count)) goal
       → last_of 0 (arguments_of (map (substitute_atom chosen) goal)) ≡ last_of params (arguments_of goal)
   last-under goal of =
       ap (λ (terms : List Term). last_of 0 terms) (arguments-under goal)
-      ∙ ap (fold max 0) (places-read (arguments_of goal) (are-terms problem (params + goal_vars) goal of))
+      ∙ ap (fold max 0) (places-read (arguments_of goal) (are-terms problem (params + goal_variable_count) goal of))
 
   -- and there are no more arguments
   pub none-under : (goal : List Atom) → arguments_of (map (substitute_atom chosen) goal) ≡ [] → arguments_of goal ≡ []

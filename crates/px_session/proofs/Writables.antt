@@ -67,17 +67,17 @@ no-sorts problem steps zero none = refl
 no-sorts problem steps (suc params) none = absurd (omega (arith, none))
 
 plan-writable : (task : Task) (moves : List Move) (made : Table) → IsTableOfMoves task moves made
-    → IsGoalOf 2 task.problem task.goal task.vars → IsWritable task.problem made
+    → IsGoalOf 2 task.problem task.goal task.variable_count → IsWritable task.problem made
 plan-writable task moves made is of = record {
   some = subst (λ (goal : List Atom). 1 ≤ length goal) (sym is.goal) of.some;
   few_atoms = subst (λ (goal : List Atom). length goal ≤ greatest 2 limit.GoalAtoms) (sym is.goal) of.few;
-  few_variables = subst (λ (vars : ℕ). vars ≤ greatest 2 limit.Variables) (sym is.goal_vars) of.few_variables;
-  last_occurs = is.goal_vars ∙ numbered-last task.problem task.vars task.goal of.atoms of.numbered
+  few_variables = subst (λ (variable_count : ℕ). variable_count ≤ greatest 2 limit.Variables) (sym is.goal_variable_count) of.few_variables;
+  last_occurs = is.goal_variable_count ∙ numbered-last task.problem task.variable_count task.goal of.atoms of.numbered
       ∙ sym ((λ i. last_of (is.params i) (arguments_of (is.goal i))));
   sorts = is.param_sorts ∙ sym (no-sorts task.problem made.steps made.params is.params);
   no_objects = λ none.
-      let no_vars = of.no_objects none in
-      let atoms = subst (λ (vars : ℕ). All (IsAtomOf task.problem vars) task.goal) no_vars of.atoms in
+      let no_variables = of.no_objects none in
+      let atoms = subst (λ (variable_count : ℕ). All (IsAtomOf task.problem variable_count) task.goal) no_variables of.atoms in
       ap arguments_of is.goal ∙ no-terms task.problem none (arguments_of task.goal) (are-terms task.problem 0 task.goal atoms);
 }
 
@@ -96,26 +96,26 @@ module _ (problem : Problem) (plan general : Table) (is_table : IsTable problem 
 
   long : length general.goal ≡ length plan.goal
   long =
-      sym (length-map general.goal (substitute_atom (map Obj objects ++ variables general.goal_vars))) ∙ sym (ap length goals)
-      ∙ length-map plan.goal (substitute_atom (map Obj [] ++ variables plan.goal_vars))
+      sym (length-map general.goal (substitute_atom (map Obj objects ++ variables general.goal_variable_count))) ∙ sym (ap length goals)
+      ∙ length-map plan.goal (substitute_atom (map Obj [] ++ variables plan.goal_variable_count))
 
   last-general : last_goal_variable general ≡ last_goal_variable plan
   last-general =
-      sym (last-under problem general.params general.goal_vars objects count general.goal is.table.in_range.goal)
+      sym (last-under problem general.params general.goal_variable_count objects count general.goal is.table.in_range.goal)
       ∙ sym (ap (λ (goal : List Atom). last_of 0 (arguments_of goal)) goals)
-      ∙ last-under problem plan.params plan.goal_vars [] (sym no_params) plan.goal is_table.in_range.goal
+      ∙ last-under problem plan.params plan.goal_variable_count [] (sym no_params) plan.goal is_table.in_range.goal
 
   pub general-writable : IsWritable problem general
   general-writable = record {
     some = let some = written.some in omega (arith, some, long);
     few_atoms = let few = written.few_atoms in omega (arith, few, long);
-    few_variables = let few = written.few_variables in omega (arith, few, is.goal_vars);
-    last_occurs = is.goal_vars ∙ written.last_occurs ∙ sym last-general;
+    few_variables = let few = written.few_variables in omega (arith, few, is.goal_variable_count);
+    last_occurs = is.goal_variable_count ∙ written.last_occurs ∙ sym last-general;
     sorts = sorts_of_places-computed problem general is.sorts;
     no_objects = λ none.
-        none-under problem general.params general.goal_vars objects count general.goal
+        none-under problem general.params general.goal_variable_count objects count general.goal
         (sym (ap arguments_of goals)
-        ∙ some-under problem plan.params plan.goal_vars [] (sym no_params) plan.goal (written.no_objects none));
+        ∙ some-under problem plan.params plan.goal_variable_count [] (sym no_params) plan.goal (written.no_objects none));
   }
 
 -- ---- edited tables
@@ -177,11 +177,11 @@ module _ (problem : Problem) (valid : IsValid problem) (table : Table) (wanted :
   edited-writable = record {
     some = omega (arith, some, as-many);
     few_atoms = omega (arith, few, as-many);
-    few_variables = omega (arith, is.renamed.goal_vars);
+    few_variables = omega (arith, is.renamed.goal_variable_count);
     last_occurs =
-        let terms = are-terms problem (edited.params + edited.goal_vars) edited.goal is_table.in_range.goal in
-        let low = last-low problem edited.params edited.goal_vars (arguments_of edited.goal) terms in
-        omega (arith, low, is.renamed.goal_vars);
+        let terms = are-terms problem (edited.params + edited.goal_variable_count) edited.goal is_table.in_range.goal in
+        let low = last-low problem edited.params edited.goal_variable_count (arguments_of edited.goal) terms in
+        omega (arith, low, is.renamed.goal_variable_count);
     sorts = is.renamed.sorts_are;
     no_objects = λ none. ap arguments_of is.renamed.goal_is ∙ goal-none problem valid none table names wanted;
   }
@@ -204,9 +204,9 @@ pub writable-kept : (problem : Problem) (old : SessionState) (given : Command) (
     → HasWritableTables problem new
 writable-kept problem old given answer new valid session written asks is =
     replied problem old given (HasWritableTables problem) written
-    (λ name goal vars count steps new by is. record {
+    (λ name goal variable_count count steps new by is. record {
       plans = one-more (IsWritable problem) old.plans.tables is.made written.plans
-          (plan-writable (task_of problem old.learned.tables old.atoms goal vars) is.moves is.made is.table
+          (plan-writable (task_of problem old.learned.tables old.atoms goal variable_count) is.moves is.made is.table
           (subst (AsksWritable problem) by asks));
       learned = written.learned;
     })
@@ -233,7 +233,7 @@ writable-kept problem old given answer new valid session written asks is =
     (record { plans = written.plans; learned = written.learned }))
     (λ first second numbers lines new by is. subst (HasWritableTables problem) (sym is.changed)
     (record { plans = written.plans; learned = written.learned }))
-    (λ name goal vars searches told end new by is. subst (HasWritableTables problem) (sym is.changed)
+    (λ name goal variable_count searches told end new by is. subst (HasWritableTables problem) (sym is.changed)
     (record { plans = written.plans; learned = written.learned }))
     answer new is
 
@@ -241,7 +241,7 @@ writable-kept problem old given answer new valid session written asks is =
 
 asks-writable : (version : ℕ) (problem : Problem) (building : Option (List Thing)) (results : ℕ) (c : Command)
     → IsCommandOf version problem building results c → AsksWritable problem c
-asks-writable version problem building results (command.Plan name goal vars) of = record {
+asks-writable version problem building results (command.Plan name goal variable_count) of = record {
   some = of.1.some;
   few = of.1.few;
   few_variables = of.1.few_variables;

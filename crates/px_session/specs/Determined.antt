@@ -80,9 +80,9 @@ pub record SessionsAreKept : Type 0 where
       → IsValid problem → IsSession problem old → IsOwnState problem old → HasOwnEdits problem command → IsOwnPursuit problem command
       → Lawful problem old command answer new → IsOwnState problem new
   pub plans : (problem : Problem) (old : SessionState) (name : ℕ) (goal : List Atom)
-      (vars given count : ℕ) (steps : List OpInst) (new : SessionState)
-      → IsValid problem → IsSession problem old → All (IsAtomOf problem vars) goal
-      → Lawful problem old (Plan name goal vars) (reply.Plan given count steps) new → Carries problem old.atoms steps vars goal
+      (variable_count given count : ℕ) (steps : List OpInst) (new : SessionState)
+      → IsValid problem → IsSession problem old → All (IsAtomOf problem variable_count) goal
+      → Lawful problem old (Plan name goal variable_count) (reply.Plan given count steps) new → Carries problem old.atoms steps variable_count goal
 
 -- A script whose opening state is one of a session has one list of lawful replies, apart from questions at limits of shapes; the state
 -- after them is one, and so is the text.

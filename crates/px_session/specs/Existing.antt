@@ -19,10 +19,10 @@ HasReply problem old given = (answer : Reply) × ((new : SessionState) × Lawful
 
 -- the command searches for nothing and edits nothing
 abbrev pub AsksNoSearch : Command → Type 0
-AsksNoSearch (Plan name goal vars) = ⊥
+AsksNoSearch (Plan name goal variable_count) = ⊥
 AsksNoSearch (Edit name source prefix wanted) = ⊥
-AsksNoSearch (Pursue name goal vars) = ⊥
-AsksNoSearch (Tree name nodes goal vars) = ⊥
+AsksNoSearch (Pursue name goal variable_count) = ⊥
+AsksNoSearch (Tree name nodes goal variable_count) = ⊥
 AsksNoSearch _ = Unit {0}
 
 -- In a session's state each command has a lawful reply. For a plan this is a double negation, since which one it is takes a search to say;
@@ -30,12 +30,12 @@ AsksNoSearch _ = Unit {0}
 pub record RepliesExist : Type 0 where
   pub others : (problem : Problem) (old : SessionState) (given : Command) → IsValid problem → IsSession problem old → AsksNoSearch given
       → HasReply problem old given
-  pub plans : (problem : Problem) (old : SessionState) (name : ℕ) (goal : List Atom) (vars : ℕ) → IsValid problem → IsSession problem old
-      → All (IsAtomOf problem vars) goal → ¬ ¬ HasReply problem old (Plan name goal vars)
-  pub pursued : (problem : Problem) (old : SessionState) (name : ℕ) (goal : List Atom) (vars : ℕ) → IsValid problem
-      → IsSession problem old → All (IsAtomOf problem vars) goal → ¬ ¬ HasReply problem old (Pursue name goal vars)
-  pub grown : (problem : Problem) (old : SessionState) (name nodes : ℕ) (goal : List Atom) (vars : ℕ)
-      → ¬ ¬ HasReply problem old (Tree name nodes goal vars)
+  pub plans : (problem : Problem) (old : SessionState) (name : ℕ) (goal : List Atom) (variable_count : ℕ) → IsValid problem → IsSession problem old
+      → All (IsAtomOf problem variable_count) goal → ¬ ¬ HasReply problem old (Plan name goal variable_count)
+  pub pursued : (problem : Problem) (old : SessionState) (name : ℕ) (goal : List Atom) (variable_count : ℕ) → IsValid problem
+      → IsSession problem old → All (IsAtomOf problem variable_count) goal → ¬ ¬ HasReply problem old (Pursue name goal variable_count)
+  pub grown : (problem : Problem) (old : SessionState) (name nodes : ℕ) (goal : List Atom) (variable_count : ℕ)
+      → ¬ ¬ HasReply problem old (Tree name nodes goal variable_count)
   pub edited : (problem : Problem) (old : SessionState) (name source prefix : ℕ) (wanted : List (ℕ × ℕ)) → IsValid problem
       → IsSession problem old → ¬ ¬ HasReply problem old (Edit name source prefix wanted)
 

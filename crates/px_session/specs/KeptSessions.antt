@@ -21,10 +21,10 @@ use Rattle.px_session.specs.Sessions.{Edit, IsSession}
 use Rattle.px_session.specs.Writable.{AsksWritable, HasWritableTables}
 
 -- the goal is one of the problem over no more variables than one may have, and there is an object where there is a variable
-pub record IsGoalToPlan (problem : Problem) (goal : List Atom) (vars : ℕ) : Type 0 where
-  pub atoms : All (IsAtomOf problem vars) goal
-  pub few : vars ≤ most_formula_variables
-  pub some_object : 0 < vars → 0 < problem.objects
+pub record IsGoalToPlan (problem : Problem) (goal : List Atom) (variable_count : ℕ) : Type 0 where
+  pub atoms : All (IsAtomOf problem variable_count) goal
+  pub few : variable_count ≤ most_formula_variables
+  pub some_object : 0 < variable_count → 0 < problem.objects
 
 -- parameters, counted from 1, each once, with objects of the problem
 pub record IsBindingToRun (problem : Problem) (bound : List (ℕ × ℕ)) : Type 0 where
@@ -44,9 +44,9 @@ pub record AreAddsToWant (wanted : List (ℕ × ℕ)) : Type 0 where
 
 -- what running a command asks of the problem's numbers in it
 abbrev pub IsAnswerable : Problem → Command → Type 0
-IsAnswerable problem (Plan name goal vars) = IsGoalToPlan problem goal vars
-IsAnswerable problem (Pursue name goal vars) = IsGoalToPlan problem goal vars
-IsAnswerable problem (Tree name nodes goal vars) = (1 ≤ nodes) × (nodes ≤ most_nodes) × IsGoalToPlan problem goal vars
+IsAnswerable problem (Plan name goal variable_count) = IsGoalToPlan problem goal variable_count
+IsAnswerable problem (Pursue name goal variable_count) = IsGoalToPlan problem goal variable_count
+IsAnswerable problem (Tree name nodes goal variable_count) = (1 ≤ nodes) × (nodes ≤ most_nodes) × IsGoalToPlan problem goal variable_count
 IsAnswerable problem (Run name bound) = IsBindingToRun problem bound
 IsAnswerable problem (command.Edit name source prefix wanted) = AreAddsToWant wanted
 IsAnswerable problem _ = Unit {0}

@@ -210,17 +210,17 @@ TellsDuo problem old first second numbers answer new = ⊥
 
 -- The goal is pursued from the world's atoms, with the learned tables and all that is recorded, by so many searches and in the turns that
 -- the reply prints. The world is then the one after it, nothing is recorded, and no table is stored or learned.
-pub record IsPursuitOf (problem : Problem) (goal : List Atom) (vars : ℕ)
+pub record IsPursuitOf (problem : Problem) (goal : List Atom) (variable_count : ℕ)
     (old : SessionState) (searches : ℕ) (told : List Turn) (end : PursueEnd) (new : SessionState) : Type 0 where
   pub after : List Atom
-  pub pursues : IsPursuit leaves_edit problem old.learned.tables goal vars old.recorded old.atoms searches (map turn_told told) end after
+  pub pursues : IsPursuit leaves_edit problem old.learned.tables goal variable_count old.recorded old.atoms searches (map turn_told told) end after
   pub changed : new ≡ record old { atoms = after; recorded = [] }
 
 -- to `pursue NAME ..`: such a pursuit
 abbrev pub TellsPursuit : Problem → SessionState → ℕ → List Atom → ℕ → Reply → SessionState → Type 0
-TellsPursuit problem old name goal vars (reply.Pursuit given searches told end) new =
-    (given ≡ name) × IsPursuitOf problem goal vars old searches told end new
-TellsPursuit problem old name goal vars answer new = ⊥
+TellsPursuit problem old name goal variable_count (reply.Pursuit given searches told end) new =
+    (given ≡ name) × IsPursuitOf problem goal variable_count old searches told end new
+TellsPursuit problem old name goal variable_count answer new = ⊥
 
 -- ---- tree
 
@@ -247,8 +247,8 @@ recorded_for turn between edits = record { turn = turn; between = between; edits
 -- In this state the command may have this reply, which leaves that state. A search starts from the world's atoms, with the learned tables;
 -- that of a tree has room for as many nodes as the command says.
 abbrev pub Lawful : Problem → SessionState → Command → Reply → SessionState → Type 0
-Lawful problem old (command.Plan name goal vars) answer new =
-    TellsSearch (task_of problem old.learned.tables old.atoms goal vars) name old answer new
+Lawful problem old (command.Plan name goal variable_count) answer new =
+    TellsSearch (task_of problem old.learned.tables old.atoms goal variable_count) name old answer new
 Lawful problem old (command.Learn name source) answer new = TellsLearning problem old name source answer new
 Lawful problem old (command.Edit name source prefix wanted) answer new = TellsEditing problem old name source prefix wanted answer new
 Lawful problem old (command.Ask about name) answer new = TellsAsked problem about old name answer new
@@ -258,7 +258,7 @@ Lawful problem old (command.DisturbRooms turn between edits) answer new =
     Notes old (recorded_for turn between (map of_rooms edits)) answer new
 Lawful problem old (command.Run name bound) answer new = TellsRun problem old name bound answer new
 Lawful problem old (command.Duo first second numbers) answer new = TellsDuo problem old first second numbers answer new
-Lawful problem old (command.Pursue name goal vars) answer new = TellsPursuit problem old name goal vars answer new
-Lawful problem old (command.Tree name nodes goal vars) answer new =
-    TellsTree (task_with problem nodes old.learned.tables old.atoms goal vars) name old answer new
+Lawful problem old (command.Pursue name goal variable_count) answer new = TellsPursuit problem old name goal variable_count answer new
+Lawful problem old (command.Tree name nodes goal variable_count) answer new =
+    TellsTree (task_with problem nodes old.learned.tables old.atoms goal variable_count) name old answer new
 Lawful problem old command.Facts answer new = TellsFacts old answer new

@@ -22,9 +22,9 @@ pub record AreNamesOfProblem (problem : Problem) (names : NameLists) : Type 0 wh
 -- names of two results, and so does `edit`; `run`, and what only asks about a table, take the name of a result, and `duo` takes two. Edits
 -- and the facts have no names of results.
 abbrev pub IsTellable : Problem → ℕ → Command → Type 0
-IsTellable problem results (Plan name goal vars) = (name < results) × All (IsAtomOf problem vars) goal
-IsTellable problem results (Pursue name goal vars) = (name < results) × All (IsAtomOf problem vars) goal
-IsTellable problem results (Tree name nodes goal vars) = (name < results) × All (IsAtomOf problem vars) goal
+IsTellable problem results (Plan name goal variable_count) = (name < results) × All (IsAtomOf problem variable_count) goal
+IsTellable problem results (Pursue name goal variable_count) = (name < results) × All (IsAtomOf problem variable_count) goal
+IsTellable problem results (Tree name nodes goal variable_count) = (name < results) × All (IsAtomOf problem variable_count) goal
 IsTellable problem results (Learn name source) = (name < results) × (source < results)
 IsTellable problem results (Ask about name) = name < results
 IsTellable problem results (DisturbAtoms turn between edits) = Unit {0}
@@ -41,7 +41,7 @@ pub record HasTableNames (results : ℕ) (state : SessionState) : Type 0 where
 
 -- a tree tells of learned tables, and so these are named
 abbrev pub TellsOfNamed : ℕ → SessionState → Command → Type 0
-TellsOfNamed results state (Tree name nodes goal vars) = HasTableNames results state
+TellsOfNamed results state (Tree name nodes goal variable_count) = HasTableNames results state
 TellsOfNamed results state _ = Unit {0}
 
 -- In a session's state with atoms of a valid problem, each lawful reply has a name for each number that it prints as one. The tables that

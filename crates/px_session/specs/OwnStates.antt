@@ -30,14 +30,14 @@ HasOwnEdits problem command = All (IsOwnEdit problem) (edits_given command)
 
 -- a goal is one of the problem
 abbrev pub IsOwnGoal : Problem → Command → Type 0
-IsOwnGoal problem (Plan name goal vars) = All (IsAtomOf problem vars) goal
-IsOwnGoal problem (Pursue name goal vars) = All (IsAtomOf problem vars) goal
-IsOwnGoal problem (Tree name nodes goal vars) = All (IsAtomOf problem vars) goal
+IsOwnGoal problem (Plan name goal variable_count) = All (IsAtomOf problem variable_count) goal
+IsOwnGoal problem (Pursue name goal variable_count) = All (IsAtomOf problem variable_count) goal
+IsOwnGoal problem (Tree name nodes goal variable_count) = All (IsAtomOf problem variable_count) goal
 IsOwnGoal problem _ = Unit {0}
 
 -- a goal that is pursued is one of the problem, which is valid
 abbrev pub IsOwnPursuit : Problem → Command → Type 0
-IsOwnPursuit problem (Pursue name goal vars) = IsValid problem × All (IsAtomOf problem vars) goal
+IsOwnPursuit problem (Pursue name goal variable_count) = IsValid problem × All (IsAtomOf problem variable_count) goal
 IsOwnPursuit problem _ = Unit {0}
 
 -- the world's atoms, and the edits that are recorded for the next run, are of the problem

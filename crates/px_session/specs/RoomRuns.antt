@@ -89,7 +89,7 @@ LeavesRooms old (Run name bound) (reply.Ran given told) building left =
     AreTurnsInRooms old.recorded 1 (map turn_told told) building left
 LeavesRooms old (Duo first second numbers) (reply.DuoRan one other lines) building left =
     AreDuoLinesInRooms (both None None) lines building left
-LeavesRooms old (Pursue name goal vars) (reply.Pursuit given searches told end) building left =
+LeavesRooms old (Pursue name goal variable_count) (reply.Pursuit given searches told end) building left =
     AreTurnsInRooms old.recorded 1 (map turn_told told) building left
 LeavesRooms old command answer building left = left ≡ building
 

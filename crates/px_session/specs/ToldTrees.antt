@@ -29,14 +29,14 @@ EndsAsPlanned end answer = ⊥
 -- A tree has no more nodes than the command says, and each is found from one before it. Where the command says as many nodes as the problem
 -- has, the tree ends as the search of each plan for the goal does.
 pub record ToldTrees : Type 0 where
-  pub few : (problem : Problem) (old : SessionState) (name given nodes : ℕ) (goal : List Atom) (vars : ℕ)
+  pub few : (problem : Problem) (old : SessionState) (name given nodes : ℕ) (goal : List Atom) (variable_count : ℕ)
       (tables : List ℕ) (tree : Tree) (new : SessionState)
-      → Lawful problem old (command.Tree name nodes goal vars) (reply.Tree given tables tree) new → length tree.nodes ≤ nodes
-  pub upward : (problem : Problem) (old : SessionState) (name given nodes : ℕ) (goal : List Atom) (vars : ℕ)
+      → Lawful problem old (command.Tree name nodes goal variable_count) (reply.Tree given tables tree) new → length tree.nodes ≤ nodes
+  pub upward : (problem : Problem) (old : SessionState) (name given nodes : ℕ) (goal : List Atom) (variable_count : ℕ)
       (tables : List ℕ) (tree : Tree) (new : SessionState) (place : ℕ) (node : TreeNode)
-      → Lawful problem old (command.Tree name nodes goal vars) (reply.Tree given tables tree) new → slice_get tree.nodes place ≡ Some node
+      → Lawful problem old (command.Tree name nodes goal variable_count) (reply.Tree given tables tree) new → slice_get tree.nodes place ≡ Some node
       → ComesFromBefore place node.origin
-  pub planned : (problem : Problem) (old : SessionState) (name other given : ℕ) (goal : List Atom) (vars : ℕ)
+  pub planned : (problem : Problem) (old : SessionState) (name other given : ℕ) (goal : List Atom) (variable_count : ℕ)
       (tables : List ℕ) (tree : Tree) (answer : Reply) (new later : SessionState)
-      → Lawful problem old (command.Tree name problem.nodes goal vars) (reply.Tree given tables tree) new
-      → Lawful problem old (command.Plan other goal vars) answer later → EndsAsPlanned tree.end answer
+      → Lawful problem old (command.Tree name problem.nodes goal variable_count) (reply.Tree given tables tree) new
+      → Lawful problem old (command.Plan other goal variable_count) answer later → EndsAsPlanned tree.end answer

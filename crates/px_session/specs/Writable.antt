@@ -16,8 +16,8 @@ use Rattle.px_session.specs.Sessions.{SessionState}
 pub record IsWritable (problem : Problem) (table : Table) : Type 0 where
   pub some : 1 ≤ length table.goal
   pub few_atoms : length table.goal ≤ greatest 2 limit.GoalAtoms
-  pub few_variables : table.goal_vars ≤ greatest 2 limit.Variables
-  pub last_occurs : table.goal_vars ≡ last_goal_variable table
+  pub few_variables : table.goal_variable_count ≤ greatest 2 limit.Variables
+  pub last_occurs : table.goal_variable_count ≡ last_goal_variable table
   pub sorts : table.param_sorts ≡ sorts_by_places problem table.steps table.params
   pub no_objects : problem.objects ≡ 0 → flat_map (λ atom. atom.args) table.goal ≡ []
 
@@ -28,6 +28,6 @@ pub record HasWritableTables (problem : Problem) (state : SessionState) : Type 0
 
 -- the goal that the command asks for, or the adds that it wants, are such a goal
 abbrev pub AsksWritable : Problem → Command → Type 0
-AsksWritable problem (Plan name goal vars) = IsGoalOf 2 problem goal vars
+AsksWritable problem (Plan name goal variable_count) = IsGoalOf 2 problem goal variable_count
 AsksWritable problem (Edit name source prefix wanted) = (1 ≤ length wanted) × (length wanted ≤ greatest 2 limit.Pairs)
 AsksWritable problem _ = Unit {0}

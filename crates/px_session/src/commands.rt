@@ -43,9 +43,11 @@ pub(crate) fn run_command(
     ensures kept_building { OnErr result (building.new ≡ building.old) }
 {
     match command {
-        Command::Plan { name, goal, vars } => {
-            state.plan(alloc, problem, *name, goal.as_slice(), *vars)
-        }
+        Command::Plan {
+            name,
+            goal,
+            variable_count,
+        } => { state.plan(alloc, problem, *name, goal.as_slice(), *variable_count) }
         Command::Learn { name, source } => state.learn(alloc, problem, *name, *source),
         Command::Ask { about, name } => state.ask(alloc, problem, *about, *name),
         Command::DisturbAtoms {
@@ -73,15 +75,33 @@ pub(crate) fn run_command(
             second,
             events,
         } => state.duo(alloc, problem, *first, *second, events.as_slice(), building),
-        Command::Pursue { name, goal, vars } => {
-            state.pursue(alloc, problem, *name, goal.as_slice(), *vars, building)
+        Command::Pursue {
+            name,
+            goal,
+            variable_count,
+        } => {
+            state.pursue(
+                alloc,
+                problem,
+                *name,
+                goal.as_slice(),
+                *variable_count,
+                building,
+            )
         }
         Command::Tree {
             name,
             nodes,
             goal,
-            vars,
-        } => state.tree(alloc, problem, *name, *nodes, goal.as_slice(), *vars),
+            variable_count,
+        } => state.tree(
+            alloc,
+            problem,
+            *name,
+            *nodes,
+            goal.as_slice(),
+            *variable_count,
+        ),
         Command::Edit {
             name,
             from,

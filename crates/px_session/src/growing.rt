@@ -26,16 +26,16 @@ impl State {
         name: u32,
         nodes: u32,
         goal: &[Atom],
-        vars: u32,
+        variable_count: u32,
     ) -> Result<Reply, NoMemory>
         requires problem { IsValid problem.now }
         requires nodes { (1 ≤ nodes) × (nodes ≤ most_nodes) }
-        requires goal { All (IsAtomOf problem.now vars) goal.now }
-        requires few_variables { vars ≤ most_formula_variables }
-        requires some_object { 0 < vars → 0 < problem.now.objects }
+        requires goal { All (IsAtomOf problem.now variable_count) goal.now }
+        requires few_variables { variable_count ≤ most_formula_variables }
+        requires some_object { 0 < variable_count → 0 < problem.now.objects }
         requires session { IsSession problem.now self.now }
         ensures told { IfOk result (λ reply. TellsTree
-            (task_with problem.now nodes self.now.learned.tables self.now.atoms goal.now vars) name self.now reply self.now) }
+            (task_with problem.now nodes self.now.learned.tables self.now.atoms goal.now variable_count) name self.now reply self.now) }
     {
         let tables = Sequence::from_slice(alloc, self.learned.names())?;
         let tree = search_tree(
@@ -44,7 +44,7 @@ impl State {
             nodes,
             &self.facts,
             goal,
-            vars,
+            variable_count,
             self.learned.tables(),
         )?;
         Ok(Reply::Tree { name, tables, tree })

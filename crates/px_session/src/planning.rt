@@ -27,15 +27,15 @@ impl State {
         problem: &Problem,
         name: u32,
         goal: &[Atom],
-        vars: u32,
+        variable_count: u32,
     ) -> Result<Reply, NoMemory>
         requires problem { IsValid problem.now }
-        requires goal { All (IsAtomOf problem.now vars) goal.now }
-        requires few_variables { vars ≤ most_formula_variables }
-        requires some_object { 0 < vars → 0 < problem.now.objects }
+        requires goal { All (IsAtomOf problem.now variable_count) goal.now }
+        requires few_variables { variable_count ≤ most_formula_variables }
+        requires some_object { 0 < variable_count → 0 < problem.now.objects }
         requires session { IsSession problem.now self.old }
         ensures told { IfOk result (λ reply. TellsSearch
-            (task_of problem.now self.old.learned.tables self.old.atoms goal.now vars) name self.old reply self.new) }
+            (task_of problem.now self.old.learned.tables self.old.atoms goal.now variable_count) name self.old reply self.new) }
         ensures kept { OnErr result (self.new ≡ self.old) }
     {
         match search(
@@ -43,10 +43,10 @@ impl State {
             problem,
             &self.facts,
             goal,
-            vars,
+            variable_count,
             self.learned.tables(),
         ) {
-            Ok(found) => self.store_plan(alloc, problem, name, goal, vars, found),
+            Ok(found) => self.store_plan(alloc, problem, name, goal, variable_count, found),
             Err(SearchErr::Exhausted) => Ok(Reply::Exhausted { name }),
             Err(SearchErr::NodeLimit { nodes, moves }) => {
                 Ok(Reply::NodeLimit { name, nodes, moves })
@@ -65,14 +65,14 @@ impl State {
         problem: &Problem,
         name: u32,
         goal: &[Atom],
-        vars: u32,
+        variable_count: u32,
         found: Found,
     ) -> Result<Reply, NoMemory>
         requires problem { IsValid problem.now }
-        requires goal { All (IsAtomOf problem.now vars) goal.now }
-        requires found { IsFoundPlan (task_of problem.now self.old.learned.tables self.old.atoms goal.now vars) found }
+        requires goal { All (IsAtomOf problem.now variable_count) goal.now }
+        requires found { IsFoundPlan (task_of problem.now self.old.learned.tables self.old.atoms goal.now variable_count) found }
         ensures told { IfOk result (λ reply. TellsSearch
-            (task_of problem.now self.old.learned.tables self.old.atoms goal.now vars) name self.old reply self.new) }
+            (task_of problem.now self.old.learned.tables self.old.atoms goal.now variable_count) name self.old reply self.new) }
         ensures kept { OnErr result (self.new ≡ self.old) }
     {
         let Found {
@@ -80,7 +80,14 @@ impl State {
             steps,
             support,
         } = found;
-        let table = build(alloc, problem, goal, vars, steps.as_slice(), support)?;
+        let table = build(
+            alloc,
+            problem,
+            goal,
+            variable_count,
+            steps.as_slice(),
+            support,
+        )?;
         self.plans.store(name, table)?;
         Ok(Reply::Plan {
             name,

@@ -46,21 +46,21 @@ fn pursue_in_copy(
     alloc: Global,
     problem: &Problem,
     goal: &[Atom],
-    vars: u32,
+    variable_count: u32,
     tables: &[Table],
     recorded: &[Recorded<Edit>],
     facts: &Model,
     building: &mut Option<RoomWorld>,
 ) -> Result<Pursued, NoMemory>
     requires problem { IsValid problem.now }
-    requires goal { All (IsAtomOf problem.now vars) goal.now }
-    requires few_variables { vars ≤ most_formula_variables }
-    requires some_object { 0 < vars → 0 < problem.now.objects }
+    requires goal { All (IsAtomOf problem.now variable_count) goal.now }
+    requires few_variables { variable_count ≤ most_formula_variables }
+    requires some_object { 0 < variable_count → 0 < problem.now.objects }
     requires tables { AreLearned problem.now tables.now }
     requires place { IsPlaceInBuilding problem.now facts.now.atoms building.old }
     requires taken { TakesAll building.old recorded.now }
     requires short { length recorded.now < u32_max }
-    ensures pursues { IfOk result (λ made. IsPursuit leaves_edit problem.now tables.now goal.now vars recorded.now facts.now.atoms
+    ensures pursues { IfOk result (λ made. IsPursuit leaves_edit problem.now tables.now goal.now variable_count recorded.now facts.now.atoms
         made.searches (map turn_told made.turns) made.end made.facts.atoms) }
     ensures place { IfOk result (λ made. IsPlaceInBuilding problem.now made.facts.atoms building.new) }
     ensures takes { TakeSame building.old building.new }
@@ -68,7 +68,15 @@ fn pursue_in_copy(
 {
     let mut copy = copy_of(building)?;
     let mut world = enter(alloc, problem, facts, 0, &mut copy)?;
-    let made = pursue(alloc, problem, &mut world, goal, vars, tables, recorded)?;
+    let made = pursue(
+        alloc,
+        problem,
+        &mut world,
+        goal,
+        variable_count,
+        tables,
+        recorded,
+    )?;
     *building = leave(world);
     Ok(made)
 }
@@ -86,17 +94,17 @@ impl State {
         problem: &Problem,
         name: u32,
         goal: &[Atom],
-        vars: u32,
+        variable_count: u32,
         building: &mut Option<RoomWorld>,
     ) -> Result<Reply, NoMemory>
         requires problem { IsValid problem.now }
-        requires goal { All (IsAtomOf problem.now vars) goal.now }
-        requires few_variables { vars ≤ most_formula_variables }
-        requires some_object { 0 < vars → 0 < problem.now.objects }
+        requires goal { All (IsAtomOf problem.now variable_count) goal.now }
+        requires few_variables { variable_count ≤ most_formula_variables }
+        requires some_object { 0 < variable_count → 0 < problem.now.objects }
         requires session { IsSession problem.now self.old }
         requires placed { IsPlaced problem.now building.old self.old }
         requires few { length self.old.recorded < u32_max }
-        ensures told { IfOk result (λ reply. TellsPursuit problem.now self.old name goal.now vars reply self.new) }
+        ensures told { IfOk result (λ reply. TellsPursuit problem.now self.old name goal.now variable_count reply self.new) }
         ensures placed { OnOk result (IsPlaced problem.now building.new self.new) }
         ensures takes { TakeSame building.old building.new }
         ensures kept { OnErr result (self.new ≡ self.old) }
@@ -106,7 +114,7 @@ impl State {
             alloc,
             problem,
             goal,
-            vars,
+            variable_count,
             self.learned.tables(),
             &self.recorded,
             &self.facts,

@@ -19,21 +19,21 @@ use Rattle.px_lines.specs.declared.parts.Part.{Part}
 -- ---- taken off the end
 
 module _ {X : Type 0} where
-  take-front : (xs ys : List X) → take (length xs) (xs ++ ys) ≡ xs
-  take-front [] ys = refl
-  take-front (x ∷ xs) ys = ap (λ zs. x ∷ zs) (take-front xs ys)
+  take-prefix : (xs ys : List X) → take (length xs) (xs ++ ys) ≡ xs
+  take-prefix [] ys = refl
+  take-prefix (x ∷ xs) ys = ap (λ zs. x ∷ zs) (take-prefix xs ys)
 
-  drop-front : (xs ys : List X) → drop (length xs) (xs ++ ys) ≡ ys
-  drop-front [] ys = refl
-  drop-front (x ∷ xs) ys = drop-front xs ys
+  drop-prefix : (xs ys : List X) → drop (length xs) (xs ++ ys) ≡ ys
+  drop-prefix [] ys = refl
+  drop-prefix (x ∷ xs) ys = drop-prefix xs ys
 
   -- the last `count`, the last one first, and what is left of the list
-  pub last-taken : (old front back : List X) (count : ℕ) → front ≡ take (length old - count) old → back ≡ drop (length old - count) old
-      → (reverse back ≡ take count (reverse old)) × (reverse front ≡ drop count (reverse old))
-  last-taken old front back count front_is back_is =
-      let whole : old ≡ front ++ back = sym (take-append-drop (length old - count) old)
-      ∙ ap (λ xs. xs ++ drop (length old - count) old) (sym front_is) ∙ ap (λ xs. front ++ xs) (sym back_is) in
-      let turned : reverse old ≡ reverse back ++ reverse front = ap reverse whole ∙ reverse-append front back in
+  pub last-taken : (old prefix back : List X) (count : ℕ) → prefix ≡ take (length old - count) old → back ≡ drop (length old - count) old
+      → (reverse back ≡ take count (reverse old)) × (reverse prefix ≡ drop count (reverse old))
+  last-taken old prefix back count prefix_is back_is =
+      let whole : old ≡ prefix ++ back = sym (take-append-drop (length old - count) old)
+      ∙ ap (λ xs. xs ++ drop (length old - count) old) (sym prefix_is) ∙ ap (λ xs. prefix ++ xs) (sym back_is) in
+      let turned : reverse old ≡ reverse back ++ reverse prefix = ap reverse whole ∙ reverse-append prefix back in
       let size : length (reverse back) ≡ length old - (length old - count)
       = length-reverse back ∙ ap length back_is ∙ length-drop (length old - count) old in
       elim (cases_lt (length old) count) [
@@ -41,13 +41,13 @@ module _ {X : Type 0} where
             (let all : length (reverse old) ≤ count = omega (arith, length-reverse old, past) in
             let none : length old - count ≡ 0 = omega (arith, past) in
             let back_all : back ≡ old = back_is ∙ ap (λ n. drop n old) none in
-            let front_none : front ≡ [] = front_is ∙ ap (λ n. take n old) none in
-            (ap reverse back_all ∙ sym (take_all count (reverse old) all), ap reverse front_none ∙ sym (drop_all count (reverse old) all)))
+            let prefix_none : prefix ≡ [] = prefix_is ∙ ap (λ n. take n old) none in
+            (ap reverse back_all ∙ sym (take_all count (reverse old) all), ap reverse prefix_none ∙ sym (drop_all count (reverse old) all)))
         | inr within ↦
             (let same : count ≡ length (reverse back) = omega (arith, size, within) in (
-              sym (take-front (reverse back) (reverse front)) ∙ ap (λ n. take n (reverse back ++ reverse front)) (sym same)
+              sym (take-prefix (reverse back) (reverse prefix)) ∙ ap (λ n. take n (reverse back ++ reverse prefix)) (sym same)
                   ∙ ap (take count) (sym turned),
-              sym (drop-front (reverse back) (reverse front)) ∙ ap (λ n. drop n (reverse back ++ reverse front)) (sym same)
+              sym (drop-prefix (reverse back) (reverse prefix)) ∙ ap (λ n. drop n (reverse back ++ reverse prefix)) (sym same)
                   ∙ ap (drop count) (sym turned),
             ))
       ]

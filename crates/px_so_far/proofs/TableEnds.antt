@@ -62,10 +62,10 @@ module _ (problem : Problem) (valid : IsValid problem) (params : ℕ) where
       told true none = none
       told false none = refl
 
-  pub no-table : (sorts : List ℕ) (steps : List WrittenStep) (goal : List Atom) (goal_vars : ℕ) (rows : List (List Derivation))
-      → list_any is_wide steps ≡ true → rows_are_table problem params sorts (map step_view steps) goal goal_vars rows ≡ false
-  no-table sorts steps goal goal_vars rows wide =
-      let none : are_in_range problem params (map step_view steps) goal goal_vars ≡ false =
+  pub no-table : (sorts : List ℕ) (steps : List WrittenStep) (goal : List Atom) (goal_variable_count : ℕ) (rows : List (List Derivation))
+      → list_any is_wide steps ≡ true → rows_are_table problem params sorts (map step_view steps) goal goal_variable_count rows ≡ false
+  no-table sorts steps goal goal_variable_count rows wide =
+      let none : are_in_range problem params (map step_view steps) goal goal_variable_count ≡ false =
       told (nat_lt (length (map step_view steps)) u32_max) (rw (no-steps steps wide) refl) in rw none refl
     where
       told : {b : Bool} (a : Bool) → b ≡ false → (a && b) ≡ false
@@ -84,10 +84,10 @@ rows-count objects params problem (inst ∷ steps) goal (row ∷ rows) prove =
     let more = rows-count objects params problem steps goal rows (and_parts _ _ prove).1 in omega (arith, more)
 
 -- a table has few rows
-pub few-rows : (problem : Problem) (params : ℕ) (sorts : List ℕ) (steps : List OpInst) (goal : List Atom) (goal_vars : ℕ)
-    (rows : List (List Proof)) → rows_are_table problem params sorts steps goal goal_vars (rows_of rows) ≡ true → length rows ≤ u32_max
-few-rows problem params sorts steps goal goal_vars rows is =
-    let one = and_parts (are_in_range problem params steps goal goal_vars) _ is in
+pub few-rows : (problem : Problem) (params : ℕ) (sorts : List ℕ) (steps : List OpInst) (goal : List Atom) (goal_variable_count : ℕ)
+    (rows : List (List Proof)) → rows_are_table problem params sorts steps goal goal_variable_count (rows_of rows) ≡ true → length rows ≤ u32_max
+few-rows problem params sorts steps goal goal_variable_count rows is =
+    let one = and_parts (are_in_range problem params steps goal goal_variable_count) _ is in
     let two = and_parts _ _ one.1 in
     let three = and_parts (rows_prove problem.objects params problem.axioms problem steps goal (rows_of rows)) _ two.1 in
     let count = rows-count problem.objects params problem steps goal (rows_of rows) three.0 in
@@ -104,32 +104,32 @@ module _ (problem : Problem) (valid : IsValid problem) (t : OpenTable) where
       → true ≡ is_bad_block problem (table_kind t.has_goal (table_view t))
   too-wide goal wide = rw (
     goal,
-    no-table problem valid t.parameters _ t.steps.items t.goal.items t.goal_vars (rows_of t.rows.items) wide,
+    no-table problem valid t.parameters _ t.steps.items t.goal.items t.goal_variable_count (rows_of t.rows.items) wide,
   ) refl
 
   pub as-tested : (steps : List OpInst) (sorts : List ℕ) (is_one : Bool) → t.has_goal ≡ true → steps ≡ map step_view t.steps.items
       → sorts ≡ sorts_by_places problem steps t.parameters
-      → is_one ≡ rows_are_table problem t.parameters sorts steps t.goal.items t.goal_vars (rows_of t.rows.items)
+      → is_one ≡ rows_are_table problem t.parameters sorts steps t.goal.items t.goal_variable_count (rows_of t.rows.items)
       → not is_one ≡ is_bad_block problem (table_kind t.has_goal (table_view t))
   as-tested steps sorts is_one goal steps_are sorts_are is = rw goal (ap not (is
-      ∙ ap (λ ss. rows_are_table problem t.parameters ss steps t.goal.items t.goal_vars (rows_of t.rows.items)) sorts_are
-      ∙ ap (λ os. rows_are_table problem t.parameters (sorts_by_places problem os t.parameters) os t.goal.items t.goal_vars
+      ∙ ap (λ ss. rows_are_table problem t.parameters ss steps t.goal.items t.goal_variable_count (rows_of t.rows.items)) sorts_are
+      ∙ ap (λ os. rows_are_table problem t.parameters (sorts_by_places problem os t.parameters) os t.goal.items t.goal_variable_count
       (rows_of t.rows.items)) steps_are))
 
   -- a good block has its goal, and its parts make a table
   pub good-table : is_bad_block problem (table_kind t.has_goal (table_view t)) ≡ false
       → rows_are_table problem t.parameters (sorts_by_places problem (map step_view t.steps.items) t.parameters)
       (map step_view t.steps.items)
-      t.goal.items t.goal_vars (rows_of t.rows.items) ≡ true
+      t.goal.items t.goal_variable_count (rows_of t.rows.items) ≡ true
   good-table good = by_test t.has_goal (λ goal. not-false _ (rw goal at good)) (λ none. absurd (cc (rw none at good)))
 
   pub not-wide : is_bad_block problem (table_kind t.has_goal (table_view t)) ≡ false → list_any is_wide t.steps.items ≡ false
   not-wide good = by_test (list_any is_wide t.steps.items)
-      (λ wide. absurd (cc (sym (good-table good) ∙ no-table problem valid t.parameters _ t.steps.items t.goal.items t.goal_vars _ wide)))
+      (λ wide. absurd (cc (sym (good-table good) ∙ no-table problem valid t.parameters _ t.steps.items t.goal.items t.goal_variable_count _ wide)))
       (λ none. none)
 
   pub rows-few : is_bad_block problem (table_kind t.has_goal (table_view t)) ≡ false → length t.rows.items ≤ u32_max
-  rows-few good = few-rows problem t.parameters _ (map step_view t.steps.items) t.goal.items t.goal_vars t.rows.items (good-table good)
+  rows-few good = few-rows problem t.parameters _ (map step_view t.steps.items) t.goal.items t.goal_variable_count t.rows.items (good-table good)
 
 -- the table that the parts make
 module _ (problem : Problem) (t : OpenTable) (steps : List OpInst) (goal : List Atom) (marks : List Mark) (rows : List (List Proof))
@@ -140,7 +140,7 @@ module _ (problem : Problem) (t : OpenTable) (steps : List OpInst) (goal : List 
     params = t.parameters;
     steps = steps;
     goal = goal;
-    goal_vars = t.goal_vars;
+    goal_variable_count = t.goal_variable_count;
     marks = marks;
     proofs = rows;
     param_sorts = sorts;
@@ -153,7 +153,7 @@ module _ (problem : Problem) (t : OpenTable) (steps : List OpInst) (goal : List 
         params = t.parameters;
         steps = steps_are i;
         goal = goal_is i;
-        goal_vars = t.goal_vars;
+        goal_variable_count = t.goal_variable_count;
         marks = marks_back i;
         proofs = rows_back i;
         param_sorts = sorts_back i;

@@ -39,7 +39,7 @@ table_view t = record {
   parameters = t.parameters;
   steps = map step_view t.steps.items;
   goal = t.goal.items;
-  goal_vars = t.goal_vars;
+  goal_variable_count = t.goal_variable_count;
   rows = rows_of t.rows.items;
 }
 

@@ -37,7 +37,7 @@ pub struct OpenTable {
     /// The atoms of its goal, and none before its line stood.
     pub goal: Vec<Atom>,
     /// The greatest number of a variable of its goal.
-    pub goal_vars: u32,
+    pub goal_variable_count: u32,
     /// Its rows so far, each with its proofs.
     pub rows: Vec<Row>,
 }
@@ -75,7 +75,7 @@ impl OpenTable {
             sorts.as_slice(),
             &steps,
             &self.goal,
-            self.goal_vars,
+            self.goal_variable_count,
             &self.rows,
         ))
     }
@@ -98,7 +98,7 @@ impl OpenTable {
             params: self.parameters,
             steps: Sequence::from_vec(steps),
             goal: Sequence::from_vec(self.goal),
-            goal_vars: self.goal_vars,
+            goal_variable_count: self.goal_variable_count,
             marks,
             proofs: Sequence::from_vec(self.rows),
             param_sorts,

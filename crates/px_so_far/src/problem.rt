@@ -33,7 +33,7 @@ fn copied_axioms(alloc: Global, axioms: &ClauseArena) -> Result<ClauseArena, NoM
 {
     let mut copy = ClauseArena::new(alloc);
     for number in 0..axioms.count() {
-        match copy.push(axioms.vars(number), axioms.lits(number)) {
+        match copy.push(axioms.variable_count(number), axioms.lits(number)) {
             Ok(_) => {}
             Err(ArenaErr::NoMemory) => return Err(NoMemory),
             Err(ArenaErr::BadLength) => unreachable!(),

@@ -3,7 +3,7 @@ use Rattle.std.specs.Prelude.{◌<◌, ℕ, List, [], ◌∷◌, ◌++◌, lengt
 use Rattle.std.proofs.Common.{refl, inl, inr, arith}
 use Rattle.std.proofs.lemmas.List.Elements.{Contains-push}
 use Rattle.px_table.specs.declared.entry.Move.{Move}
-use Rattle.px_order.specs.Fronts.{front-gone}
+use Rattle.px_order.specs.Prefixes.{prefix-gone}
 use Rattle.px_order.specs.Places.{at_end}
 use Rattle.px_order.specs.RunLaws.{made}
 use Rattle.px_order.specs.RunOrigins.{few-moves}
@@ -34,7 +34,7 @@ module _ (task : Task) (weight : ℕ) (moves : List Move) (found : IsFound task 
   found-takeable : AreTakeable task (initial_node task) moves
   found-takeable = takeable task moves can solved
       (λ p m rest is question formula shapes asks met. found.unlimited p question
-      (inl (front-gone (space_of task) (order_by task weight) (aim_of task) found.earlier moves found.stop p m rest is, inl asks))
+      (inl (prefix-gone (space_of task) (order_by task weight) (aim_of task) found.earlier moves found.stop p m rest is, inl asks))
       (formula, shapes, met))
       (λ formula shapes met. found.unlimited moves _
       (inr (

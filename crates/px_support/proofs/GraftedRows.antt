@@ -36,7 +36,7 @@ use Rattle.px_table.specs.Tables.{IsTable}
 use Rattle.px_table.specs.UnderLaws.{IsNamed-under}
 use Rattle.px_entries.proofs.RowSteps.{mark-is_of}
 use Rattle.px_ends.specs.Made.{IsGraft, IsPart}
-use Rattle.px_support.proofs.Lists.{each-mapped, step-behind, step-found, step-front, step-within}
+use Rattle.px_support.proofs.Lists.{each-mapped, step-behind, step-found, step-prefix, step-within}
 use Rattle.px_support.proofs.Marking.{IsSupported, IsSupportedRow}
 use Rattle.px_support.proofs.RowLeaves.{proof-supported}
 use Rattle.px_support.proofs.TreesUnder.{choice-under, proves-under}
@@ -142,14 +142,14 @@ module _ (problem : Problem) (valid : IsValid problem) (initial : List Atom) (ta
         → step_at made (j + length before) ≡ Some inst
     risen j inst some within at =
         ap (λ (s : List OpInst). step_at s (j + length before)) made_is ∙ step-behind before front j (j + length before) some refl
-        ∙ sym (step-front front rest j within) ∙ ap (λ (s : List OpInst). step_at s j) (sym whole) ∙ at
+        ∙ sym (step-prefix front rest j within) ∙ ap (λ (s : List OpInst). step_at s j) (sym whole) ∙ at
 
     sunk : (k : ℕ) (inst : OpInst) → length before < k → step_at made k ≡ Some inst
         → (j : ℕ) × (k ≡ j + length before) × (j ≤ length front) × (step_at (map (instance_under sigma) table.steps) j ≡ Some inst)
     sunk k inst after at =
         let found = step-found before front k inst after (ap (λ (s : List OpInst). step_at s k) (sym made_is) ∙ at) in
         let within = step-within front found.0 inst found.2 in
-        (found.0, found.1, within, ap (λ (s : List OpInst). step_at s found.0) whole ∙ step-front front rest found.0 within ∙ found.2)
+        (found.0, found.1, within, ap (λ (s : List OpInst). step_at s found.0) whole ∙ step-prefix front rest found.0 within ∙ found.2)
 
     later-supported : (leaf.column == 0) ≡ false → IsSupported problem initial made (raised (length before) (leaf_under objects_for leaf))
     later-supported later =

@@ -36,9 +36,9 @@ use Rattle.px_support.proofs.Lists.{each-mapped}
 
 -- ---- rows that prove
 
-module _ (IsTerm : Term → Type 0) (problem : Problem) (params vars : ℕ) (goal : List Atom) where
+module _ (IsTerm : Term → Type 0) (problem : Problem) (params variable_count : ℕ) (goal : List Atom) where
   -- there is a row for each step, and one for the goal
-  pub rows-count : (steps : List OpInst) (rows : List (List Derivation)) → RowsProve IsTerm problem params steps goal vars rows
+  pub rows-count : (steps : List OpInst) (rows : List (List Derivation)) → RowsProve IsTerm problem params steps goal variable_count rows
       → length rows ≡ suc (length steps)
   rows-count [] [] proves = absurd proves
   rows-count [] (row ∷ []) proves = refl
@@ -48,7 +48,7 @@ module _ (IsTerm : Term → Type 0) (problem : Problem) (params vars : ℕ) (goa
 
   -- the row of a step proves what it needs
   row-proves : (steps : List OpInst) (rows : List (List Derivation)) (k : ℕ) (row : List Derivation) → k < length steps
-      → slice_get rows k ≡ Some row → RowsProve IsTerm problem params steps goal vars rows
+      → slice_get rows k ≡ Some row → RowsProve IsTerm problem params steps goal variable_count rows
       → (inst : OpInst) × ProvesEachOf IsTerm problem.axioms (precondition problem inst) row
   row-proves [] rows k row below at proves = absurd (omega (arith, below))
   row-proves (inst ∷ steps) [] k row below at proves = absurd proves
@@ -69,7 +69,7 @@ module _ (IsTerm : Term → Type 0) (problem : Problem) (params vars : ℕ) (goa
   ]
 
   pub row-terms : (steps : List OpInst) (rows : List (List Derivation)) (k : ℕ) (row : List Derivation) → k < length steps
-      → slice_get rows k ≡ Some row → RowsProve IsTerm problem params steps goal vars rows
+      → slice_get rows k ≡ Some row → RowsProve IsTerm problem params steps goal variable_count rows
       → (d : Derivation) → Contains row d → All IsTerm (terms_of d)
   row-terms steps rows k row below at proves =
       let r = row-proves steps rows k row below at proves in
@@ -109,7 +109,7 @@ module _ (problem : Problem) (table : Table) (is : IsTable problem table) (prefi
       subst (λ (n : ℕ). IsVariableBelow n t) (sym (length-map sigma Obj ∙ m.count))
       (name-variable problem.objects table.params t
       (All-at (IsObjectOrParameter problem.objects table.params) (terms_of d) t
-      (row-terms (IsObjectOrParameter problem.objects table.params) problem table.params table.goal_vars table.goal table.steps
+      (row-terms (IsObjectOrParameter problem.objects table.params) problem table.params table.goal_variable_count table.goal table.steps
       (rows_of table.proofs) place row (omega (arith, early, m.within)) at is.prove d has) inside)))
 
   initial : (leaf : Leaf) → Contains (leaves_of d) leaf → (leaf.column == 0) ≡ true

@@ -7,15 +7,15 @@ use Rattle.px_base.specs.ListLaws.{Contains-cases, Contains-first, Contains-late
 use Rattle.px_terms.specs.declared.instance.OpInst.{OpInst}
 use Rattle.px_table.specs.Marks.{step_at}
 
-pub get-front : {A : Type 0} (xs ys : List A) (k : ℕ) → k < length xs → slice_get (xs ++ ys) k ≡ slice_get xs k
-get-front [] ys k below = absurd (omega (arith, below))
-get-front (x ∷ xs) ys zero below = refl
-get-front (x ∷ xs) ys (suc k) below = get-front xs ys k (omega (arith, below))
+pub get-prefix : {A : Type 0} (xs ys : List A) (k : ℕ) → k < length xs → slice_get (xs ++ ys) k ≡ slice_get xs k
+get-prefix [] ys k below = absurd (omega (arith, below))
+get-prefix (x ∷ xs) ys zero below = refl
+get-prefix (x ∷ xs) ys (suc k) below = get-prefix xs ys k (omega (arith, below))
 
 -- the first steps are at their places in more steps
-pub step-front : (xs ys : List OpInst) (k : ℕ) → k ≤ length xs → step_at (xs ++ ys) k ≡ step_at xs k
-step-front xs ys zero below = refl
-step-front xs ys (suc k) below = get-front xs ys k (omega (arith, below))
+pub step-prefix : (xs ys : List OpInst) (k : ℕ) → k ≤ length xs → step_at (xs ++ ys) k ≡ step_at xs k
+step-prefix xs ys zero below = refl
+step-prefix xs ys (suc k) below = get-prefix xs ys k (omega (arith, below))
 
 get-within : {A : Type 0} (xs : List A) (k : ℕ) (x : A) → slice_get xs k ≡ Some x → k < length xs
 get-within [] k x at = absurd (cc)

@@ -130,7 +130,7 @@ module _ (problem : Problem) (learned : Learned) (is : IsLearnedOf problem learn
   pub next-findable : (old : Walk) (place : ℕ) (within : Within) → place < learned.prefix → IsWithin problem learned old place within
       → IsFindable problem (record {
         formula = initial_atoms learned.table.now learned.sigma.now (place + 1);
-        vars = 0;
+        variable_count = 0;
         facts = within.facts.atoms;
       })
   next-findable old place within early going =
@@ -139,7 +139,7 @@ module _ (problem : Problem) (learned : Learned) (is : IsLearnedOf problem learn
       let here =
       All-head (IsFindable problem) (record {
         formula = initial_atoms learned.table.now learned.sigma.now (suc place);
-        vars = 0;
+        variable_count = 0;
         facts = within.facts.atoms;
       })
       (row_obligations problem learned.table.now learned.sigma.now (left_by problem learned left.0 within.facts.atoms) (suc (suc place))
@@ -147,7 +147,7 @@ module _ (problem : Problem) (learned : Learned) (is : IsLearnedOf problem learn
       let number : suc place ≡ place + 1 = omega arith in
       subst (λ (n : ℕ). IsFindable problem (record {
         formula = initial_atoms learned.table.now learned.sigma.now n;
-        vars = 0;
+        variable_count = 0;
         facts = within.facts.atoms;
       })) number here
 
@@ -161,7 +161,7 @@ module _ (problem : Problem) (learned : Learned) (is : IsLearnedOf problem learn
       let needs =
       All-tail (IsFindable problem) (record {
         formula = initial_atoms learned.table.now learned.sigma.now (suc place);
-        vars = 0;
+        variable_count = 0;
         facts = within.facts.atoms;
       })
       (row_obligations problem learned.table.now learned.sigma.now (left_by problem learned taken.inst within.facts.atoms) (suc (suc place))
@@ -278,7 +278,7 @@ pub row-within : (problem : Problem) (learned : Learned) → IsLearnedOf problem
 row-within problem learned is place early =
     let table = learned.table.now in
     let count =
-    rows-count (IsObjectOrParameter problem.objects table.params) problem table.params table.goal_vars table.goal table.steps
+    rows-count (IsObjectOrParameter problem.objects table.params) problem table.params table.goal_variable_count table.goal table.steps
     (rows_of table.proofs) is.table.prove in
     let long = length-map table.proofs (map derivation_of) in
     omega (arith, count, long, early, is.is_macro.within)

@@ -12,7 +12,7 @@ use Rattle.px_proof.specs.Derivation.{Derivation}
 use Rattle.px_table.specs.declared.mark.Mark.{Mark}
 use Rattle.px_table.specs.Marks.{IsKept, IsNamed, mark_eq, mark_of, marks_from, row_leaves, row_marks, step_at}
 use Rattle.px_table.specs.OnceLaws.{Contains-from_each_once}
-use Rattle.px_support.proofs.Lists.{each-mapped, step-front}
+use Rattle.px_support.proofs.Lists.{each-mapped, step-prefix}
 
 module _ (problem : Problem) (initial : List Atom) where
   -- after these steps the leaf names where its fact comes from, and no step since deletes it
@@ -45,10 +45,10 @@ module _ (problem : Problem) (initial : List Atom) where
     named = record {
       earlier = omega (arith, is.earlier);
       initial = is.first;
-      added = λ some. let a = is.added some in (a.0, step-front made rest leaf.column is.earlier ∙ a.1, a.2);
+      added = λ some. let a = is.added some in (a.0, step-prefix made rest leaf.column is.earlier ∙ a.1, a.2);
     };
     given = is.given;
-    kept = λ k inst first after before at. is.kept k inst after (sym (step-front made rest k (omega (arith, before))) ∙ at);
+    kept = λ k inst first after before at. is.kept k inst after (sym (step-prefix made rest k (omega (arith, before))) ∙ at);
   }
 
   -- ---- from leaves to marks

@@ -30,12 +30,12 @@ use Rattle.px_support.proofs.Staying.{stays}
 -- ---- the leaves of an answer's proofs
 
 -- the proofs of an answer are proofs of the formula's atoms under its objects
-pub answer-proofs : (problem : Problem) (facts formula : List Atom) (vars : ℕ) (objects : List ℕ) (ds : List Derivation) → IsValid problem
-    → All (IsAtomOf problem vars) formula
-    → IsList (proofs_in (setting_of problem facts)) (setting_of problem facts) formula vars objects (derivations ds)
+pub answer-proofs : (problem : Problem) (facts formula : List Atom) (variable_count : ℕ) (objects : List ℕ) (ds : List Derivation) → IsValid problem
+    → All (IsAtomOf problem variable_count) formula
+    → IsList (proofs_in (setting_of problem facts)) (setting_of problem facts) formula variable_count objects (derivations ds)
     → AllZip (IsAnswerProof problem facts) (map (substitute_atom (object_terms objects)) formula) ds
-answer-proofs problem facts formula vars objects ds valid are list =
-    answers-make_rows.under problem facts formula vars objects ds valid.axioms are list
+answer-proofs problem facts formula variable_count objects ds valid are list =
+    answers-make_rows.under problem facts formula variable_count objects ds valid.axioms are list
 
 -- a sourced proof has other leaves of the same atoms
 pub others-in : (problem : Problem) (made : List OpInst) (ds row : List Derivation) → AllZip (IsSourced problem made) ds row
@@ -108,9 +108,9 @@ module _ (problem : Problem) (valid : IsValid problem) (initial : List Atom) (ma
       ]
 
   -- of a row of first proofs
-  pub first_row-supported : (facts formula : List Atom) (vars : ℕ) (row : List Derivation) → facts ≡ results_of problem initial made
-      → All (IsAtomOf problem vars) formula
-      → IsFirstRow problem made facts formula vars row → IsSupportedRow problem initial made row
-  first_row-supported facts formula vars row model of is =
+  pub first_row-supported : (facts formula : List Atom) (variable_count : ℕ) (row : List Derivation) → facts ≡ results_of problem initial made
+      → All (IsAtomOf problem variable_count) formula
+      → IsFirstRow problem made facts formula variable_count row → IsSupportedRow problem initial made row
+  first_row-supported facts formula variable_count row model of is =
       proofs-supported facts (map (substitute_atom (object_terms is.0)) formula) is.1 row model
-      (answer-proofs problem facts formula vars is.0 is.1 valid of is.2.finished) is.3
+      (answer-proofs problem facts formula variable_count is.0 is.1 valid of is.2.finished) is.3

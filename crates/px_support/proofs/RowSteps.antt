@@ -22,18 +22,18 @@ use Rattle.px_ends.specs.Made.{IsFirstRow, IsSourced}
 use Rattle.px_support.specs.Asking.{IsFindable}
 
 -- the answer's proofs, with their sources, are a row of first proofs
-pub if_first_row : (problem : Problem) (made : List OpInst) (facts formula : List Atom) (vars : ℕ) (objects : List ℕ)
+pub if_first_row : (problem : Problem) (made : List OpInst) (facts formula : List Atom) (variable_count : ℕ) (objects : List ℕ)
     (proofs given : List Proof) (result : Result (List Proof) NoMemory) → given ≡ proofs
-    → IsFirst (setting_of problem facts) formula vars objects (derivations (map derivation_of proofs))
+    → IsFirst (setting_of problem facts) formula variable_count objects (derivations (map derivation_of proofs))
     → IfOk result (λ row. AllZip (IsSourced problem made) (map derivation_of given) (map derivation_of row))
-    → IfOk result (λ row. IsFirstRow problem made facts formula vars (map derivation_of row))
-if_first_row problem made facts formula vars objects proofs given (Ok row) same first all = (
+    → IfOk result (λ row. IsFirstRow problem made facts formula variable_count (map derivation_of row))
+if_first_row problem made facts formula variable_count objects proofs given (Ok row) same first all = (
   objects,
   map derivation_of proofs,
   first,
   subst (λ (ps : List Proof). AllZip (IsSourced problem made) (map derivation_of ps) (map derivation_of row)) same all,
 )
-if_first_row problem made facts formula vars objects proofs given (Err e) same first all = tt
+if_first_row problem made facts formula variable_count objects proofs given (Err e) same first all = tt
 
 -- one row more
 pub rows-push : (rows more : List (List Proof)) (row : List Proof) → more ≡ rows ++ row ∷ []
@@ -41,17 +41,17 @@ pub rows-push : (rows more : List (List Proof)) (row : List Proof) → more ≡ 
 rows-push rows more row pushed = ap rows_of pushed ∙ map-append (map derivation_of) rows (row ∷ [])
 
 -- a row of first proofs, by the lists that the code has
-pub first_row-here : (problem : Problem) (made steps : List OpInst) (facts formula given : List Atom) (vars : ℕ) (row : List Derivation)
+pub first_row-here : (problem : Problem) (made steps : List OpInst) (facts formula given : List Atom) (variable_count : ℕ) (row : List Derivation)
     → steps ≡ made → given ≡ formula
-    → IsFirstRow problem steps facts given vars row → IsFirstRow problem made facts formula vars row
-first_row-here problem made steps facts formula given vars row same_steps same is =
-    subst (λ (fs : List Atom). IsFirstRow problem made facts fs vars row) same
-    (subst (λ (s : List OpInst). IsFirstRow problem s facts given vars row) same_steps is)
+    → IsFirstRow problem steps facts given variable_count row → IsFirstRow problem made facts formula variable_count row
+first_row-here problem made steps facts formula given variable_count row same_steps same is =
+    subst (λ (fs : List Atom). IsFirstRow problem made facts fs variable_count row) same
+    (subst (λ (s : List OpInst). IsFirstRow problem s facts given variable_count row) same_steps is)
 
 -- what the entry needs, where it is an operator's instance
 pub instance-findable : (problem : Problem) (tables : List Table) (model : List Atom) (entry : Entry) (inst : OpInst) → entry ≡ Op inst
     → All (IsFindable problem) (obligations_of problem tables model entry)
-    → IsFindable problem (record { formula = precondition problem inst; vars = 0; facts = model })
+    → IsFindable problem (record { formula = precondition problem inst; variable_count = 0; facts = model })
 instance-findable problem tables model entry inst is all =
     let here = subst (λ (e : Entry). All (IsFindable problem) (obligations_of problem tables model e)) is all in
-    here 0 (record { formula = precondition problem inst; vars = 0; facts = model }) (omega arith)
+    here 0 (record { formula = precondition problem inst; variable_count = 0; facts = model }) (omega arith)

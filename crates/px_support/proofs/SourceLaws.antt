@@ -177,8 +177,8 @@ zip-first problem facts (atom ∷ atoms) (d ∷ ds) all =
     All-cons HasFirstLeaves d ds (λ k e below. (all.0.placed k e below).0) (zip-first problem facts atoms ds all.1)
 
 -- the leaves of the first proofs are
-pub first-leaves : (problem : Problem) (facts formula : List Atom) (vars : ℕ) (objects : List ℕ) (ds : List Derivation) → IsValid problem
-    → All (IsAtomOf problem vars) formula
-    → IsFirst (setting_of problem facts) formula vars objects (derivations ds) → All HasFirstLeaves ds
-first-leaves problem facts formula vars objects ds valid of first =
-    zip-first problem facts _ ds (answer-proofs problem facts formula vars objects ds valid of first.finished)
+pub first-leaves : (problem : Problem) (facts formula : List Atom) (variable_count : ℕ) (objects : List ℕ) (ds : List Derivation) → IsValid problem
+    → All (IsAtomOf problem variable_count) formula
+    → IsFirst (setting_of problem facts) formula variable_count objects (derivations ds) → All HasFirstLeaves ds
+first-leaves problem facts formula variable_count objects ds valid of first =
+    zip-first problem facts _ ds (answer-proofs problem facts formula variable_count objects ds valid of first.finished)

@@ -19,9 +19,9 @@ use Rattle.px_support.specs.MadeSupports.{AreSupport, MovesSupport}
 
 -- what is said of the answer
 pub record IsSupport (task : Task) (support : Support) : Type 0 where
-  pub supports : Supports task.problem task.initial support.steps task.goal task.vars (rows_of support.rows.items)
+  pub supports : Supports task.problem task.initial support.steps task.goal task.variable_count (rows_of support.rows.items)
   pub of_problem : AreOfProblem task.problem (rows_of support.rows.items)
-  pub carries : Carries task.problem task.initial support.steps task.vars task.goal
+  pub carries : Carries task.problem task.initial support.steps task.variable_count task.goal
   pub instances : All (IsInstanceOf task.problem) support.steps
   pub fitting : All (IsWellSorted task.problem) support.steps
 
@@ -29,16 +29,16 @@ by-steps : (task : Task) (moves : List Move) (support : Support) → support.ste
     → AreSupport task moves (rows_of support.rows.items) → IsSupport task support
 by-steps task moves support steps is = record {
   supports =
-      subst (λ (s : List OpInst). Supports task.problem task.initial s task.goal task.vars (rows_of support.rows.items))
+      subst (λ (s : List OpInst). Supports task.problem task.initial s task.goal task.variable_count (rows_of support.rows.items))
       (sym steps) is.supports;
   of_problem = is.of_problem;
-  carries = subst (λ (s : List OpInst). Carries task.problem task.initial s task.vars task.goal) (sym steps) is.carries;
+  carries = subst (λ (s : List OpInst). Carries task.problem task.initial s task.variable_count task.goal) (sym steps) is.carries;
   instances = subst (All (IsInstanceOf task.problem)) (sym steps) is.instances;
   fitting = subst (All (IsWellSorted task.problem)) (sym steps) is.fitting;
 }
 
 module _ (law : MovesSupport) (task : Task) (moves : List Move) (result : Result Support NoMemory) (valid : IsValid task.problem)
-    (goal_of : All (IsAtomOf task.problem task.vars) task.goal) (learned : AreLearned task.problem task.tables) (can : AreMoves task moves)
+    (goal_of : All (IsAtomOf task.problem task.variable_count) task.goal) (learned : AreLearned task.problem task.tables) (can : AreMoves task moves)
     (steps : IfOk result (λ support. support.steps ≡ steps_of task.tables [] moves))
     (rows : IfOk result (λ support. MovesRows task (initial_node task) [] moves (rows_of support.rows.items))) where
   if_support : IfOk result (IsSupport task)
@@ -51,10 +51,10 @@ module _ (law : MovesSupport) (task : Task) (moves : List Move) (result : Result
         can rows)
     by (Err e) steps rows = tt
 
-  pub if_supports : IfOk result (λ support. Supports task.problem task.initial support.steps task.goal task.vars
+  pub if_supports : IfOk result (λ support. Supports task.problem task.initial support.steps task.goal task.variable_count
       (rows_of support.rows.items))
   if_supports =
-      ok_map (IsSupport task) (λ support. Supports task.problem task.initial support.steps task.goal task.vars (rows_of support.rows.items))
+      ok_map (IsSupport task) (λ support. Supports task.problem task.initial support.steps task.goal task.variable_count (rows_of support.rows.items))
       (λ support is. is.supports) result if_support
 
   pub if_of_problem : IfOk result (λ support. AreOfProblem task.problem (rows_of support.rows.items))
@@ -70,7 +70,7 @@ module _ (law : MovesSupport) (task : Task) (moves : List Move) (result : Result
   if_fitting =
       ok_map (IsSupport task) (λ support. All (IsWellSorted task.problem) support.steps) (λ support is. is.fitting) result if_support
 
-  pub if_carries : IfOk result (λ support. Carries task.problem task.initial support.steps task.vars task.goal)
+  pub if_carries : IfOk result (λ support. Carries task.problem task.initial support.steps task.variable_count task.goal)
   if_carries =
-      ok_map (IsSupport task) (λ support. Carries task.problem task.initial support.steps task.vars task.goal)
+      ok_map (IsSupport task) (λ support. Carries task.problem task.initial support.steps task.variable_count task.goal)
       (λ support is. is.carries) result if_support

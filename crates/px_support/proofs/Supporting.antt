@@ -49,13 +49,13 @@ abbrev pub IsRowOfProblem : Problem → List Derivation → Type 0
 IsRowOfProblem problem row = All (IsOfProblem problem) row
 
 module _ (answers-support : AnswersSupport) (task : Task) (valid : IsValid task.problem)
-    (goal_of : All (IsAtomOf task.problem task.vars) task.goal) (learned : AreLearned task.problem task.tables) where
+    (goal_of : All (IsAtomOf task.problem task.variable_count) task.goal) (learned : AreLearned task.problem task.tables) where
   abbrev problem : Problem
   problem = task.problem
 
   -- what is said of the steps that are left and their rows
   pub record Supported (made steps : List OpInst) (rows : List (List Derivation)) : Type 0 where
-    pub prove : RowsProve IsObject task.problem 0 steps task.goal task.vars rows
+    pub prove : RowsProve IsObject task.problem 0 steps task.goal task.variable_count rows
     pub rows_are : AreSupportedRows task.problem task.initial made steps rows
     pub of_problem : AreOfProblem task.problem rows
     pub instances : All (IsInstanceOf task.problem) steps
@@ -68,21 +68,21 @@ module _ (answers-support : AnswersSupport) (task : Task) (valid : IsValid task.
       answers-support.step task.problem model (precondition task.problem inst) first.0 first.1 row valid
       (precondition-is_of task.problem inst valid is) first.2.finished (others-in task.problem made first.1 row first.3)
 
-  goal-row : (model : List Atom) (made : List OpInst) (row : List Derivation) → IsFirstRow task.problem made model task.goal task.vars row
-      → ProvesGoal IsObject task.problem.axioms 0 task.goal task.vars row × AreOfProblem task.problem (row ∷ [])
+  goal-row : (model : List Atom) (made : List OpInst) (row : List Derivation) → IsFirstRow task.problem made model task.goal task.variable_count row
+      → ProvesGoal IsObject task.problem.axioms 0 task.goal task.variable_count row × AreOfProblem task.problem (row ∷ [])
   goal-row model made row first =
-      answers-support.goal task.problem model task.goal task.vars first.0 first.1 row valid goal_of first.2.finished
+      answers-support.goal task.problem model task.goal task.variable_count first.0 first.1 row valid goal_of first.2.finished
       (others-in task.problem made first.1 row first.3)
 
   at-goal : (model : List Atom) (made : List OpInst) (row : List Derivation) → model ≡ results_of task.problem task.initial made
       → All (IsGroundInstanceOf task.problem) made
-      → IsFirstRow task.problem made model task.goal task.vars row → Supported made [] (row ∷ [])
+      → IsFirstRow task.problem made model task.goal task.variable_count row → Supported made [] (row ∷ [])
   at-goal model made row is ground_steps first =
       let g = goal-row model made row first in
       record {
         prove = g.0;
         rows_are =
-            (first_row-supported task.problem valid task.initial made ground_steps model task.goal task.vars row is goal_of first, refl);
+            (first_row-supported task.problem valid task.initial made ground_steps model task.goal task.variable_count row is goal_of first, refl);
         of_problem = g.1;
         instances = All-nil (IsInstanceOf task.problem);
       }
@@ -140,7 +140,7 @@ module _ (answers-support : AnswersSupport) (task : Task) (valid : IsValid task.
         → length front + count ≤ prefix → All (IsGroundInstanceOf task.problem) made
         → All (IsInstanceOf task.problem) (take count (map (instance_under sigma) steps))
         → ((mark : Mark) → Contains (marks_from (suc (length front)) rows) mark → Contains table.marks mark)
-        → RowsProve (IsObjectOrParameter task.problem.objects table.params) task.problem table.params steps table.goal table.goal_vars rows
+        → RowsProve (IsObjectOrParameter task.problem.objects table.params) task.problem table.params steps table.goal table.goal_variable_count rows
         → ((a : Atom) → IsGround a → Contains facts a → Contains (results_of task.problem task.initial made) a)
         → MacroRows task.problem sigma (length before) made facts rows (take count (map (instance_under sigma) steps)) new
         → Supported (made ++ take count (map (instance_under sigma) steps)) more others
@@ -250,8 +250,8 @@ module _ (answers-support : AnswersSupport) (task : Task) (valid : IsValid task.
 
 -- what is said of marks and rows is what a support is
 supports-all : (task : Task) (steps : List OpInst) (rows : List (List Derivation))
-    → RowsProve IsObject task.problem 0 steps task.goal task.vars rows → AreSupportedRows task.problem task.initial [] steps rows
-    → All (IsInstanceOf task.problem) steps → Supports task.problem task.initial steps task.goal task.vars rows
+    → RowsProve IsObject task.problem 0 steps task.goal task.variable_count rows → AreSupportedRows task.problem task.initial [] steps rows
+    → All (IsInstanceOf task.problem) steps → Supports task.problem task.initial steps task.goal task.variable_count rows
 supports-all task steps rows prove rows_are instances =
     let marks = rows-marked task.problem task.initial [] steps rows rows_are in
     record {
@@ -271,7 +271,7 @@ moves_support answers-support task moves rows valid goal_of learned can made_row
     record {
       supports = supports;
       of_problem = s.of_problem;
-      carries = support_carries task.problem task.initial (steps_of task.tables [] moves) task.goal task.vars rows s.of_problem supports;
+      carries = support_carries task.problem task.initial (steps_of task.tables [] moves) task.goal task.variable_count rows s.of_problem supports;
       instances = s.instances;
       fitting =
           steps-fit task task.initial [] moves (All-nil (IsEntry task.problem task.tables)) can;

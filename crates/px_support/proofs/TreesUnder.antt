@@ -27,7 +27,7 @@ use Rattle.px_support.proofs.Lists.{each-number}
 
 -- where terms may be put in for what the steps choose, and for the leaves
 module _ (axioms : List Clause) (terms : List Term) (Old New : Term → Type 0) (atoms under : List Atom)
-    (choices : (number : ℕ) (clause : Clause) (theta : List Term) → slice_get axioms number ≡ Some clause → length theta ≡ clause.vars
+    (choices : (number : ℕ) (clause : Clause) (theta : List Term) → slice_get axioms number ≡ Some clause → length theta ≡ clause.variable_count
     → All Old theta → All New (map (substitute terms) theta)) where
   abbrev pub MayStand : Leaf → Type 0
   MayStand leaf = Contains under (substitute_atom terms leaf.atom) × All New (map (substitute terms) leaf.atom.args)
@@ -85,14 +85,14 @@ module _ (problem : Problem) (valid : IsValid problem) (table : Table) (prefix :
 
   -- what a step of a proof chooses becomes an object of the problem; without objects it chooses nothing
   pub choice-under : (number : ℕ) (clause : Clause) (theta : List Term) → slice_get problem.axioms number ≡ Some clause
-      → length theta ≡ clause.vars
+      → length theta ≡ clause.variable_count
       → All (IsObjectOrParameter problem.objects table.params) theta
       → All (IsObjectOrParameter problem.objects 0) (map (substitute (map Obj sigma)) theta)
   choice-under number clause theta at count all = by problem.objects refl where
     by : (objects : ℕ) → problem.objects ≡ objects → All (IsObjectOrParameter problem.objects 0) (map (substitute (map Obj sigma)) theta)
     by zero empty =
-        let no_vars : clause.vars ≡ 0 = All-got (λ (c : Clause). c.vars ≡ 0) problem.axioms number clause (valid.no_objects empty).1 at in
-        λ k d below. absurd (omega (arith, below, length-map theta (substitute (map Obj sigma)), count, no_vars))
+        let no_variables : clause.variable_count ≡ 0 = All-got (λ (c : Clause). c.variable_count ≡ 0) problem.axioms number clause (valid.no_objects empty).1 at in
+        λ k d below. absurd (omega (arith, below, length-map theta (substitute (map Obj sigma)), count, no_variables))
     by (suc n) some =
         each_choice (map Obj sigma) (IsObjectOrParameter problem.objects table.params) (IsObjectOrParameter problem.objects 0)
         (λ t h. name_under problem.objects 0 (map Obj sigma) (names (omega (arith, some))) t

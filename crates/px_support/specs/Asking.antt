@@ -17,21 +17,21 @@ use Rattle.px_ends.specs.Tasks.{Task, after, goal_from, needs_at, task_with}
 use Rattle.px_support.specs.declared.asked.Asked.{Asked}
 
 abbrev pub task_for : Asked → Task
-task_for asked = task_with asked.problem.now asked.nodes asked.tables.now asked.initial.now.atoms asked.goal.now asked.vars
+task_for asked = task_with asked.problem.now asked.nodes asked.tables.now asked.initial.now.atoms asked.goal.now asked.variable_count
 
 -- what may be asked
 pub record IsAskable (asked : Asked) : Type 0 where
   pub valid : IsValid asked.problem.now
   pub nodes : (1 ≤ asked.nodes) × (asked.nodes ≤ most_nodes)
   pub tables : AreLearned asked.problem.now asked.tables.now
-  pub goal : All (IsAtomOf asked.problem.now asked.vars) asked.goal.now
-  pub few_variables : asked.vars ≤ most_formula_variables
-  pub some_object : 0 < asked.vars → 0 < asked.problem.now.objects
+  pub goal : All (IsAtomOf asked.problem.now asked.variable_count) asked.goal.now
+  pub few_variables : asked.variable_count ≤ most_formula_variables
+  pub some_object : 0 < asked.variable_count → 0 < asked.problem.now.objects
 
 -- the prover finds what is needed: there is an answer, and the limit of shapes isn't met before the first one
 pub record IsFindable (problem : Problem) (needed : Obligation) : Type 0 where
   pub answer : HasAnswer problem needed
-  pub below : (shapes : List (List Tick)) → ¬ IsLimited (setting_of problem needed.facts) needed.formula needed.vars shapes
+  pub below : (shapes : List (List Tick)) → ¬ IsLimited (setting_of problem needed.facts) needed.formula needed.variable_count shapes
 
 -- the pushed entry is one; what the applied entry needs is found
 abbrev pub IsTakeable : Task → Node → Move → Type 0

@@ -58,7 +58,7 @@ pub record IsMoveTaken (task : Task) (m : Move) (old new : Walk) : Type 0 where
 pub record AreMovesTaken (task : Task) (moves : List Move) (walk : Walk) : Type 0 where
   pub goal : IsFindable task.problem (goal_from task walk.model.atoms)
   pub steps : walk.steps.items ≡ steps_of task.tables [] moves
-  pub rows : (row : List Derivation) → IsFirstRow task.problem walk.steps.items walk.model.atoms task.goal task.vars row
+  pub rows : (row : List Derivation) → IsFirstRow task.problem walk.steps.items walk.model.atoms task.goal task.variable_count row
       → MovesRows task (initial_node task) [] moves (rows_of walk.rows.items ++ row ∷ [])
   pub all_ground : All (IsGroundInstanceOf task.problem) walk.steps.items
   pub short : length walk.steps.items ≤ most_steps * length moves

@@ -14,9 +14,9 @@ use Rattle.px_ends.specs.Tasks.{Task, initial_node, steps_of}
 
 -- what the rows of moves say of the steps that these take
 pub record AreSupport (task : Task) (moves : List Move) (rows : List (List Derivation)) : Type 0 where
-  pub supports : Supports task.problem task.initial (steps_of task.tables [] moves) task.goal task.vars rows
+  pub supports : Supports task.problem task.initial (steps_of task.tables [] moves) task.goal task.variable_count rows
   pub of_problem : AreOfProblem task.problem rows
-  pub carries : Carries task.problem task.initial (steps_of task.tables [] moves) task.vars task.goal
+  pub carries : Carries task.problem task.initial (steps_of task.tables [] moves) task.variable_count task.goal
   pub instances : All (IsInstanceOf task.problem) (steps_of task.tables [] moves)
   pub fitting : All (IsWellSorted task.problem) (steps_of task.tables [] moves)
 
@@ -24,6 +24,6 @@ pub record AreSupport (task : Task) (moves : List Move) (rows : List (List Deriv
 -- from the initial model to the goal in each run.
 abbrev pub MovesSupport : Type 0
 MovesSupport = (task : Task) (moves : List Move) (rows : List (List Derivation)) → IsValid task.problem
-    → All (IsAtomOf task.problem task.vars) task.goal
+    → All (IsAtomOf task.problem task.variable_count) task.goal
     → AreLearned task.problem task.tables → AreMoves task moves → MovesRows task (initial_node task) [] moves rows
     → AreSupport task moves rows

@@ -15,5 +15,5 @@ pub struct Asked<'a> {
     pub tables: &'a [Table],
     pub initial: &'a Model,
     pub goal: &'a [Atom],
-    pub vars: u32,
+    pub variable_count: u32,
 }

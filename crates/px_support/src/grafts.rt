@@ -126,7 +126,7 @@ fn grafted_row(graft: &Graft, firsts: &[Proof], proofs: &[Proof]) -> Result<Row,
 pub fn learned_row(graft: &Graft, facts: &Model, proofs: &[Proof]) -> Result<Row, NoMemory>
     requires graft { IsReady graft.now }
     requires proofs { All (IsGraftableBy graft.now) (map derivation_of proofs.now) }
-    requires findable { IsFindable graft.now.problem.now (record { formula = graft.now.formula.now; vars = 0; facts = facts.now.atoms }) }
+    requires findable { IsFindable graft.now.problem.now (record { formula = graft.now.formula.now; variable_count = 0; facts = facts.now.atoms }) }
     ensures { IfOk result (λ row. AllZip (IsGraft graft.now.problem.now graft.now.shift graft.now.steps.now facts.now.atoms)
         (map (derivation_under graft.now.terms.now) (map derivation_of proofs.now)) (map derivation_of row)) }
 {

@@ -60,7 +60,7 @@ fn take_step(
     requires learned { IsLearnedOf asked.now.problem.now learned.now }
     requires place { place < learned.now.prefix }
     requires findable { IsFindable asked.now.problem.now (record
-        { formula = initial_atoms learned.now.table.now learned.now.sigma.now (place + 1); vars = 0; facts = within.facts.atoms }) }
+        { formula = initial_atoms learned.now.table.now learned.now.sigma.now (place + 1); variable_count = 0; facts = within.facts.atoms }) }
     requires steps { All (IsGroundInstanceOf asked.now.problem.now) within.walk.steps.items }
     requires short { length within.walk.steps.items ≤ u32_max }
     ensures { IfOk result (IsStepTaken asked.now.problem.now learned.now place within) }

@@ -46,18 +46,18 @@ pub fn first_row(
     steps: &[OpInst],
     model: &Model,
     formula: &[Atom],
-    vars: u32,
+    variable_count: u32,
 ) -> Result<Row, NoMemory>
     requires problem { IsValid problem.now }
     requires steps { All (IsGroundInstanceOf problem.now) steps.now }
     requires short { length steps.now ≤ u32_max }
-    requires formula { All (IsAtomOf problem.now vars) formula.now }
-    requires few_variables { vars ≤ most_formula_variables }
-    requires some_object { 0 < vars → 0 < problem.now.objects }
-    requires findable { IsFindable problem.now (record { formula = formula.now; vars = vars; facts = model.now.atoms }) }
-    ensures { IfOk result (λ row. IsFirstRow problem.now steps.now model.now.atoms formula.now vars (map derivation_of row)) }
+    requires formula { All (IsAtomOf problem.now variable_count) formula.now }
+    requires few_variables { variable_count ≤ most_formula_variables }
+    requires some_object { 0 < variable_count → 0 < problem.now.objects }
+    requires findable { IsFindable problem.now (record { formula = formula.now; variable_count = variable_count; facts = model.now.atoms }) }
+    ensures { IfOk result (λ row. IsFirstRow problem.now steps.now model.now.atoms formula.now variable_count (map derivation_of row)) }
 {
-    match prove(alloc, problem, formula, vars, model) {
+    match prove(alloc, problem, formula, variable_count, model) {
         Ok(answer) => sourced_row(alloc, problem, steps, answer.proofs.as_slice()),
         Err(ProveErr::NoMemory) => Err(NoMemory),
         Err(ProveErr::Unprovable) => unreachable!(),

@@ -52,7 +52,7 @@ fn with_goal(asked: &Asked, walk: Walk, moves: &[Move]) -> Result<Support, NoMem
         &steps,
         &model,
         asked.goal,
-        asked.vars,
+        asked.variable_count,
     )?;
     push(&mut rows, row)?;
     Ok(Support {
@@ -74,11 +74,11 @@ pub fn support_of(asked: &Asked, moves: &[Move]) -> Result<Support, NoMemory>
     ensures rows { IfOk result (λ support. MovesRows (task_for asked.now) (initial_node (task_for asked.now)) [] moves.now
         (rows_of support.rows.items)) }
     ensures supports { IfOk result (λ support. Supports asked.now.problem.now asked.now.initial.now.atoms support.steps asked.now.goal.now
-        asked.now.vars (rows_of support.rows.items)) }
+        asked.now.variable_count (rows_of support.rows.items)) }
     ensures of_problem { IfOk result (λ support. AreOfProblem asked.now.problem.now (rows_of support.rows.items)) }
     ensures instances { IfOk result (λ support. All (IsInstanceOf asked.now.problem.now) support.steps) }
     ensures fitting { IfOk result (λ support. All (IsWellSorted asked.now.problem.now) support.steps) }
-    ensures carries { IfOk result (λ support. Carries asked.now.problem.now asked.now.initial.now.atoms support.steps asked.now.vars
+    ensures carries { IfOk result (λ support. Carries asked.now.problem.now asked.now.initial.now.atoms support.steps asked.now.variable_count
         asked.now.goal.now) }
     ensures short { IfOk result (λ support. length support.steps < u32_max) }
 {

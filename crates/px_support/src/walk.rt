@@ -55,7 +55,7 @@ fn apply_instance(asked: &Asked, mut walk: Walk, inst: &OpInst) -> Result<Walk, 
     requires asked { IsAskable asked.now }
     requires inst { IsInstanceOf asked.now.problem.now inst.now }
     requires findable { IsFindable asked.now.problem.now (record
-        { formula = precondition asked.now.problem.now inst.now; vars = 0; facts = walk.model.atoms }) }
+        { formula = precondition asked.now.problem.now inst.now; variable_count = 0; facts = walk.model.atoms }) }
     requires room { HasRoom asked.now.problem.now walk }
     ensures { IfOk result (IsEntryApplied asked.now.problem.now asked.now.tables.now (Entry.Op inst.now) walk) }
 {

@@ -133,7 +133,7 @@ split_at a b = elim (nat_lt a b) as (λ c. nat_lt a b ≡ c → ((a < b) × (c �
   | false ↦ λ e. inr (grind (arith, nat_tests), refl)
 ] refl
 
-module _ (problem : Problem) (params goal_vars : ℕ) (goal : List Atom) (in_range : All (IsAtomOf problem (params + goal_vars)) goal) where
+module _ (problem : Problem) (params goal_variable_count : ℕ) (goal : List Atom) (in_range : All (IsAtomOf problem (params + goal_variable_count)) goal) where
   -- a parameter stays, a variable of the goal gets its term
   parameter_at : (chosen : List Term) (v : ℕ) → v < params → get_or (variables params ++ chosen) v Any ≡ Var v
   parameter_at chosen v below =
@@ -143,30 +143,30 @@ module _ (problem : Problem) (params goal_vars : ℕ) (goal : List Atom) (in_ran
   variable_behind : (chosen : List Term) (v : ℕ) → params ≤ v → get_or (variables params ++ chosen) v Any ≡ get_or chosen (v - params) Any
   variable_behind chosen v above = get_or-append_right (variables params) chosen params v Any (length-variables 0 params) above
 
-  term-made : (atoms : List Atom) (t : Term) → IsTermOf problem (params + goal_vars) t
-      → term_by params goal atoms t ≡ substitute (variables params ++ choices_from params goal_vars goal atoms) t
+  term-made : (atoms : List Atom) (t : Term) → IsTermOf problem (params + goal_variable_count) t
+      → term_by params goal atoms t ≡ substitute (variables params ++ choices_from params goal_variable_count goal atoms) t
   term-made atoms (Obj n) h = refl
   term-made atoms Any h = refl
   term-made atoms (Var v) h = elim (split_at v params) [
     | inl inside ↦ ap (λ b. cond b (Var v) (chosen_or_any (choice_of v goal atoms))) inside.1
-        ∙ sym (parameter_at (choices_from params goal_vars goal atoms) v inside.0)
+        ∙ sym (parameter_at (choices_from params goal_variable_count goal atoms) v inside.0)
     | inr outside ↦ ap (λ b. cond b (Var v) (chosen_or_any (choice_of v goal atoms))) outside.1
-        ∙ sym (variable_behind (choices_from params goal_vars goal atoms) v outside.0
-        ∙ choice_at params goal_vars (v - params) v goal atoms (omega (arith, h, outside.0)) (omega (arith, outside.0)))
+        ∙ sym (variable_behind (choices_from params goal_variable_count goal atoms) v outside.0
+        ∙ choice_at params goal_variable_count (v - params) v goal atoms (omega (arith, h, outside.0)) (omega (arith, outside.0)))
   ]
 
   -- where the choices give the conclusions, there are such terms
   pub made_by_choices : (atoms : List Atom) → map (atom_by params goal atoms) goal ≡ atoms
-      → (chosen : List Term) × (length chosen ≡ goal_vars) × (map (substitute_atom (variables params ++ chosen)) goal ≡ atoms)
+      → (chosen : List Term) × (length chosen ≡ goal_variable_count) × (map (substitute_atom (variables params ++ chosen)) goal ≡ atoms)
   made_by_choices atoms is = (
-    choices_from params goal_vars goal atoms,
-    length-choices params goal_vars goal atoms,
-    sym (map_alike (atom_by params goal atoms) (substitute_atom (variables params ++ choices_from params goal_vars goal atoms)) goal
+    choices_from params goal_variable_count goal atoms,
+    length-choices params goal_variable_count goal atoms,
+    sym (map_alike (atom_by params goal atoms) (substitute_atom (variables params ++ choices_from params goal_variable_count goal atoms)) goal
         (λ pattern has.
         ap (λ (args : List Term). record { pred = pattern.pred; args = args })
-        (map_alike (term_by params goal atoms) (substitute (variables params ++ choices_from params goal_vars goal atoms)) pattern.args
-        (λ t inside. term-made atoms t (All-at (IsTermOf problem (params + goal_vars)) pattern.args t
-        (All-at (IsAtomOf problem (params + goal_vars)) goal pattern in_range has).1 inside))))) ∙ is,
+        (map_alike (term_by params goal atoms) (substitute (variables params ++ choices_from params goal_variable_count goal atoms)) pattern.args
+        (λ t inside. term-made atoms t (All-at (IsTermOf problem (params + goal_variable_count)) pattern.args t
+        (All-at (IsAtomOf problem (params + goal_variable_count)) goal pattern in_range has).1 inside))))) ∙ is,
   )
 
   module _ (chosen : List Term) where

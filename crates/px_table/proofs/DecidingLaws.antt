@@ -73,16 +73,16 @@ and-decides false y d k = (λ e. absurd (cc), λ h. d.1 h.0)
 
 -- ---- numbers in range
 
-term-decides : (problem : Problem) (vars : ℕ) (t : Term) → Decides (is_term_of problem vars t) (IsTermOf problem vars t)
-term-decides problem vars (Obj n) = Decides-ltb n problem.objects
-term-decides problem vars (Var v) = Decides-ltb v vars
-term-decides problem vars Any = (λ h. absurd (cc), λ h. absurd h)
+term-decides : (problem : Problem) (variable_count : ℕ) (t : Term) → Decides (is_term_of problem variable_count t) (IsTermOf problem variable_count t)
+term-decides problem variable_count (Obj n) = Decides-ltb n problem.objects
+term-decides problem variable_count (Var v) = Decides-ltb v variable_count
+term-decides problem variable_count Any = (λ h. absurd (cc), λ h. absurd h)
 
-pub atom-decides : (problem : Problem) (vars : ℕ) (atom : Atom) → Decides (is_atom_of problem vars atom) (IsAtomOf problem vars atom)
-atom-decides problem vars atom =
+pub atom-decides : (problem : Problem) (variable_count : ℕ) (atom : Atom) → Decides (is_atom_of problem variable_count atom) (IsAtomOf problem variable_count atom)
+atom-decides problem variable_count atom =
     Decides-and _ _ (Decides-and _ _ (Decides-ltb atom.pred (length problem.arities))
     (Decides-eqb (length atom.args) (slice_index problem.arities atom.pred)))
-    (all-decides (is_term_of problem vars) (IsTermOf problem vars) (term-decides problem vars) atom.args)
+    (all-decides (is_term_of problem variable_count) (IsTermOf problem variable_count) (term-decides problem variable_count) atom.args)
 
 step-decides : (problem : Problem) (params : ℕ) (inst : OpInst) → Decides (is_step_of problem params inst) (IsStepOf problem params inst)
 step-decides problem params inst =
@@ -92,14 +92,14 @@ step-decides problem params inst =
     (Decides-and _ _ (Decides-eqb (length inst.args) (schema_of problem inst).params)
     (all-decides (is_term_of problem params) (IsTermOf problem params) (term-decides problem params) inst.args)))
 
-range-decides : (problem : Problem) (params : ℕ) (steps : List OpInst) (goal : List Atom) (goal_vars : ℕ)
-    → Decides (are_in_range problem params steps goal goal_vars)
-    ((length steps < u32_max) × (All (IsStepOf problem params) steps × All (IsAtomOf problem (params + goal_vars)) goal))
-range-decides problem params steps goal goal_vars =
+range-decides : (problem : Problem) (params : ℕ) (steps : List OpInst) (goal : List Atom) (goal_variable_count : ℕ)
+    → Decides (are_in_range problem params steps goal goal_variable_count)
+    ((length steps < u32_max) × (All (IsStepOf problem params) steps × All (IsAtomOf problem (params + goal_variable_count)) goal))
+range-decides problem params steps goal goal_variable_count =
     Decides-and _ _ (Decides-ltb (length steps) u32_max)
     (Decides-and _ _ (all-decides (is_step_of problem params) (IsStepOf problem params) (step-decides problem params) steps)
-    (all-decides (is_atom_of problem (params + goal_vars)) (IsAtomOf problem (params + goal_vars))
-    (atom-decides problem (params + goal_vars)) goal))
+    (all-decides (is_atom_of problem (params + goal_variable_count)) (IsAtomOf problem (params + goal_variable_count))
+    (atom-decides problem (params + goal_variable_count)) goal))
 
 -- ---- sorts
 
@@ -183,7 +183,7 @@ module _ (objects params : ℕ) (axioms : List Clause) where
     -- what is to hold of the clause of a step
     abbrev Fits : List Lit → Lit → List Term → ℕ → Derivations → Clause → Type 0
     Fits path lit theta place parts clause =
-        (length theta ≡ clause.vars) × (All (IsObjectOrParameter objects params) theta
+        (length theta ≡ clause.variable_count) × (All (IsObjectOrParameter objects params) theta
         × ((slice_get (instance_of clause.lits theta) place ≡ Some lit)
         × ProvesEach (from_atoms (IsObjectOrParameter objects params) atoms) axioms (lit ∷ path) (parts_of clause.lits theta place) parts))
 
@@ -193,7 +193,7 @@ module _ (objects params : ℕ) (axioms : List Clause) where
     fits_used path lit number theta place parts h = (
       clause_at axioms number,
       record {
-        axiom_at = slice_get-read axioms number (record { vars = 0; lits = [] }) h.0;
+        axiom_at = slice_get-read axioms number (record { variable_count = 0; lits = [] }) h.0;
         terms = h.1.0;
         choices = h.1.1.0;
         literal_at = h.1.1.1.0;
@@ -207,7 +207,7 @@ module _ (objects params : ℕ) (axioms : List Clause) where
     used_fits path lit number theta place parts used =
         let within = slice_get-within axioms number used.0 used.1.axiom_at in
         let same : used.0 ≡ clause_at axioms number =
-        some_same (sym used.1.axiom_at ∙ slice_get-read axioms number (record { vars = 0; lits = [] }) within) in
+        some_same (sym used.1.axiom_at ∙ slice_get-read axioms number (record { variable_count = 0; lits = [] }) within) in
         (within, subst (Fits path lit theta place parts) same (used.1.terms, (used.1.choices, (used.1.literal_at, used.2))))
 
     mutual
@@ -222,7 +222,7 @@ module _ (objects params : ℕ) (axioms : List Clause) where
           Decides-like (proves objects params axioms atoms path lit (step number theta place parts))
           (fits_used path lit number theta place parts) (used_fits path lit number theta place parts)
           (Decides-and _ _ (Decides-ltb number (length axioms))
-          (Decides-and _ _ (Decides-eqb (length theta) (clause_at axioms number).vars) (Decides-and _ _ (names-decide theta)
+          (Decides-and _ _ (Decides-eqb (length theta) (clause_at axioms number).variable_count) (Decides-and _ _ (names-decide theta)
           (Decides-and _ _ (there-decides lit_eq lit-decides (slice_get (instance_of (clause_at axioms number).lits theta) place) lit)
           (proves_all-decides (lit ∷ path) (parts_of (clause_at axioms number).lits theta place) parts)))))
       proves-decides path lit (gap atom) = (λ h. absurd (cc), λ h. absurd h.1)
@@ -269,45 +269,45 @@ module _ (objects params : ℕ) (axioms : List Clause) where
   conclusions-are (atom ∷ atoms) (d ∷ row) each =
       cc (conclusion-is (leaf_atoms (leaves_of d)) atom d each.0.proves, conclusions-are atoms row each.1)
 
-  module _ (problem : Problem) (goal_vars : ℕ) (goal : List Atom) (in_range : All (IsAtomOf problem (params + goal_vars)) goal) where
+  module _ (problem : Problem) (goal_variable_count : ℕ) (goal : List Atom) (in_range : All (IsAtomOf problem (params + goal_variable_count)) goal) where
     abbrev Concluded : List Derivation → Type 0
     Concluded row = ProvesEachOf (IsObjectOrParameter objects params) axioms (map (conclusion_of axioms) row) row
         × (map (atom_by params goal (map (conclusion_of axioms) row)) goal ≡ map (conclusion_of axioms) row)
 
-    goal_from : (row : List Derivation) → Concluded row → ProvesGoal (IsObjectOrParameter objects params) axioms params goal goal_vars row
+    goal_from : (row : List Derivation) → Concluded row → ProvesGoal (IsObjectOrParameter objects params) axioms params goal goal_variable_count row
     goal_from row h =
-        let made = made_by_choices problem params goal_vars goal in_range (map (conclusion_of axioms) row) h.1 in
+        let made = made_by_choices problem params goal_variable_count goal in_range (map (conclusion_of axioms) row) h.1 in
         (made.0, made.1, subst (λ (atoms : List Atom). ProvesEachOf (IsObjectOrParameter objects params) axioms atoms row) (sym made.2) h.0)
 
-    goal_gives : (row : List Derivation) → ProvesGoal (IsObjectOrParameter objects params) axioms params goal goal_vars row → Concluded row
+    goal_gives : (row : List Derivation) → ProvesGoal (IsObjectOrParameter objects params) axioms params goal goal_variable_count row → Concluded row
     goal_gives row proved =
         let given : List Atom = map (substitute_atom (variables params ++ proved.0)) goal in
         let same : map (conclusion_of axioms) row ≡ given = conclusions-are given row proved.2 in
         subst (λ (atoms : List Atom). ProvesEachOf (IsObjectOrParameter objects params) axioms atoms row
         × (map (atom_by params goal atoms) goal ≡ atoms)) (sym same)
-        (proved.2, choices_give problem params goal_vars goal in_range proved.0)
+        (proved.2, choices_give problem params goal_variable_count goal in_range proved.0)
 
     goal-decides : (row : List Derivation)
         → Decides (proves_goal objects params axioms goal row)
-        (ProvesGoal (IsObjectOrParameter objects params) axioms params goal goal_vars row)
+        (ProvesGoal (IsObjectOrParameter objects params) axioms params goal goal_variable_count row)
     goal-decides row =
         Decides-like (proves_goal objects params axioms goal row) (goal_from row) (goal_gives row)
         (Decides-and _ _ (each-decides (map (conclusion_of axioms) row) row)
         (pointwise_decides atom_eq-decides (map (atom_by params goal (map (conclusion_of axioms) row)) goal)
         (map (conclusion_of axioms) row)))
 
-rows-decide : (problem : Problem) (params goal_vars : ℕ) (goal : List Atom) → All (IsAtomOf problem (params + goal_vars)) goal
+rows-decide : (problem : Problem) (params goal_variable_count : ℕ) (goal : List Atom) → All (IsAtomOf problem (params + goal_variable_count)) goal
     → (steps : List OpInst) (rows : List (List Derivation))
     → Decides (rows_prove problem.objects params problem.axioms problem steps goal rows)
-    (RowsProve (IsObjectOrParameter problem.objects params) problem params steps goal goal_vars rows)
-rows-decide problem params goal_vars goal in_range [] [] = (λ h. absurd (cc), λ h. absurd h)
-rows-decide problem params goal_vars goal in_range [] (row ∷ []) =
-    goal-decides problem.objects params problem.axioms problem goal_vars goal in_range row
-rows-decide problem params goal_vars goal in_range [] (row ∷ second ∷ rows) = (λ h. absurd (cc), λ h. absurd h)
-rows-decide problem params goal_vars goal in_range (inst ∷ steps) [] = (λ h. absurd (cc), λ h. absurd h)
-rows-decide problem params goal_vars goal in_range (inst ∷ steps) (row ∷ rows) =
+    (RowsProve (IsObjectOrParameter problem.objects params) problem params steps goal goal_variable_count rows)
+rows-decide problem params goal_variable_count goal in_range [] [] = (λ h. absurd (cc), λ h. absurd h)
+rows-decide problem params goal_variable_count goal in_range [] (row ∷ []) =
+    goal-decides problem.objects params problem.axioms problem goal_variable_count goal in_range row
+rows-decide problem params goal_variable_count goal in_range [] (row ∷ second ∷ rows) = (λ h. absurd (cc), λ h. absurd h)
+rows-decide problem params goal_variable_count goal in_range (inst ∷ steps) [] = (λ h. absurd (cc), λ h. absurd h)
+rows-decide problem params goal_variable_count goal in_range (inst ∷ steps) (row ∷ rows) =
     Decides-and _ _ (each-decides problem.objects params problem.axioms (precondition problem inst) row)
-    (rows-decide problem params goal_vars goal in_range steps rows)
+    (rows-decide problem params goal_variable_count goal in_range steps rows)
 
 -- ---- marks
 
@@ -343,19 +343,19 @@ named-decides problem steps mark =
 
 -- what the test of rows tells, and all of it
 abbrev AreTable : Problem → ℕ → List ℕ → List OpInst → List Atom → ℕ → List (List Derivation) → Type 0
-AreTable problem params param_sorts steps goal goal_vars rows =
-    ((length steps < u32_max) × (All (IsStepOf problem params) steps × All (IsAtomOf problem (params + goal_vars)) goal))
+AreTable problem params param_sorts steps goal goal_variable_count rows =
+    ((length steps < u32_max) × (All (IsStepOf problem params) steps × All (IsAtomOf problem (params + goal_variable_count)) goal))
     × (((length param_sorts ≡ params) × (AreSortsOf problem param_sorts × All (IsWellSortedStep problem param_sorts) steps))
-    × (RowsProve (IsObjectOrParameter problem.objects params) problem params steps goal goal_vars rows
+    × (RowsProve (IsObjectOrParameter problem.objects params) problem params steps goal goal_variable_count rows
     × (All (λ (mark : Mark). IsAtomOf problem params mark.atom) (marks_from 1 rows) × All (IsNamed problem steps) (marks_from 1 rows))))
 
-rows_are_table-decides : (problem : Problem) (params : ℕ) (param_sorts : List ℕ) (steps : List OpInst) (goal : List Atom) (goal_vars : ℕ)
-    (rows : List (List Derivation)) → Decides (rows_are_table problem params param_sorts steps goal goal_vars rows)
-    (AreTable problem params param_sorts steps goal goal_vars rows)
-rows_are_table-decides problem params param_sorts steps goal goal_vars rows =
-    and-decides _ _ (range-decides problem params steps goal goal_vars) (λ range.
+rows_are_table-decides : (problem : Problem) (params : ℕ) (param_sorts : List ℕ) (steps : List OpInst) (goal : List Atom) (goal_variable_count : ℕ)
+    (rows : List (List Derivation)) → Decides (rows_are_table problem params param_sorts steps goal goal_variable_count rows)
+    (AreTable problem params param_sorts steps goal goal_variable_count rows)
+rows_are_table-decides problem params param_sorts steps goal goal_variable_count rows =
+    and-decides _ _ (range-decides problem params steps goal goal_variable_count) (λ range.
     Decides-and _ _ (sorts-decide problem params param_sorts steps)
-    (Decides-and _ _ (rows-decide problem params goal_vars goal range.1.1 steps rows)
+    (Decides-and _ _ (rows-decide problem params goal_variable_count goal range.1.1 steps rows)
     (Decides-and _ _ (all-decides (λ (mark : Mark). is_atom_of problem params mark.atom) (λ (mark : Mark). IsAtomOf problem params mark.atom)
     (λ mark. atom-decides problem params mark.atom) (marks_from 1 rows))
     (all-decides (is_named problem steps) (IsNamed problem steps) (named-decides problem steps) (marks_from 1 rows)))))
@@ -363,7 +363,7 @@ rows_are_table-decides problem params param_sorts steps goal goal_vars rows =
 -- with the marks of its rows it is a table
 abbrev RowsOfTable : Problem → Table → Type 0
 RowsOfTable problem table =
-    AreTable problem table.params table.param_sorts table.steps table.goal table.goal_vars (rows_of table.proofs)
+    AreTable problem table.params table.param_sorts table.steps table.goal table.goal_variable_count (rows_of table.proofs)
 
 table-from : (problem : Problem) (table : Table) → RowsOfTable problem table → table.marks ≡ marks_from 1 (rows_of table.proofs)
     → IsTable problem table
@@ -394,15 +394,15 @@ table-gives problem table is = (
 pub tables_are_decided : TablesAreDecided
 tables_are_decided problem table =
     Decides-like (is_table problem table) (λ h. table-from problem table h.0 h.1) (λ is. (table-gives problem table is, is.marks))
-    (Decides-and _ _ (rows_are_table-decides problem table.params table.param_sorts table.steps table.goal table.goal_vars
+    (Decides-and _ _ (rows_are_table-decides problem table.params table.param_sorts table.steps table.goal table.goal_variable_count
     (rows_of table.proofs)) (pointwise_decides mark_eq-decides table.marks (marks_from 1 (rows_of table.proofs))))
 
 -- the test of rows is true exactly where the table of the rows is one
-pub rows_are_decided : (problem : Problem) (params : ℕ) (param_sorts : List ℕ) (steps : List OpInst) (goal : List Atom) (goal_vars : ℕ)
-    (rows : List (List Proof)) → Decides (rows_are_table problem params param_sorts steps goal goal_vars (rows_of rows))
-    (IsTable problem (table_of_rows params param_sorts steps goal goal_vars rows))
-rows_are_decided problem params param_sorts steps goal goal_vars rows =
-    Decides-like (rows_are_table problem params param_sorts steps goal goal_vars (rows_of rows))
-    (λ h. table-from problem (table_of_rows params param_sorts steps goal goal_vars rows) h refl)
-    (table-gives problem (table_of_rows params param_sorts steps goal goal_vars rows))
-    (rows_are_table-decides problem params param_sorts steps goal goal_vars (rows_of rows))
+pub rows_are_decided : (problem : Problem) (params : ℕ) (param_sorts : List ℕ) (steps : List OpInst) (goal : List Atom) (goal_variable_count : ℕ)
+    (rows : List (List Proof)) → Decides (rows_are_table problem params param_sorts steps goal goal_variable_count (rows_of rows))
+    (IsTable problem (table_of_rows params param_sorts steps goal goal_variable_count rows))
+rows_are_decided problem params param_sorts steps goal goal_variable_count rows =
+    Decides-like (rows_are_table problem params param_sorts steps goal goal_variable_count (rows_of rows))
+    (λ h. table-from problem (table_of_rows params param_sorts steps goal goal_variable_count rows) h refl)
+    (table-gives problem (table_of_rows params param_sorts steps goal goal_variable_count rows))
+    (rows_are_table-decides problem params param_sorts steps goal goal_variable_count (rows_of rows))

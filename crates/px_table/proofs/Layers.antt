@@ -14,19 +14,19 @@ use Rattle.px_proof.specs.PlaceLaws.{slice_get-map, slice_get-read}
 use Rattle.px_proof.specs.Proves.{instance_of}
 
 abbrev pub no_clause : Clause
-no_clause = record { vars = 0; lits = [] }
+no_clause = record { variable_count = 0; lits = [] }
 
-pub plain_variable : (vars : ℕ) (t : Term) → IsPlainBelow vars t → IsVariableBelow vars t
-plain_variable vars (Obj n) h = tt
-plain_variable vars (Var v) h = h
-plain_variable vars Any h = tt
+pub plain_variable : (variable_count : ℕ) (t : Term) → IsPlainBelow variable_count t → IsVariableBelow variable_count t
+plain_variable variable_count (Obj n) h = tt
+plain_variable variable_count (Var v) h = h
+plain_variable variable_count Any h = tt
 
 -- the literals of an arena's clause are plain below its variables
 pub plain_lits : (axioms : List Clause) (number : ℕ) (theta : List Term) (lits : List Lit) → IsArena axioms → number < length axioms
-    → length theta ≡ (get_or axioms number no_clause).vars
+    → length theta ≡ (get_or axioms number no_clause).variable_count
     → lits ≡ (get_or axioms number no_clause).lits → ArePlainBelow (length theta) lits
 plain_lits axioms number theta lits arena below same is =
-    subst (λ n. ArePlainBelow n lits) (sym same) (subst (λ ls. ArePlainBelow (get_or axioms number no_clause).vars ls) (sym is)
+    subst (λ n. ArePlainBelow n lits) (sym same) (subst (λ ls. ArePlainBelow (get_or axioms number no_clause).variable_count ls) (sym is)
     (arena.each number no_clause below).plain)
 
 -- the literal at the place is the one that a step proves

@@ -7,7 +7,7 @@ use Rattle.px_base.specs.ListLaws.{All-at, All-each}
 use Rattle.px_proof.specs.declared.proof.Leaf.{Leaf}
 use Rattle.px_proof.specs.declared.proof.Proof.{Proof}
 use Rattle.px_proof.specs.Derivation.{derivations, leaves_of, all_leaves_of}
-use Rattle.px_proof.specs.PlaceLaws.{All-back, All-front, Contains-mapped}
+use Rattle.px_proof.specs.PlaceLaws.{All-back, All-prefix, Contains-mapped}
 use Rattle.px_proof.specs.ProofTerm.{derivation_of}
 use Rattle.px_table.specs.declared.mark.Mark.{Mark}
 use Rattle.px_table.specs.MarkLaws.{all_leaves-row, mark_eq-decides}
@@ -16,7 +16,7 @@ use Rattle.px_table.specs.OnceLaws.{Contains-each_once, Contains-from_each_once}
 use Rattle.px_table.specs.Tables.{rows_of}
 
 both_parts : {X : Type 0} (P : X → Type 0) (xs ys : List X) → All P (xs ++ ys) ↔ (All P xs × All P ys)
-both_parts P xs ys = (λ all. (All-front P xs ys all, All-back P xs ys all), λ h. All-append P xs ys h.0 h.1)
+both_parts P xs ys = (λ all. (All-prefix P xs ys all, All-back P xs ys all), λ h. All-append P xs ys h.0 h.1)
 
 module _ (P : Leaf → Type 0) where
   abbrev Pass : List Proof → Type 0

@@ -1,7 +1,7 @@
 -- The files of lemmas.
 pub mod Choosing
 pub mod DecidingLaws
-pub mod Fronts
+pub mod Prefixes
 pub mod KeptSteps
 pub mod KernelSteps
 pub mod Layers

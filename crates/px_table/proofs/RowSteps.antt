@@ -42,9 +42,9 @@ module _ (IsTerm : Term → Type 0) (axioms : List Clause) where
             (subst (λ a. IsProofOf IsTerm axioms a (derivation_of proof)) (sym same_atom) h.0)) h.1,
       )
 
-module _ (IsTerm : Term → Type 0) (problem : Problem) (params : ℕ) (goal : List Atom) (goal_vars : ℕ) where
+module _ (IsTerm : Term → Type 0) (problem : Problem) (params : ℕ) (goal : List Atom) (goal_variable_count : ℕ) where
   -- there is a row for each step, and one for the goal
-  pub rows_length : (steps : List OpInst) (rows : List (List Derivation)) → RowsProve IsTerm problem params steps goal goal_vars rows
+  pub rows_length : (steps : List OpInst) (rows : List (List Derivation)) → RowsProve IsTerm problem params steps goal goal_variable_count rows
       → length rows ≡ suc (length steps)
   rows_length [] [] h = absurd h
   rows_length [] (row ∷ []) h = refl
@@ -54,9 +54,9 @@ module _ (IsTerm : Term → Type 0) (problem : Problem) (params : ℕ) (goal : L
 
   first_and_rest : (steps : List OpInst) (rows : List (List Derivation)) (k : ℕ) (inst : OpInst) (row : List Derivation)
       → inst ≡ get_or steps k inst → get_or rows k row ≡ row → k < length steps → k < length rows
-      → RowsProve IsTerm problem params (drop k steps) goal goal_vars (drop k rows)
+      → RowsProve IsTerm problem params (drop k steps) goal goal_variable_count (drop k rows)
       ↔ (ProvesEachOf IsTerm problem.axioms (precondition problem inst) row
-      × RowsProve IsTerm problem params (drop (suc k) steps) goal goal_vars (drop (suc k) rows))
+      × RowsProve IsTerm problem params (drop (suc k) steps) goal goal_variable_count (drop (suc k) rows))
   first_and_rest [] rows k inst row is is' below below' = absurd (omega (arith, below))
   first_and_rest (s ∷ steps) [] k inst row is is' below below' = absurd (omega (arith, below'))
   first_and_rest (s ∷ steps) (r ∷ rows) zero inst row is is' below below' = rw (is, sym is') (λ h. h, λ h. h)
@@ -66,9 +66,9 @@ module _ (IsTerm : Term → Type 0) (problem : Problem) (params : ℕ) (goal : L
   -- the rows from one on are that one and those after it
   pub rows_step : (steps : List OpInst) (proofs : List (List Proof)) (k : ℕ) (inst : OpInst) (row : List Proof) → inst ≡ get_or steps k inst
       → row ≡ get_or proofs k row → k < length steps → k < length proofs
-      → RowsProve IsTerm problem params (drop k steps) goal goal_vars (drop k (rows_of proofs))
+      → RowsProve IsTerm problem params (drop k steps) goal goal_variable_count (drop k (rows_of proofs))
       ↔ (ProvesEachOf IsTerm problem.axioms (precondition problem inst) (map derivation_of row)
-      × RowsProve IsTerm problem params (drop (k + 1) steps) goal goal_vars (drop (k + 1) (rows_of proofs)))
+      × RowsProve IsTerm problem params (drop (k + 1) steps) goal goal_variable_count (drop (k + 1) (rows_of proofs)))
   rows_step steps proofs k inst row is is' below below' =
       rw (add-one k)
       (first_and_rest steps (rows_of proofs) k inst (map derivation_of row) is
@@ -77,8 +77,8 @@ module _ (IsTerm : Term → Type 0) (problem : Problem) (params : ℕ) (goal : L
 
   last_of_all : (steps : List OpInst) (rows : List (List Derivation)) (k : ℕ) (row : List Derivation) → get_or rows k row ≡ row
       → k ≡ length steps → length rows ≡ suc k
-      → RowsProve IsTerm problem params (drop k steps) goal goal_vars (drop k rows)
-      ↔ ProvesGoal IsTerm problem.axioms params goal goal_vars row
+      → RowsProve IsTerm problem params (drop k steps) goal goal_variable_count (drop k rows)
+      ↔ ProvesGoal IsTerm problem.axioms params goal goal_variable_count row
   last_of_all [] [] k row is end long = absurd (omega (arith, long))
   last_of_all [] (r ∷ []) zero row is end long = rw (sym is) (λ h. h, λ h. h)
   last_of_all [] (r ∷ second ∷ rows) zero row is end long = absurd (omega (arith, long))
@@ -90,8 +90,8 @@ module _ (IsTerm : Term → Type 0) (problem : Problem) (params : ℕ) (goal : L
   -- behind the steps the goal's row is left
   pub rows_last : (steps : List OpInst) (proofs : List (List Proof)) (k : ℕ) (row : List Proof) → row ≡ get_or proofs k row
       → k ≡ length steps → length proofs ≡ suc k
-      → RowsProve IsTerm problem params (drop k steps) goal goal_vars (drop k (rows_of proofs))
-      ↔ ProvesGoal IsTerm problem.axioms params goal goal_vars (map derivation_of row)
+      → RowsProve IsTerm problem params (drop k steps) goal goal_variable_count (drop k (rows_of proofs))
+      ↔ ProvesGoal IsTerm problem.axioms params goal goal_variable_count (map derivation_of row)
   rows_last steps proofs k row is end long =
       last_of_all steps (rows_of proofs) k (map derivation_of row)
       (get_or-map (map derivation_of) proofs k row (map derivation_of row) (omega (arith, long)) ∙ ap (map derivation_of) (sym is)) end

@@ -51,16 +51,16 @@ KernelHolds marks state i = (mark : Mark) → Contains marks mark → i ≤ mark
 
 -- Steps with marks: each is an atom of the problem and names where it comes from; each step's precondition holds where its
 -- row's marks do, and the goal where those of the last row do.
-pub record IsCarried (problem : Problem) (steps : List OpInst) (vars : ℕ) (goal : List Atom) (marks : List Mark) : Type 0 where
+pub record IsCarried (problem : Problem) (steps : List OpInst) (variable_count : ℕ) (goal : List Atom) (marks : List Mark) : Type 0 where
   pub named : All (IsNamed problem steps) marks
   pub atoms : All (λ mark. IsAtomOf problem 0 mark.atom) marks
   pub rows : (row : ℕ) (inst : OpInst) (state : State) → step_at steps row ≡ Some inst → IsState state → AxiomsHold problem state
       → RowHolds marks state row → All (Holds state) (precondition problem inst)
   pub last : (state : State) → IsState state → AxiomsHold problem state → RowHolds marks state (suc (length steps))
-      → GoalHolds state vars goal
+      → GoalHolds state variable_count goal
 
-module _ (problem : Problem) (steps : List OpInst) (vars : ℕ) (goal : List Atom) (marks : List Mark)
-    (carried : IsCarried problem steps vars goal marks) where
+module _ (problem : Problem) (steps : List OpInst) (variable_count : ℕ) (goal : List Atom) (marks : List Mark)
+    (carried : IsCarried problem steps variable_count goal marks) where
   kernel-row : (state : State) (i : ℕ) → KernelHolds marks state i → RowHolds marks state i
   kernel-row state i kernel mark has row =
       let named = All-at (IsNamed problem steps) marks mark carried.named has in
@@ -106,7 +106,7 @@ module _ (problem : Problem) (steps : List OpInst) (vars : ℕ) (goal : List Ato
 
   pub carry_ends : (rest : List OpInst) (later : List State) (k : ℕ) (state : State) → k ≤ length steps → drop k steps ≡ rest
       → KernelHolds marks state (suc k) → KeptFrom (suc k)
-      → IsRun problem (state ∷ later) rest → length later ≡ length rest → GoalHolds (last_of state later) vars goal
+      → IsRun problem (state ∷ later) rest → length later ≡ length rest → GoalHolds (last_of state later) variable_count goal
   carry_ends [] [] k state within e kernel kept run long =
       carried.last state run.0 run.1 (kernel-row state (suc (length steps)) (rw (← no_rest k steps within e) kernel))
   carry_ends [] (next ∷ later) k state within e kernel kept run long = absurd (omega arith)

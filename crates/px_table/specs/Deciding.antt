@@ -32,13 +32,13 @@ is_there same (Some y) x = same y x
 -- ---- numbers in range
 
 abbrev pub is_term_of : Problem → ℕ → Term → Bool
-is_term_of problem vars (Obj n) = nat_lt n problem.objects
-is_term_of problem vars (Var v) = nat_lt v vars
-is_term_of problem vars Any = false
+is_term_of problem variable_count (Obj n) = nat_lt n problem.objects
+is_term_of problem variable_count (Var v) = nat_lt v variable_count
+is_term_of problem variable_count Any = false
 
 abbrev pub is_atom_of : Problem → ℕ → Atom → Bool
-is_atom_of problem vars atom = (nat_lt atom.pred (length problem.arities) && (length atom.args == slice_index problem.arities atom.pred)) &&
-    list_all (is_term_of problem vars) atom.args
+is_atom_of problem variable_count atom = (nat_lt atom.pred (length problem.arities) && (length atom.args == slice_index problem.arities atom.pred)) &&
+    list_all (is_term_of problem variable_count) atom.args
 
 abbrev pub is_step_of : Problem → ℕ → OpInst → Bool
 is_step_of problem params inst = nat_lt inst.op (length problem.schemas) &&
@@ -46,8 +46,8 @@ is_step_of problem params inst = nat_lt inst.op (length problem.schemas) &&
 
 -- there are fewer than `u32_max` steps, and the numbers of the steps and the goal are in range
 abbrev pub are_in_range : Problem → ℕ → List OpInst → List Atom → ℕ → Bool
-are_in_range problem params steps goal goal_vars =
-    nat_lt (length steps) u32_max && (list_all (is_step_of problem params) steps && list_all (is_atom_of problem (params + goal_vars)) goal)
+are_in_range problem params steps goal goal_variable_count =
+    nat_lt (length steps) u32_max && (list_all (is_step_of problem params) steps && list_all (is_atom_of problem (params + goal_variable_count)) goal)
 
 -- ---- sorts
 
@@ -79,7 +79,7 @@ lit_eq first second = cond first.positive second.positive (not second.positive) 
 
 -- the clause of that number; past the last one a clause without literals
 abbrev pub clause_at : List Clause → ℕ → Clause
-clause_at axioms number = slice_index_or axioms number (record { vars = 0; lits = [] })
+clause_at axioms number = slice_index_or axioms number (record { variable_count = 0; lits = [] })
 
 -- the literal's atom, if there is a literal
 abbrev pub atom_or_no_atom : Option Lit → Atom
@@ -102,7 +102,7 @@ module _ (objects params : ℕ) (axioms : List Clause) where
         (list_any (atom_eq leaf.atom) atoms && list_all (is_object_or_parameter objects params) leaf.atom.args)
     proves atoms path lit (ancestor i) = is_there lit_eq (slice_get path i) (complement_of lit)
     proves atoms path lit (step number theta place parts) =
-        nat_lt number (length axioms) && ((length theta == (clause_at axioms number).vars) &&
+        nat_lt number (length axioms) && ((length theta == (clause_at axioms number).variable_count) &&
         (list_all (is_object_or_parameter objects params) theta
         && (is_there lit_eq (slice_get (instance_of (clause_at axioms number).lits theta) place) lit && proves_all atoms (lit ∷ path)
         (parts_of (clause_at axioms number).lits theta place) parts)))
@@ -160,15 +160,15 @@ is_named problem steps mark = nat_lt mark.column mark.row && is_source problem s
 
 -- with the marks of the rows these make a table
 abbrev pub rows_are_table : Problem → ℕ → List ℕ → List OpInst → List Atom → ℕ → List (List Derivation) → Bool
-rows_are_table problem params param_sorts steps goal goal_vars rows =
-    are_in_range problem params steps goal goal_vars && (are_well_sorted problem params param_sorts steps &&
+rows_are_table problem params param_sorts steps goal goal_variable_count rows =
+    are_in_range problem params steps goal goal_variable_count && (are_well_sorted problem params param_sorts steps &&
     (rows_prove problem.objects params problem.axioms problem steps goal rows
     && (list_all (λ (mark : Mark). is_atom_of problem params mark.atom) (marks_from 1 rows)
     && list_all (is_named problem steps) (marks_from 1 rows))))
 
 abbrev pub is_table : Problem → Table → Bool
 is_table problem table =
-    rows_are_table problem table.params table.param_sorts table.steps table.goal table.goal_vars (rows_of table.proofs)
+    rows_are_table problem table.params table.param_sorts table.steps table.goal table.goal_variable_count (rows_of table.proofs)
     && pointwise mark_eq table.marks (marks_from 1 (rows_of table.proofs))
 
 -- the test is true of tables alone, and of each

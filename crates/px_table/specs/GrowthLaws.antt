@@ -33,15 +33,15 @@ pub record Grows (p q : Problem) : Type 0 where
   pub sorts : p.sorts ≤ q.sorts
   pub object_sorts : (more : List ℕ) × (q.object_sorts ≡ p.object_sorts ++ more)
 
-front-get : {X : Type 0} (xs ys : List X) (k : ℕ) (x : X) → slice_get xs k ≡ Some x → slice_get (xs ++ ys) k ≡ Some x
-front-get [] ys k x at = absurd (cc)
-front-get (y ∷ xs) ys zero x at = at
-front-get (y ∷ xs) ys (suc k) x at = front-get xs ys k x at
+prefix-get : {X : Type 0} (xs ys : List X) (k : ℕ) (x : X) → slice_get xs k ≡ Some x → slice_get (xs ++ ys) k ≡ Some x
+prefix-get [] ys k x at = absurd (cc)
+prefix-get (y ∷ xs) ys zero x at = at
+prefix-get (y ∷ xs) ys (suc k) x at = prefix-get xs ys k x at
 
-front-length : {X : Type 0} (xs ys : List X) (k : ℕ) → k < length xs → k < length (xs ++ ys)
-front-length [] ys k below = absurd (omega (arith, below))
-front-length (x ∷ xs) ys zero below = omega arith
-front-length (x ∷ xs) ys (suc k) below = let r = front-length xs ys k (omega (arith, below)) in omega (arith, r)
+prefix-length : {X : Type 0} (xs ys : List X) (k : ℕ) → k < length xs → k < length (xs ++ ys)
+prefix-length [] ys k below = absurd (omega (arith, below))
+prefix-length (x ∷ xs) ys zero below = omega arith
+prefix-length (x ∷ xs) ys (suc k) below = let r = prefix-length xs ys k (omega (arith, below)) in omega (arith, r)
 
 at-place : {A : Type 0} (xs : List A) (k : ℕ) (x : A) → slice_get xs k ≡ Some x → Contains xs x
 at-place [] k x e = absurd (cc)
@@ -49,10 +49,10 @@ at-place (y ∷ xs) zero x e = (0, omega arith, cc)
 at-place (y ∷ xs) (suc k) x e = let r = at-place xs k x e in (suc r.0, omega (arith, r.1), r.2)
 
 module _ (p q : Problem) (grows : Grows p q) where
-  term-grows : (vars : ℕ) (t : Term) → IsTermOf p vars t → IsTermOf q vars t
-  term-grows vars (Obj n) is = omega (arith, is, grows.objects)
-  term-grows vars (Var v) is = is
-  term-grows vars Any is = is
+  term-grows : (variable_count : ℕ) (t : Term) → IsTermOf p variable_count t → IsTermOf q variable_count t
+  term-grows variable_count (Obj n) is = omega (arith, is, grows.objects)
+  term-grows variable_count (Var v) is = is
+  term-grows variable_count Any is = is
 
   name-grows : (params : ℕ) (t : Term) → IsObjectOrParameter p.objects params t → IsObjectOrParameter q.objects params t
   name-grows params (Obj n) is = omega (arith, is, grows.objects)
@@ -61,12 +61,12 @@ module _ (p q : Problem) (grows : Grows p q) where
 
   arity-grows : (a : Atom) → HasArity p a → HasArity q a
   arity-grows a is = (
-    subst (λ (l : List ℕ). a.pred < length l) (sym grows.arities.1) (front-length p.arities grows.arities.0 a.pred is.0),
+    subst (λ (l : List ℕ). a.pred < length l) (sym grows.arities.1) (prefix-length p.arities grows.arities.0 a.pred is.0),
     is.1 ∙ sym (ap (λ (l : List ℕ). slice_index l a.pred) grows.arities.1 ∙ get_or_append_left p.arities grows.arities.0 0 a.pred is.0),
   )
 
-  atom-grows : (vars : ℕ) (a : Atom) → IsAtomOf p vars a → IsAtomOf q vars a
-  atom-grows vars a is = (arity-grows a is.0, λ k d below. term-grows vars _ (is.1 k d below))
+  atom-grows : (variable_count : ℕ) (a : Atom) → IsAtomOf p variable_count a → IsAtomOf q variable_count a
+  atom-grows variable_count a is = (arity-grows a is.0, λ k d below. term-grows variable_count _ (is.1 k d below))
 
   schema-same : (inst : OpInst) → inst.op < length p.schemas → schema_of q inst ≡ schema_of p inst
   schema-same inst below = ap (λ (l : List Schema). slice_index_or l inst.op no_schema) grows.schemas.1
@@ -74,7 +74,7 @@ module _ (p q : Problem) (grows : Grows p q) where
 
   step-grows : (params : ℕ) (inst : OpInst) → IsStepOf p params inst → IsStepOf q params inst
   step-grows params inst is = record {
-    op = subst (λ (l : List Schema). inst.op < length l) (sym grows.schemas.1) (front-length p.schemas grows.schemas.0 inst.op is.op);
+    op = subst (λ (l : List Schema). inst.op < length l) (sym grows.schemas.1) (prefix-length p.schemas grows.schemas.0 inst.op is.op);
     count = is.count ∙ sym (ap (λ (s : Schema). s.params) (schema-same inst is.op));
     terms = λ k d below. term-grows params _ (is.terms k d below);
   }
@@ -90,7 +90,7 @@ module _ (p q : Problem) (grows : Grows p q) where
         is.0,
         record {
           axiom_at = subst (λ (l : List Clause). slice_get l number ≡ Some is.0) (sym grows.axioms.1)
-              (front-get p.axioms grows.axioms.0 number is.0 is.1.axiom_at);
+              (prefix-get p.axioms grows.axioms.0 number is.0 is.1.axiom_at);
           terms = is.1.terms;
           choices = λ k d below. name-grows params _ (is.1.choices k d below);
           literal_at = is.1.literal_at;
@@ -130,16 +130,16 @@ module _ (p q : Problem) (grows : Grows p q) where
         subst (λ (s : Schema). ProvesEachOf (IsObjectOrParameter q.objects params) q.axioms (atoms_of s.pre inst) row)
         (sym (schema-same inst below)) (each-grows (precondition p inst) row is)
 
-    rows-grow : (steps : List OpInst) (goal : List Atom) (goal_vars : ℕ) (rows : List (List Derivation)) → All (IsStepOf p params) steps
-        → RowsProve (IsObjectOrParameter p.objects params) p params steps goal goal_vars rows
-        → RowsProve (IsObjectOrParameter q.objects params) q params steps goal goal_vars rows
-    rows-grow [] goal goal_vars [] of is = absurd is
-    rows-grow [] goal goal_vars (row ∷ []) of is = (is.0, is.1, each-grows _ row is.2)
-    rows-grow [] goal goal_vars (row ∷ second ∷ rows) of is = absurd is
-    rows-grow (inst ∷ steps) goal goal_vars [] of is = absurd is
-    rows-grow (inst ∷ steps) goal goal_vars (row ∷ rows) of is = (
+    rows-grow : (steps : List OpInst) (goal : List Atom) (goal_variable_count : ℕ) (rows : List (List Derivation)) → All (IsStepOf p params) steps
+        → RowsProve (IsObjectOrParameter p.objects params) p params steps goal goal_variable_count rows
+        → RowsProve (IsObjectOrParameter q.objects params) q params steps goal goal_variable_count rows
+    rows-grow [] goal goal_variable_count [] of is = absurd is
+    rows-grow [] goal goal_variable_count (row ∷ []) of is = (is.0, is.1, each-grows _ row is.2)
+    rows-grow [] goal goal_variable_count (row ∷ second ∷ rows) of is = absurd is
+    rows-grow (inst ∷ steps) goal goal_variable_count [] of is = absurd is
+    rows-grow (inst ∷ steps) goal goal_variable_count (row ∷ rows) of is = (
       row-grows inst row (of 0 inst (omega arith)).op is.0,
-      rows-grow steps goal goal_vars rows (λ k d below. of (suc k) d (omega (arith, below))) is.1,
+      rows-grow steps goal goal_variable_count rows (λ k d below. of (suc k) d (omega (arith, below))) is.1,
     )
 
   named-grows : (params : ℕ) (steps : List OpInst) → All (IsStepOf p params) steps → (mark : Mark) → IsNamed p steps mark
@@ -161,19 +161,19 @@ module _ (p q : Problem) (grows : Grows p q) where
 
   -- where the first problem has a sort for each object
   module _ (count : length p.object_sorts ≡ p.objects) where
-    stand-grows : (params : List ℕ) (vars wanted : ℕ) (t : Term) → IsTermOf p vars t → IsOfSort p.object_sorts params wanted t
+    stand-grows : (params : List ℕ) (variable_count wanted : ℕ) (t : Term) → IsTermOf p variable_count t → IsOfSort p.object_sorts params wanted t
         → IsOfSort q.object_sorts params wanted t
-    stand-grows params vars wanted (Obj n) is stands = λ sorted.
+    stand-grows params variable_count wanted (Obj n) is stands = λ sorted.
         ap (λ (l : List ℕ). slice_index l n) grows.object_sorts.1
         ∙ get_or_append_left p.object_sorts grows.object_sorts.0 0 n (omega (arith, is, count)) ∙ stands sorted
-    stand-grows params vars wanted (Var v) is stands = stands
-    stand-grows params vars wanted Any is stands = tt
+    stand-grows params variable_count wanted (Var v) is stands = stands
+    stand-grows params variable_count wanted Any is stands = tt
 
-    sorted-grows : (params : List ℕ) (vars : ℕ) (inst : OpInst) → IsStepOf p vars inst → IsWellSortedStep p params inst
+    sorted-grows : (params : List ℕ) (variable_count : ℕ) (inst : OpInst) → IsStepOf p variable_count inst → IsWellSortedStep p params inst
         → IsWellSortedStep q params inst
-    sorted-grows params vars inst is stands =
+    sorted-grows params variable_count inst is stands =
         subst (λ (s : Schema). MayStand q.object_sorts params s.param_sorts inst.args) (sym (schema-same inst is.op))
-        (λ k below. stand-grows params vars _ (slice_index_or inst.args k Any) (is.terms k Any below) (stands k below))
+        (λ k below. stand-grows params variable_count _ (slice_index_or inst.args k Any) (is.terms k Any below) (stands k below))
 
     pub table-grows : (t : Table) → IsTable p t → IsTable q t
     table-grows t is = record {
@@ -182,7 +182,7 @@ module _ (p q : Problem) (grows : Grows p q) where
         steps = λ k d below. step-grows t.params _ (is.in_range.steps k d below);
         goal = λ k d below. atom-grows _ _ (is.in_range.goal k d below);
       };
-      prove = rows-grow t.params t.steps t.goal t.goal_vars _ is.in_range.steps is.prove;
+      prove = rows-grow t.params t.steps t.goal t.goal_variable_count _ is.in_range.steps is.prove;
       marks = is.marks;
       atoms = λ k d below. atom-grows t.params _ (is.atoms k d below);
       named = λ k d below. named-grows t.params t.steps is.in_range.steps _ (is.named k d below);

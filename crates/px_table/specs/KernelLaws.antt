@@ -113,7 +113,7 @@ module _ (problem : Problem) (table : Table) (is_table : IsTable problem table) 
   rows_here (suc k) inst state at is axioms holds =
       let from = from_map (instance_under sigma) table.steps k inst at in
       let row =
-      row_of_step (IsObjectOrParameter problem.objects table.params) problem table.params table.goal table.goal_vars 1 k (suc k) from.0
+      row_of_step (IsObjectOrParameter problem.objects table.params) problem table.params table.goal table.goal_variable_count 1 k (suc k) from.0
       table.steps (rows_of table.proofs) (omega arith) from.1 is_table.prove in
       let true_here = atoms_true state is axioms (suc k) (precondition problem from.0) row.row
       (λ leaf has. subst (λ ms. Contains ms (mark_of (suc k) leaf)) (sym is_table.marks) (row.marked leaf has)) holds row.fact_of in
@@ -126,9 +126,9 @@ module _ (problem : Problem) (table : Table) (is_table : IsTable problem table) 
       (subst (All (Holds state)) (sym (precondition-under problem (map Obj sigma) from.0)) all)
 
   goal_here : (state : State) → IsState state → AxiomsHold problem state → RowHolds Instances state (suc (length (steps_under table sigma)))
-      → GoalHolds state table.goal_vars (goal_under table sigma)
+      → GoalHolds state table.goal_variable_count (goal_under table sigma)
   goal_here state is axioms holds =
-      let row = row_of_goal (IsObjectOrParameter problem.objects table.params) problem table.params table.goal table.goal_vars 1
+      let row = row_of_goal (IsObjectOrParameter problem.objects table.params) problem table.params table.goal table.goal_variable_count 1
       (suc (length table.steps)) table.steps (rows_of table.proofs) (omega arith) is_table.prove in
       let chosen = row.fact_of.0 in
       let elements = elements_under state sigma in
@@ -145,15 +145,15 @@ module _ (problem : Problem) (table : Table) (is_table : IsTable problem table) 
           All-map (λ e. e < state.size) (element_of state elements) chosen
               (λ k d below. term-within state is elements (elements-are_values state is sigma).1 _),
         ),
-        All-map (HoldsUnder state values) (substitute_atom (map Obj sigma ++ variables table.goal_vars)) table.goal
-            (All-each (λ a. HoldsUnder state values (substitute_atom (map Obj sigma ++ variables table.goal_vars) a)) table.goal
-            (λ a has. goal_holds-under state sigma chosen table.params table.goal_vars given.count row.fact_of.1 a
+        All-map (HoldsUnder state values) (substitute_atom (map Obj sigma ++ variables table.goal_variable_count)) table.goal
+            (All-each (λ a. HoldsUnder state values (substitute_atom (map Obj sigma ++ variables table.goal_variable_count) a)) table.goal
+            (λ a has. goal_holds-under state sigma chosen table.params table.goal_variable_count given.count row.fact_of.1 a
             (All-at (HoldsUnder state elements) (map (substitute_atom (variables table.params ++ chosen)) table.goal)
             (substitute_atom (variables table.params ++ chosen) a) true_here
             (Contains-mapped (substitute_atom (variables table.params ++ chosen)) table.goal a has)))),
       )
 
-  carried : IsCarried problem (steps_under table sigma) table.goal_vars (goal_under table sigma) Instances
+  carried : IsCarried problem (steps_under table sigma) table.goal_variable_count (goal_under table sigma) Instances
   carried = record {
     named = All-map (IsNamed problem (steps_under table sigma)) (mark_under sigma) table.marks
         (λ k d below. IsNamed-under problem table.steps sigma _ (is_table.named k d below));
@@ -179,14 +179,14 @@ module _ (problem : Problem) (table : Table) (is_table : IsTable problem table) 
         subst (λ (m : Mark). IsKept problem (steps_under table sigma) (suc k) m) from.2
         (All-at (λ m. IsKept problem (steps_under table sigma) (suc k) (mark_under sigma m)) table.marks from.0 proper from.1)
 
-    pub tail-carries : Carries problem (kernel_under table sigma (suc k)) (drop k (steps_under table sigma)) table.goal_vars
+    pub tail-carries : Carries problem (kernel_under table sigma (suc k)) (drop k (steps_under table sigma)) table.goal_variable_count
         (goal_under table sigma)
     tail-carries = record {
       meets = λ state later run facts.
-          carry_meets problem (steps_under table sigma) table.goal_vars (goal_under table sigma) Instances carried
+          carry_meets problem (steps_under table sigma) table.goal_variable_count (goal_under table sigma) Instances carried
           (drop k (steps_under table sigma)) later k state refl (kernel_holds state facts) kept_here run;
       ends = λ state later run facts long.
-          carry_ends problem (steps_under table sigma) table.goal_vars (goal_under table sigma) Instances carried
+          carry_ends problem (steps_under table sigma) table.goal_variable_count (goal_under table sigma) Instances carried
           (drop k (steps_under table sigma)) later k state
           (omega (arith, length-map table.steps (instance_under sigma))) refl (kernel_holds state facts) kept_here run long;
     }
@@ -198,7 +198,7 @@ pub tail_carries : (problem : Problem) (table : Table) (sigma : List ℕ) (i : �
 tail_carries problem table sigma zero is_table given low high proper = absurd (omega (arith, low))
 tail_carries problem table sigma (suc k) is_table given low high proper =
     let before : k ≡ suc k - 1 = omega arith in
-    subst (λ n. Carries problem (kernel_under table sigma (suc k)) (drop n (steps_under table sigma)) table.goal_vars
+    subst (λ n. Carries problem (kernel_under table sigma (suc k)) (drop n (steps_under table sigma)) table.goal_variable_count
     (goal_under table sigma)) before
     (tail-carries problem table is_table sigma given k (omega (arith, high)) proper)
 

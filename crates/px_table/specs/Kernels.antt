@@ -49,7 +49,7 @@ abbrev pub steps_under : Table → List ℕ → List OpInst
 steps_under table sigma = map (instance_under sigma) table.steps
 
 abbrev pub goal_under : Table → List ℕ → List Atom
-goal_under table sigma = map (substitute_atom (map Obj sigma ++ variables table.goal_vars)) table.goal
+goal_under table sigma = map (substitute_atom (map Obj sigma ++ variables table.goal_variable_count)) table.goal
 
 -- the rows, with the objects in their proofs
 abbrev pub rows_under : Table → List ℕ → List (List Derivation)
@@ -61,7 +61,7 @@ IsProper problem table sigma i = All (λ mark. IsKept problem (steps_under table
 
 -- the instance of kernel `i` carries the steps from `i` on to the goal
 abbrev pub TailCarries : Problem → Table → List ℕ → ℕ → Type 0
-TailCarries problem table sigma i = Carries problem (kernel_under table sigma i) (drop (i - 1) (steps_under table sigma)) table.goal_vars
+TailCarries problem table sigma i = Carries problem (kernel_under table sigma i) (drop (i - 1) (steps_under table sigma)) table.goal_variable_count
     (goal_under table sigma)
 
 -- each proper instance of each kernel carries the steps that are left to the goal, whatever the sorts of its objects

@@ -55,17 +55,17 @@ row_objects axioms (atom ∷ atoms) [] each = absurd each
 row_objects axioms (atom ∷ atoms) (d ∷ row) each =
     All-cons NamesObjects d row (objects_of axioms _ [] _ d each.0.proves) (row_objects axioms atoms row each.1)
 
-pub rows_objects : (problem : Problem) (goal : List Atom) (goal_vars : ℕ) (steps : List OpInst) (rows : List (List Derivation))
-    → RowsProve IsObject problem 0 steps goal goal_vars rows → All (All NamesObjects) rows
-rows_objects problem goal goal_vars [] [] h = absurd h
-rows_objects problem goal goal_vars [] (row ∷ []) h =
+pub rows_objects : (problem : Problem) (goal : List Atom) (goal_variable_count : ℕ) (steps : List OpInst) (rows : List (List Derivation))
+    → RowsProve IsObject problem 0 steps goal goal_variable_count rows → All (All NamesObjects) rows
+rows_objects problem goal goal_variable_count [] [] h = absurd h
+rows_objects problem goal goal_variable_count [] (row ∷ []) h =
     All-cons (All NamesObjects) row [] (row_objects problem.axioms (map (substitute_atom h.0) goal) row h.2)
     (λ k d below. absurd (omega (arith, below)))
-rows_objects problem goal goal_vars [] (row ∷ second ∷ rows) h = absurd h
-rows_objects problem goal goal_vars (inst ∷ steps) [] h = absurd h
-rows_objects problem goal goal_vars (inst ∷ steps) (row ∷ rows) h =
+rows_objects problem goal goal_variable_count [] (row ∷ second ∷ rows) h = absurd h
+rows_objects problem goal goal_variable_count (inst ∷ steps) [] h = absurd h
+rows_objects problem goal goal_variable_count (inst ∷ steps) (row ∷ rows) h =
     All-cons (All NamesObjects) row rows (row_objects problem.axioms (precondition problem inst) row h.0)
-    (rows_objects problem goal goal_vars steps rows h.1)
+    (rows_objects problem goal goal_variable_count steps rows h.1)
 
 -- ---- from some number on
 

@@ -17,6 +17,6 @@ put_each same xs [] = xs
 put_each same xs (y ∷ ys) = put_each same (put_once same xs y) ys
 
 -- where the list begins with the wanted items, how many these are; else nothing
-abbrev pub IsFront : {A : Type 0} → List A → List A → Option ℕ → Type 0
-IsFront list wanted (Some count) = (count ≤ length list) × (take count list ≡ wanted)
-IsFront list wanted None = (rest : List _) → ¬ (list ≡ wanted ++ rest)
+abbrev pub IsPrefix : {A : Type 0} → List A → List A → Option ℕ → Type 0
+IsPrefix list wanted (Some count) = (count ≤ length list) × (take count list ≡ wanted)
+IsPrefix list wanted None = (rest : List _) → ¬ (list ≡ wanted ++ rest)

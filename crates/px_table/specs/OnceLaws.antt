@@ -15,17 +15,17 @@ put_each-append same xs [] zs = refl
 put_each-append same xs (y ∷ ys) zs = put_each-append same (put_once same xs y) ys zs
 
 -- putting leaves what is there in front
-pub put_once-front : {A : Type 0} (same : A → A → Bool) (xs : List A) (x : A) → (rest : List A) × (put_once same xs x ≡ xs ++ rest)
-put_once-front same xs x = elim (list_any (λ y. same y x) xs) as (λ b. (rest : List _) × (cond b xs (xs ++ x ∷ []) ≡ xs ++ rest)) [
+pub put_once-prefix : {A : Type 0} (same : A → A → Bool) (xs : List A) (x : A) → (rest : List A) × (put_once same xs x ≡ xs ++ rest)
+put_once-prefix same xs x = elim (list_any (λ y. same y x) xs) as (λ b. (rest : List _) × (cond b xs (xs ++ x ∷ []) ≡ xs ++ rest)) [
   | true ↦ ([], sym (append-nil xs))
   | false ↦ (x ∷ [], refl)
 ]
 
-pub put_each-front : {A : Type 0} (same : A → A → Bool) (xs ys : List A) → (rest : List A) × (put_each same xs ys ≡ xs ++ rest)
-put_each-front same xs [] = ([], sym (append-nil xs))
-put_each-front same xs (y ∷ ys) =
-    let one = put_once-front same xs y in
-    let all = put_each-front same (put_once same xs y) ys in
+pub put_each-prefix : {A : Type 0} (same : A → A → Bool) (xs ys : List A) → (rest : List A) × (put_each same xs ys ≡ xs ++ rest)
+put_each-prefix same xs [] = ([], sym (append-nil xs))
+put_each-prefix same xs (y ∷ ys) =
+    let one = put_once-prefix same xs y in
+    let all = put_each-prefix same (put_once same xs y) ys in
     (one.0 ++ all.0, all.1 ∙ ap (λ l. l ++ all.0) one.1 ∙ append_assoc xs one.0 all.0)
 
 -- one more, as at a step of a loop

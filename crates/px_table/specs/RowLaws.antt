@@ -56,10 +56,10 @@ later_row P first r row rows h =
           (marks_from (suc first) rows) (mark_of r leaf) (h.marked leaf has);
     }
 
-module _ (IsTerm : Term → Type 0) (problem : Problem) (params : ℕ) (goal : List Atom) (goal_vars : ℕ) where
+module _ (IsTerm : Term → Type 0) (problem : Problem) (params : ℕ) (goal : List Atom) (goal_variable_count : ℕ) where
   pub row_of_step : (first k r : ℕ) (inst : OpInst) (steps : List OpInst) (rows : List (List Derivation)) → r ≡ first + k
       → slice_get steps k ≡ Some inst
-      → RowsProve IsTerm problem params steps goal goal_vars rows
+      → RowsProve IsTerm problem params steps goal goal_variable_count rows
       → HasRow (ProvesEachOf IsTerm problem.axioms (precondition problem inst)) (marks_from first rows) r
   row_of_step first k r inst [] rows e at h = absurd (cc)
   row_of_step first k r inst (o ∷ steps) [] e at h = absurd h
@@ -77,17 +77,17 @@ module _ (IsTerm : Term → Type 0) (problem : Problem) (params : ℕ) (goal : L
       (row_of_step (suc first) k r inst steps rows (omega arith) at h.1)
 
   pub row_of_goal : (first r : ℕ) (steps : List OpInst) (rows : List (List Derivation)) → r ≡ first + length steps
-      → RowsProve IsTerm problem params steps goal goal_vars rows
-      → HasRow (ProvesGoal IsTerm problem.axioms params goal goal_vars) (marks_from first rows) r
+      → RowsProve IsTerm problem params steps goal goal_variable_count rows
+      → HasRow (ProvesGoal IsTerm problem.axioms params goal goal_variable_count) (marks_from first rows) r
   row_of_goal first r [] [] e h = absurd h
   row_of_goal first r [] (row ∷ []) e h =
       let number : first ≡ r = omega arith in
-      subst (λ n. HasRow (ProvesGoal IsTerm problem.axioms params goal goal_vars) (marks_from first (row ∷ [])) n) number
+      subst (λ n. HasRow (ProvesGoal IsTerm problem.axioms params goal goal_variable_count) (marks_from first (row ∷ [])) n) number
       record { row = row; fact_of = h; marked = first_row first row [] }
   row_of_goal first r [] (row ∷ second ∷ rows) e h = absurd h
   row_of_goal first r (o ∷ steps) [] e h = absurd h
   row_of_goal first r (o ∷ steps) (row ∷ rows) e h =
-      later_row (ProvesGoal IsTerm problem.axioms params goal goal_vars) first r row rows
+      later_row (ProvesGoal IsTerm problem.axioms params goal goal_variable_count) first r row rows
       (row_of_goal (suc first) r steps rows (omega arith) h.1)
 
 -- what a row proves is true where its leaves are, by whatever sense of truth proofs are sound

@@ -23,33 +23,33 @@ use Rattle.px_table.specs.Tables.{AreOfProblem}
 -- ---- over any objects
 
 module _ (problem : Problem) (count : ℕ) where
-  rows_wider : (IsTerm : Term → Type 0) (params : ℕ) (goal : List Atom) (goal_vars : ℕ) (steps : List OpInst)
+  rows_wider : (IsTerm : Term → Type 0) (params : ℕ) (goal : List Atom) (goal_variable_count : ℕ) (steps : List OpInst)
       (rows : List (List Derivation))
-      → RowsProve IsTerm problem params steps goal goal_vars rows
-      → RowsProve IsTerm (with_object_count problem count) params steps goal goal_vars rows
-  rows_wider IsTerm params goal goal_vars [] [] h = h
-  rows_wider IsTerm params goal goal_vars [] (row ∷ []) h = h
-  rows_wider IsTerm params goal goal_vars [] (row ∷ second ∷ rows) h = h
-  rows_wider IsTerm params goal goal_vars (inst ∷ steps) [] h = h
-  rows_wider IsTerm params goal goal_vars (inst ∷ steps) (row ∷ rows) h = (h.0, rows_wider IsTerm params goal goal_vars steps rows h.1)
+      → RowsProve IsTerm problem params steps goal goal_variable_count rows
+      → RowsProve IsTerm (with_object_count problem count) params steps goal goal_variable_count rows
+  rows_wider IsTerm params goal goal_variable_count [] [] h = h
+  rows_wider IsTerm params goal goal_variable_count [] (row ∷ []) h = h
+  rows_wider IsTerm params goal goal_variable_count [] (row ∷ second ∷ rows) h = h
+  rows_wider IsTerm params goal goal_variable_count (inst ∷ steps) [] h = h
+  rows_wider IsTerm params goal goal_variable_count (inst ∷ steps) (row ∷ rows) h = (h.0, rows_wider IsTerm params goal goal_variable_count steps rows h.1)
 
   -- the number of the problem's objects doesn't count
-  pub support_wider : (atoms : List Atom) (steps : List OpInst) (goal : List Atom) (goal_vars : ℕ) (rows : List (List Derivation))
-      → Supports problem atoms steps goal goal_vars rows → Supports (with_object_count problem count) atoms steps goal goal_vars rows
-  support_wider atoms steps goal goal_vars rows s = record {
+  pub support_wider : (atoms : List Atom) (steps : List OpInst) (goal : List Atom) (goal_variable_count : ℕ) (rows : List (List Derivation))
+      → Supports problem atoms steps goal goal_variable_count rows → Supports (with_object_count problem count) atoms steps goal goal_variable_count rows
+  support_wider atoms steps goal goal_variable_count rows s = record {
     instances = λ k d below. let i = s.instances k d below in record { op = i.op; count = i.count; all_objects = i.all_objects };
-    prove = rows_wider _ 0 goal goal_vars steps rows s.prove;
+    prove = rows_wider _ 0 goal goal_variable_count steps rows s.prove;
     named = λ k d below. let n = s.named k d below in record { earlier = n.earlier; initial = n.initial; added = n.added };
     given = s.given;
     kept = s.kept;
   }
 
-module _ (problem : Problem) (atoms : List Atom) (steps : List OpInst) (goal : List Atom) (goal_vars : ℕ) (rows : List (List Derivation))
-    (supports : Supports problem atoms steps goal goal_vars rows) where
+module _ (problem : Problem) (atoms : List Atom) (steps : List OpInst) (goal : List Atom) (goal_variable_count : ℕ) (rows : List (List Derivation))
+    (supports : Supports problem atoms steps goal goal_variable_count rows) where
   over_objects : (count : ℕ) → AreOfProblem (with_object_count problem count) rows
-      → Carries (with_object_count problem count) atoms steps goal_vars goal
-  over_objects count are = support_carries (with_object_count problem count) atoms steps goal goal_vars rows are
-      (support_wider problem count atoms steps goal goal_vars rows supports)
+      → Carries (with_object_count problem count) atoms steps goal_variable_count goal
+  over_objects count are = support_carries (with_object_count problem count) atoms steps goal goal_variable_count rows are
+      (support_wider problem count atoms steps goal goal_variable_count rows supports)
 
   -- the rows are the problem's, with enough objects
   rows_from : HaveArities problem rows → FromSome (λ count. AreOfProblem (with_object_count problem count) rows)
@@ -57,7 +57,7 @@ module _ (problem : Problem) (atoms : List Atom) (steps : List OpInst) (goal : L
       from_each (λ count (row : List Derivation). All (IsDerivationOf count) row) rows (λ k row below.
       from_each IsDerivationOf _ (λ j d inner.
       (let from = terms_name_objects problem (slice_index_or (slice_index_or rows k row) j d)
-      (rows_objects problem goal goal_vars steps rows supports.prove k row below j d inner) in
+      (rows_objects problem goal goal_variable_count steps rows supports.prove k row below j d inner) in
       (from.0, λ count enough. (from.1 count enough, arities k row below j d inner)))))
     where
       IsDerivationOf : ℕ → Derivation → Type 0
@@ -65,22 +65,22 @@ module _ (problem : Problem) (atoms : List Atom) (steps : List OpInst) (goal : L
           × All (HasArity problem) (leaf_atoms (leaves_of d))
 
   enough_objects : HaveArities problem rows → (least : ℕ) × ((count : ℕ) → least ≤ count
-      → Carries (with_object_count problem count) atoms steps goal_vars goal)
+      → Carries (with_object_count problem count) atoms steps goal_variable_count goal)
   enough_objects arities = let from = rows_from arities in (from.0, λ count enough. over_objects count (from.1 count enough))
 
 pub supports_carry : SupportsCarry
 supports_carry = record {
-  over = λ problem count atoms steps goal goal_vars rows supports are. over_objects problem atoms steps goal goal_vars rows supports count
+  over = λ problem count atoms steps goal goal_variable_count rows supports are. over_objects problem atoms steps goal goal_variable_count rows supports count
       are;
-  enough = λ problem atoms steps goal goal_vars rows supports arities. enough_objects problem atoms steps goal goal_vars rows supports
+  enough = λ problem atoms steps goal goal_variable_count rows supports arities. enough_objects problem atoms steps goal goal_variable_count rows supports
       arities;
 }
 
 -- ---- what no support has
 
-module _ (problem : Problem) (atoms : List Atom) (steps : List OpInst) (goal : List Atom) (goal_vars : ℕ) (rows : List (List Derivation))
+module _ (problem : Problem) (atoms : List Atom) (steps : List OpInst) (goal : List Atom) (goal_variable_count : ℕ) (rows : List (List Derivation))
     (row : ℕ) (leaf : Leaf) (is : IsLeafOf rows row leaf)
-    (supports : Supports problem atoms steps goal goal_vars rows) where
+    (supports : Supports problem atoms steps goal goal_variable_count rows) where
   leaf_mark : Contains (marks_from 1 rows) (mark_of row leaf)
   leaf_mark = leaf_marked 1 is.place row rows is.proofs leaf (omega (arith, is.number)) is.row_at is.is_leaf
 
@@ -109,11 +109,11 @@ module _ (problem : Problem) (atoms : List Atom) (steps : List OpInst) (goal : L
   leaf_kept = All-at (IsKept problem steps 1) (marks_from 1 rows) (mark_of row leaf) supports.kept leaf_mark
 
 pub supports_refuse : SupportsRefuse
-supports_refuse problem atoms steps goal goal_vars rows row leaf is = record {
-  own_column = λ late supports. leaf_earlier problem atoms steps goal goal_vars rows row leaf is supports late;
-  other_index = λ start other supports. other ((leaf_named problem atoms steps goal goal_vars rows row leaf is supports).initial start);
-  not_given = λ start absent supports. absent (leaf_given problem atoms steps goal goal_vars rows row leaf is supports start);
-  not_added = λ inst at other supports. other (leaf_added problem atoms steps goal goal_vars rows row leaf is supports inst at);
-  deleted_since = λ k inst after before at deleted supports. leaf_kept problem atoms steps goal goal_vars rows row leaf is supports k inst
+supports_refuse problem atoms steps goal goal_variable_count rows row leaf is = record {
+  own_column = λ late supports. leaf_earlier problem atoms steps goal goal_variable_count rows row leaf is supports late;
+  other_index = λ start other supports. other ((leaf_named problem atoms steps goal goal_variable_count rows row leaf is supports).initial start);
+  not_given = λ start absent supports. absent (leaf_given problem atoms steps goal goal_variable_count rows row leaf is supports start);
+  not_added = λ inst at other supports. other (leaf_added problem atoms steps goal goal_variable_count rows row leaf is supports inst at);
+  deleted_since = λ k inst after before at deleted supports. leaf_kept problem atoms steps goal goal_variable_count rows row leaf is supports k inst
       (omega (arith, after)) after before at deleted;
 }

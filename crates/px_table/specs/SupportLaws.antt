@@ -23,7 +23,7 @@ use Rattle.px_proof.specs.declared.proof.Leaf.{Leaf}
 use Rattle.px_proof.specs.declared.proof.Proof.{Proof}
 use Rattle.px_proof.specs.Derivation.{Derivation, Derivations, fact, ancestor, step, gap, open_place, none, also, leaves_of, all_leaves_of, leaf_atoms, terms_of, all_terms_of}
 use Rattle.px_proof.specs.Literals.{positive_of, substitute_literal}
-use Rattle.px_proof.specs.PlaceLaws.{All-back, All-front, All-got, Contains-mapped}
+use Rattle.px_proof.specs.PlaceLaws.{All-back, All-prefix, All-got, Contains-mapped}
 use Rattle.px_proof.specs.Proves.{Proves, ProvesEach, IsObjectOrParameter, from_atoms, parts_of}
 use Rattle.px_proof.specs.Soundness.{follows}
 use Rattle.px_proof.specs.TruthLaws.{literal-under}
@@ -40,8 +40,8 @@ use Rattle.px_table.specs.WellSorted.{IsWellSortedStep}
 
 -- ---- a support carries
 
-module _ (problem : Problem) (atoms : List Atom) (steps : List OpInst) (goal : List Atom) (goal_vars : ℕ) (rows : List (List Derivation))
-    (support : Supports problem atoms steps goal goal_vars rows)
+module _ (problem : Problem) (atoms : List Atom) (steps : List OpInst) (goal : List Atom) (goal_variable_count : ℕ) (rows : List (List Derivation))
+    (support : Supports problem atoms steps goal goal_variable_count rows)
     (of_problem : All (λ mark. IsAtomOf problem 0 mark.atom) (marks_from 1 rows)) where
   sound_here : (state : State) → IsState state → AxiomsHold problem state → (atom : Atom) (d : Derivation)
       → IsProofOf IsObject problem.axioms atom d → All (Holds state) (leaf_atoms (leaves_of d)) → Holds state atom
@@ -60,13 +60,13 @@ module _ (problem : Problem) (atoms : List Atom) (steps : List OpInst) (goal : L
       → RowHolds (marks_from 1 rows) state r → All (Holds state) (precondition problem inst)
   rows_here zero inst state at is axioms holds = absurd (cc)
   rows_here (suc k) inst state at is axioms holds =
-      let row = row_of_step IsObject problem 0 goal goal_vars 1 k (suc k) inst steps rows (omega arith) at support.prove in
+      let row = row_of_step IsObject problem 0 goal goal_variable_count 1 k (suc k) inst steps rows (omega arith) at support.prove in
       atoms_true state is axioms (suc k) (precondition problem inst) row.row row.marked holds row.fact_of
 
   goal_here : (state : State) → IsState state → AxiomsHold problem state → RowHolds (marks_from 1 rows) state (suc (length steps))
-      → GoalHolds state goal_vars goal
+      → GoalHolds state goal_variable_count goal
   goal_here state is axioms holds =
-      let row = row_of_goal IsObject problem 0 goal goal_vars 1 (suc (length steps)) steps rows (omega arith) support.prove in
+      let row = row_of_goal IsObject problem 0 goal goal_variable_count 1 (suc (length steps)) steps rows (omega arith) support.prove in
       let chosen = row.fact_of.0 in
       let values : List ℕ = map (element_of state []) chosen in
       let true_here = atoms_true state is axioms (suc (length steps)) (map (substitute_atom chosen) goal) row.row row.marked holds
@@ -83,7 +83,7 @@ module _ (problem : Problem) (atoms : List Atom) (steps : List OpInst) (goal : L
             (Contains-mapped (substitute_atom chosen) goal a has))),
       )
 
-  carried : IsCarried problem steps goal_vars goal (marks_from 1 rows)
+  carried : IsCarried problem steps goal_variable_count goal (marks_from 1 rows)
   carried = record { named = support.named; atoms = of_problem; rows = rows_here; last = goal_here }
 
   start_holds : (state : State) → All (Holds state) atoms → KernelHolds (marks_from 1 rows) state 1
@@ -94,11 +94,11 @@ module _ (problem : Problem) (atoms : List Atom) (steps : List OpInst) (goal : L
   kept_here : (mark : Mark) → Contains (marks_from 1 rows) mark → IsKept problem steps 1 mark
   kept_here mark has = All-at (IsKept problem steps 1) (marks_from 1 rows) mark support.kept has
 
-  pub support-carries : Carries problem atoms steps goal_vars goal
+  pub support-carries : Carries problem atoms steps goal_variable_count goal
   support-carries = record {
-    meets = λ state later run facts. carry_meets problem steps goal_vars goal (marks_from 1 rows) carried steps later 0 state refl
+    meets = λ state later run facts. carry_meets problem steps goal_variable_count goal (marks_from 1 rows) carried steps later 0 state refl
         (start_holds state facts) kept_here run;
-    ends = λ state later run facts long. carry_ends problem steps goal_vars goal (marks_from 1 rows) carried steps later 0 state
+    ends = λ state later run facts long. carry_ends problem steps goal_variable_count goal (marks_from 1 rows) carried steps later 0 state
         (omega arith) refl (start_holds state facts) kept_here run long;
   }
 
@@ -118,7 +118,7 @@ mutual
       → All P leaf.atom.args
   leaves_terms P none leaf all has = absurd (Contains-none leaf has)
   leaves_terms P (also d ds) leaf all has = elim (Contains-append_cases (leaves_of d) (all_leaves_of ds) leaf has) [
-    | inl first ↦ leaf_terms P d leaf (All-front P (terms_of d) (all_terms_of ds) all) first
+    | inl first ↦ leaf_terms P d leaf (All-prefix P (terms_of d) (all_terms_of ds) all) first
     | inr later ↦ leaves_terms P ds leaf (All-back P (terms_of d) (all_terms_of ds) all) later
   ]
 
@@ -165,11 +165,11 @@ marks-are_of problem rows are =
     (all_marks (IsAtomOf problem 0) 1 rows (λ k row below j d inner. leaf_is_of problem (slice_index_or (slice_index_or rows k row) j d)
     (are k row below j d inner)))
 
-pub support_carries : (problem : Problem) (atoms : List Atom) (steps : List OpInst) (goal : List Atom) (goal_vars : ℕ)
+pub support_carries : (problem : Problem) (atoms : List Atom) (steps : List OpInst) (goal : List Atom) (goal_variable_count : ℕ)
     (rows : List (List Derivation)) → AreOfProblem problem rows
-    → Supports problem atoms steps goal goal_vars rows → Carries problem atoms steps goal_vars goal
-support_carries problem atoms steps goal goal_vars rows are support =
-    support-carries problem atoms steps goal goal_vars rows support (marks-are_of problem rows are)
+    → Supports problem atoms steps goal goal_variable_count rows → Carries problem atoms steps goal_variable_count goal
+support_carries problem atoms steps goal goal_variable_count rows are support =
+    support-carries problem atoms steps goal goal_variable_count rows support (marks-are_of problem rows are)
 
 -- ---- proofs over objects are proofs over the problem's objects
 
@@ -188,7 +188,7 @@ module _ (problem : Problem) (atoms : List Atom) where
       record {
         axiom_at = proved.1.axiom_at;
         terms = proved.1.terms;
-        choices = terms-are_names problem theta (All-front (IsTermOf problem 0) theta (all_terms_of parts) all);
+        choices = terms-are_names problem theta (All-prefix (IsTermOf problem 0) theta (all_terms_of parts) all);
         literal_at = proved.1.literal_at;
       },
       each_over_problem (lit ∷ path) (parts_of proved.0.lits theta place) parts
@@ -202,7 +202,7 @@ module _ (problem : Problem) (atoms : List Atom) where
         → ProvesEach (from_atoms (IsObjectOrParameter problem.objects 0) atoms) problem.axioms path lits ds
     each_over_problem path [] none all each = tt
     each_over_problem path (lit ∷ lits) (also d ds) all each = (
-      over_problem path lit d (All-front (IsTermOf problem 0) (terms_of d) (all_terms_of ds) all) each.0,
+      over_problem path lit d (All-prefix (IsTermOf problem 0) (terms_of d) (all_terms_of ds) all) each.0,
       each_over_problem path lits ds (All-back (IsTermOf problem 0) (terms_of d) (all_terms_of ds) all) each.1,
     )
     each_over_problem path [] (also d ds) all each = absurd each
@@ -219,9 +219,9 @@ module _ (problem : Problem) (atoms : List Atom) where
       let clause = proved.0 in
       let from = from_map (substitute_literal theta) clause.lits place (positive_of atom) proved.1.literal_at in
       let is_axiom : IsAxiomOf problem clause = All-got (IsAxiomOf problem) problem.axioms number clause valid.axioms proved.1.axiom_at in
-      let of_clause : IsAtomOf problem clause.vars from.0.atom =
-      All-got (λ (l : Lit). IsAtomOf problem clause.vars l.atom) clause.lits place from.0 is_axiom.lits from.1 in
-      let objects = All-front (IsTermOf problem 0) theta (all_terms_of parts) all in
+      let of_clause : IsAtomOf problem clause.variable_count from.0.atom =
+      All-got (λ (l : Lit). IsAtomOf problem clause.variable_count l.atom) clause.lits place from.0 is_axiom.lits from.1 in
+      let objects = All-prefix (IsTermOf problem 0) theta (all_terms_of parts) all in
       let made = atom-is_of problem theta objects from.0.atom (subst (λ n. IsAtomOf problem n from.0.atom) (sym proved.1.terms) of_clause)
       in
       subst (λ (a : Atom). All (IsTermOf problem 0) a.args) (ap (λ (l : Lit). l.atom) from.2) made.1
@@ -246,18 +246,18 @@ row_over_problem problem valid (atom ∷ atoms) (d ∷ row) all each = (
   row_over_problem problem valid atoms row (λ k e below. all (suc k) e (omega (arith, below))) each.1,
 )
 
-rows_over_problem : (problem : Problem) → IsValid problem → (goal : List Atom) (goal_vars : ℕ) (steps : List OpInst)
+rows_over_problem : (problem : Problem) → IsValid problem → (goal : List Atom) (goal_variable_count : ℕ) (steps : List OpInst)
     (rows : List (List Derivation)) → AreOfProblem problem rows
-    → RowsProve IsObject problem 0 steps goal goal_vars rows
-    → RowsProve (IsObjectOrParameter problem.objects 0) problem 0 steps goal goal_vars rows
-rows_over_problem problem valid goal goal_vars [] [] are h = absurd h
-rows_over_problem problem valid goal goal_vars [] (row ∷ []) are h =
+    → RowsProve IsObject problem 0 steps goal goal_variable_count rows
+    → RowsProve (IsObjectOrParameter problem.objects 0) problem 0 steps goal goal_variable_count rows
+rows_over_problem problem valid goal goal_variable_count [] [] are h = absurd h
+rows_over_problem problem valid goal goal_variable_count [] (row ∷ []) are h =
     (h.0, h.1, row_over_problem problem valid (map (substitute_atom h.0) goal) row (are 0 row (omega arith)) h.2)
-rows_over_problem problem valid goal goal_vars [] (row ∷ second ∷ rows) are h = absurd h
-rows_over_problem problem valid goal goal_vars (inst ∷ steps) [] are h = absurd h
-rows_over_problem problem valid goal goal_vars (inst ∷ steps) (row ∷ rows) are h = (
+rows_over_problem problem valid goal goal_variable_count [] (row ∷ second ∷ rows) are h = absurd h
+rows_over_problem problem valid goal goal_variable_count (inst ∷ steps) [] are h = absurd h
+rows_over_problem problem valid goal goal_variable_count (inst ∷ steps) (row ∷ rows) are h = (
   row_over_problem problem valid (precondition problem inst) row (are 0 row (omega arith)) h.0,
-  rows_over_problem problem valid goal goal_vars steps rows (λ k e below. are (suc k) e (omega (arith, below))) h.1,
+  rows_over_problem problem valid goal goal_variable_count steps rows (λ k e below. are (suc k) e (omega (arith, below))) h.1,
 )
 
 step_of : (problem : Problem) (inst : OpInst) → IsInstanceOf problem inst → IsStepOf problem 0 inst
@@ -277,18 +277,18 @@ instance-stands problem inst is fits k below =
     (fits k below)
 
 -- a support over the problem's numbers, whose steps fit, makes a table
-pub support_table : (problem : Problem) → IsValid problem → (atoms : List Atom) (steps : List OpInst) (goal : List Atom) (goal_vars : ℕ)
-    (support : List (List Proof)) → Supports problem atoms steps goal goal_vars (rows_of support)
-    → All (IsInstanceOf problem) steps → All (IsAtomOf problem goal_vars) goal → AreOfProblem problem (rows_of support)
+pub support_table : (problem : Problem) → IsValid problem → (atoms : List Atom) (steps : List OpInst) (goal : List Atom) (goal_variable_count : ℕ)
+    (support : List (List Proof)) → Supports problem atoms steps goal goal_variable_count (rows_of support)
+    → All (IsInstanceOf problem) steps → All (IsAtomOf problem goal_variable_count) goal → AreOfProblem problem (rows_of support)
     → length steps < u32_max → All (IsWellSorted problem) steps
-    → IsTable problem (table_of_rows 0 [] steps goal goal_vars support)
-support_table problem valid atoms steps goal goal_vars support supports instances goal_atoms are short fitting = record {
+    → IsTable problem (table_of_rows 0 [] steps goal goal_variable_count support)
+support_table problem valid atoms steps goal goal_variable_count support supports instances goal_atoms are short fitting = record {
   in_range = record {
     short = short;
     steps = λ k d below. step_of problem _ (instances k d below);
-    goal = subst (λ n. All (IsAtomOf problem n) goal) (let e : goal_vars ≡ 0 + goal_vars = omega arith in e) goal_atoms;
+    goal = subst (λ n. All (IsAtomOf problem n) goal) (let e : goal_variable_count ≡ 0 + goal_variable_count = omega arith in e) goal_atoms;
   };
-  prove = rows_over_problem problem valid goal goal_vars steps (rows_of support) are supports.prove;
+  prove = rows_over_problem problem valid goal goal_variable_count steps (rows_of support) are supports.prove;
   marks = refl;
   atoms = marks-are_of problem (rows_of support) are;
   named = supports.named;

@@ -31,27 +31,27 @@ ProvesEachOf IsTerm axioms atoms row = AllZip (IsProofOf IsTerm axioms) atoms ro
 
 -- a proof for each atom of the goal under some terms for its own variables, which follow the parameters
 abbrev pub ProvesGoal : (Term → Type 0) → List Clause → ℕ → List Atom → ℕ → List Derivation → Type 0
-ProvesGoal IsTerm axioms params goal goal_vars row =
-    (chosen : List Term) × (length chosen ≡ goal_vars) × ProvesEachOf IsTerm axioms
+ProvesGoal IsTerm axioms params goal goal_variable_count row =
+    (chosen : List Term) × (length chosen ≡ goal_variable_count) × ProvesEachOf IsTerm axioms
     (map (substitute_atom (variables params ++ chosen)) goal) row
 
 -- row by row, the proofs of each step's precondition, and at the end those of the goal
 abbrev pub RowsProve : (Term → Type 0) → Problem → ℕ → List OpInst → List Atom → ℕ → List (List Derivation) → Type 0
-RowsProve IsTerm problem params [] goal goal_vars [] = ⊥
-RowsProve IsTerm problem params [] goal goal_vars (row ∷ []) = ProvesGoal IsTerm problem.axioms params goal goal_vars row
-RowsProve IsTerm problem params [] goal goal_vars (row ∷ second ∷ rows) = ⊥
-RowsProve IsTerm problem params (inst ∷ steps) goal goal_vars [] = ⊥
-RowsProve IsTerm problem params (inst ∷ steps) goal goal_vars (row ∷ rows) =
-    ProvesEachOf IsTerm problem.axioms (precondition problem inst) row × RowsProve IsTerm problem params steps goal goal_vars rows
+RowsProve IsTerm problem params [] goal goal_variable_count [] = ⊥
+RowsProve IsTerm problem params [] goal goal_variable_count (row ∷ []) = ProvesGoal IsTerm problem.axioms params goal goal_variable_count row
+RowsProve IsTerm problem params [] goal goal_variable_count (row ∷ second ∷ rows) = ⊥
+RowsProve IsTerm problem params (inst ∷ steps) goal goal_variable_count [] = ⊥
+RowsProve IsTerm problem params (inst ∷ steps) goal goal_variable_count (row ∷ rows) =
+    ProvesEachOf IsTerm problem.axioms (precondition problem inst) row × RowsProve IsTerm problem params steps goal goal_variable_count rows
 
 -- The rows support the steps and the goal from the atoms. The steps are instances of the problem's operators, over any
 -- objects, whatever the sorts: that the steps fit is said beside this. The rows prove each precondition and the goal, over
 -- objects. Each fact that they rest on is one of the atoms, or an add of a step before its row that the leaf names, and no
 -- step in between deletes it.
-pub record Supports (problem : Problem) (atoms : List Atom) (steps : List OpInst) (goal : List Atom) (goal_vars : ℕ)
+pub record Supports (problem : Problem) (atoms : List Atom) (steps : List OpInst) (goal : List Atom) (goal_variable_count : ℕ)
     (rows : List (List Derivation)) : Type 0 where
   pub instances : All (IsGroundInstanceOf problem) steps
-  pub prove : RowsProve IsObject problem 0 steps goal goal_vars rows
+  pub prove : RowsProve IsObject problem 0 steps goal goal_variable_count rows
   pub named : All (IsNamed problem steps) (marks_from 1 rows)
   pub given : All (λ mark. mark.column ≡ 0 → Contains atoms mark.atom) (marks_from 1 rows)
   pub kept : All (IsKept problem steps 1) (marks_from 1 rows)

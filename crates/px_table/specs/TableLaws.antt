@@ -10,7 +10,7 @@ use Rattle.px_table.specs.Tables.{IsTable, rows_of, table_of_rows}
 
 -- the table with the marks of its rows in place of its own
 abbrev pub marked_anew : Table → Table
-marked_anew table = table_of_rows table.params table.param_sorts table.steps table.goal table.goal_vars table.proofs
+marked_anew table = table_of_rows table.params table.param_sorts table.steps table.goal table.goal_variable_count table.proofs
 
 pub marked-is : (problem : Problem) (table : Table) → IsTable problem table → IsTable problem (marked_anew table)
 marked-is problem table is = record {

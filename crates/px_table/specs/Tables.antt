@@ -22,11 +22,11 @@ rows_of rows = map (map derivation_of) rows
 
 -- the table of these with the marks of the rows
 abbrev pub table_of_rows : ℕ → List ℕ → List OpInst → List Atom → ℕ → List (List Proof) → Table
-table_of_rows params param_sorts steps goal goal_vars rows = record {
+table_of_rows params param_sorts steps goal goal_variable_count rows = record {
   params = params;
   steps = steps;
   goal = goal;
-  goal_vars = goal_vars;
+  goal_variable_count = goal_variable_count;
   marks = marks_from 1 (rows_of rows);
   proofs = rows;
   param_sorts = param_sorts;
@@ -34,11 +34,11 @@ table_of_rows params param_sorts steps goal goal_vars rows = record {
 
 -- the table of these, none of whose parameters has a sort
 abbrev pub table_without_sorts : ℕ → List OpInst → List Atom → ℕ → List Mark → List (List Proof) → Table
-table_without_sorts params steps goal goal_vars marks rows = record {
+table_without_sorts params steps goal goal_variable_count marks rows = record {
   params = params;
   steps = steps;
   goal = goal;
-  goal_vars = goal_vars;
+  goal_variable_count = goal_variable_count;
   marks = marks;
   proofs = rows;
   param_sorts = replicate params 0;
@@ -58,14 +58,14 @@ pub record IsStepOf (problem : Problem) (params : ℕ) (inst : OpInst) : Type 0 
 pub record IsTableInRange (problem : Problem) (table : Table) : Type 0 where
   pub short : length table.steps < u32_max
   pub steps : All (IsStepOf problem table.params) table.steps
-  pub goal : All (IsAtomOf problem (table.params + table.goal_vars)) table.goal
+  pub goal : All (IsAtomOf problem (table.params + table.goal_variable_count)) table.goal
 
 -- A table for the problem: its numbers are in range, its rows prove the preconditions of its steps and an instance of its
 -- goal, over the problem's objects and the parameters, its marks are the leaves of the rows, each mark is an atom of
 -- the problem that names where it comes from, and each term of the steps may stand at its place by the sorts of the parameters.
 pub record IsTable (problem : Problem) (table : Table) : Type 0 where
   pub in_range : IsTableInRange problem table
-  pub prove : RowsProve (IsObjectOrParameter problem.objects table.params) problem table.params table.steps table.goal table.goal_vars
+  pub prove : RowsProve (IsObjectOrParameter problem.objects table.params) problem table.params table.steps table.goal table.goal_variable_count
       (rows_of table.proofs)
   pub marks : table.marks ≡ marks_from 1 (rows_of table.proofs)
   pub atoms : All (λ mark. IsAtomOf problem table.params mark.atom) table.marks

@@ -144,19 +144,19 @@ term-within state is values within (Obj n) = element_within state.size is.not_em
 term-within state is values within (Var v) = element_within state.size is.not_empty values v within
 term-within state is values within Any = is.not_empty
 
-value_behind : (front values : List ℕ) (e : ℕ) → slice_index (front ++ e ∷ values) (length front) ≡ e
+value_behind : (prefix values : List ℕ) (e : ℕ) → slice_index (prefix ++ e ∷ values) (length prefix) ≡ e
 value_behind [] values e = refl
-value_behind (f ∷ front) values e = value_behind front values e
+value_behind (f ∷ prefix) values e = value_behind prefix values e
 
-values_behind : (state : State) (front values : List ℕ) (first : ℕ) → first ≡ length front
-    → map (element_of state (front ++ values)) (variables_from first (length values)) ≡ values
-values_behind state front [] first is = refl
-values_behind state front (e ∷ values) first is =
-    let head : element_of state (front ++ e ∷ values) (Var first) ≡ e =
-    ap (slice_index (front ++ e ∷ values)) is ∙ value_behind front values e in
-    let rest : map (element_of state (front ++ e ∷ values)) (variables_from (suc first) (length values)) ≡ values =
-    ap (λ l. map (element_of state l) (variables_from (suc first) (length values))) (sym (append_assoc front (e ∷ []) values))
-    ∙ values_behind state (front ++ e ∷ []) values (suc first) (omega (arith, is, length-append front (e ∷ []))) in
+values_behind : (state : State) (prefix values : List ℕ) (first : ℕ) → first ≡ length prefix
+    → map (element_of state (prefix ++ values)) (variables_from first (length values)) ≡ values
+values_behind state prefix [] first is = refl
+values_behind state prefix (e ∷ values) first is =
+    let head : element_of state (prefix ++ e ∷ values) (Var first) ≡ e =
+    ap (slice_index (prefix ++ e ∷ values)) is ∙ value_behind prefix values e in
+    let rest : map (element_of state (prefix ++ e ∷ values)) (variables_from (suc first) (length values)) ≡ values =
+    ap (λ l. map (element_of state l) (variables_from (suc first) (length values))) (sym (append_assoc prefix (e ∷ []) values))
+    ∙ values_behind state (prefix ++ e ∷ []) values (suc first) (omega (arith, is, length-append prefix (e ∷ []))) in
     rw (head, rest) refl
 
 -- the variables have the elements given for them

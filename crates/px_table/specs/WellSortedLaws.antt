@@ -29,27 +29,27 @@ use Rattle.px_table.specs.WellSorted.{HasSortOfPlaces, HasSortsOfPlaces, IsWellS
 -- ---- under objects that fit, the steps fit
 
 -- what may stand at a place may stand there, too, where numbers past the problem's objects have sorts
-term-stands-more : (problem : Problem) (more params : List ℕ) (vars wanted : ℕ) (t : Term) → length problem.object_sorts ≡ problem.objects
-    → IsTermOf problem vars t → IsOfSort problem.object_sorts params wanted t → IsOfSort (problem.object_sorts ++ more) params wanted t
-term-stands-more problem more params vars wanted (Obj n) count is stands = λ sorted.
+term-stands-more : (problem : Problem) (more params : List ℕ) (variable_count wanted : ℕ) (t : Term) → length problem.object_sorts ≡ problem.objects
+    → IsTermOf problem variable_count t → IsOfSort problem.object_sorts params wanted t → IsOfSort (problem.object_sorts ++ more) params wanted t
+term-stands-more problem more params variable_count wanted (Obj n) count is stands = λ sorted.
     get_or-append problem.object_sorts more 0 n (omega (arith, is, count)) ∙ stands sorted
-term-stands-more problem more params vars wanted (Var v) count is stands = stands
-term-stands-more problem more params vars wanted Any count is stands = stands
+term-stands-more problem more params variable_count wanted (Var v) count is stands = stands
+term-stands-more problem more params variable_count wanted Any count is stands = stands
 
-plain-term : (problem : Problem) (vars count : ℕ) (t : Term) → count ≡ vars → IsTermOf problem vars t → IsPlainBelow count t
-plain-term problem vars count (Obj n) same is = tt
-plain-term problem vars count (Var v) same is = omega (arith, same, is)
-plain-term problem vars count Any same is = is
+plain-term : (problem : Problem) (variable_count count : ℕ) (t : Term) → count ≡ variable_count → IsTermOf problem variable_count t → IsPlainBelow count t
+plain-term problem variable_count count (Obj n) same is = tt
+plain-term problem variable_count count (Var v) same is = omega (arith, same, is)
+plain-term problem variable_count count Any same is = is
 
 -- under objects that fit, a step fits, also where the numbers past the problem's objects have sorts
-pub step-fits : (problem : Problem) (params : List ℕ) (vars : ℕ) (more sigma : List ℕ) (inst : OpInst) → IsValid problem
-    → IsStepOf problem vars inst → IsWellSortedStep problem params inst → length sigma ≡ vars
+pub step-fits : (problem : Problem) (params : List ℕ) (variable_count : ℕ) (more sigma : List ℕ) (inst : OpInst) → IsValid problem
+    → IsStepOf problem variable_count inst → IsWellSortedStep problem params inst → length sigma ≡ variable_count
     → ObjectsFit (problem.object_sorts ++ more) params sigma
     → IsWellSortedBy (problem.object_sorts ++ more) problem (instance_under sigma inst)
-step-fits problem params vars more sigma inst valid is stands count given =
+step-fits problem params variable_count more sigma inst valid is stands count given =
     instance-fits (problem.object_sorts ++ more) params (schema_of problem inst).param_sorts sigma inst.args
-    (λ k d below. plain-term problem vars (length sigma) _ count (is.terms k d below))
-    (λ k below. term-stands-more problem more params vars _ (slice_index_or inst.args k Any) valid.sorts.0 (is.terms k Any below)
+    (λ k d below. plain-term problem variable_count (length sigma) _ count (is.terms k d below))
+    (λ k below. term-stands-more problem more params variable_count _ (slice_index_or inst.args k Any) valid.sorts.0 (is.terms k Any below)
     (stands k below)) given
 
 -- and so do the steps of a table

@@ -30,22 +30,22 @@ pub fn build(
     alloc: Global,
     problem: &Problem,
     goal: &[Atom],
-    goal_vars: u32,
+    goal_variable_count: u32,
     steps: &[OpInst],
     support: Vec<Row>,
 ) -> Result<Table, NoMemory>
     requires problem { IsValid problem.now }
-    requires supports { (atoms : List _) × Supports problem.now atoms steps.now goal.now goal_vars (rows_of support.items) }
+    requires supports { (atoms : List _) × Supports problem.now atoms steps.now goal.now goal_variable_count (rows_of support.items) }
     requires steps { All (IsInstanceOf problem.now) steps.now }
     requires fitting { All (IsWellSorted problem.now) steps.now }
-    requires goal { All (IsAtomOf problem.now goal_vars) goal.now }
+    requires goal { All (IsAtomOf problem.now goal_variable_count) goal.now }
     requires rows { AreOfProblem problem.now (rows_of support.items) }
     requires short { length steps.now < u32_max }
     ensures table { IfOk result (λ table. IsTable problem.now table) }
     ensures kernels { IfOk result (λ table. KernelsCarry problem.now table) }
-    ensures value { IfOk result (λ table. table ≡ table_of_rows 0 [] steps.now goal.now goal_vars support.items) }
-    ensures carries { (atoms : List _) → Supports problem.now atoms steps.now goal.now goal_vars (rows_of support.items)
-        → Carries problem.now atoms steps.now goal_vars goal.now }
+    ensures value { IfOk result (λ table. table ≡ table_of_rows 0 [] steps.now goal.now goal_variable_count support.items) }
+    ensures carries { (atoms : List _) → Supports problem.now atoms steps.now goal.now goal_variable_count (rows_of support.items)
+        → Carries problem.now atoms steps.now goal_variable_count goal.now }
 {
     let table_marks = marks(alloc, &support)?;
     let table_steps = Sequence::from_slice(alloc, steps)?;
@@ -56,7 +56,7 @@ pub fn build(
         0,
         table_steps,
         table_goal,
-        goal_vars,
+        goal_variable_count,
         table_marks,
         proofs,
     )?;

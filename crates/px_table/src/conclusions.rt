@@ -40,7 +40,7 @@ fn atom_at(axioms: &ClauseArena, clause: u32, theta: &[Term], place: u32) -> Opt
     ensures { (objects params : ℕ) (atom : Atom) (used : Clause)
         → UsesClause (IsObjectOrParameter objects params) axioms.now (positive_of atom) clause theta.now place used → result ≡ Some atom }
 {
-    if clause >= axioms.count() || theta.len() != axioms.vars(clause) as usize {
+    if clause >= axioms.count() || theta.len() != axioms.variable_count(clause) as usize {
         return None;
     }
     let lits = axioms.lits(clause);

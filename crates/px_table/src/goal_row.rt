@@ -142,12 +142,12 @@ fn row_concludes(axioms: &ClauseArena, params: u32, goal: &[Atom], row: &[Proof]
 pub fn goal_is_proved(
     problem: &Problem,
     params: u32,
-    goal_vars: u32,
+    goal_variable_count: u32,
     goal: &[Atom],
     row: &[Proof],
 ) -> bool
-    requires { All (IsAtomOf problem.now (params + goal_vars)) goal.now }
-    ensures { IsTrue result ↔ ProvesGoal (IsObjectOrParameter problem.now.objects params) problem.now.axioms params goal.now goal_vars
+    requires { All (IsAtomOf problem.now (params + goal_variable_count)) goal.now }
+    ensures { IsTrue result ↔ ProvesGoal (IsObjectOrParameter problem.now.objects params) problem.now.axioms params goal.now goal_variable_count
         (map derivation_of row.now) }
 {
     each_proves_some(&problem.axioms, problem.objects, params, row)

@@ -4,7 +4,7 @@ ghost use Rattle.px_base.specs.Bounds.{u32_max};
 ghost use Rattle.px_proof.specs.Derivation.{derivations, leaves_of, all_leaves_of};
 ghost use Rattle.px_proof.specs.ProofTerm.{derivation_of};
 ghost use Rattle.px_table.specs.Marks.{mark_eq, mark_of, marks_from, row_marks};
-ghost use Rattle.px_table.specs.Once.{IsFront, put_each};
+ghost use Rattle.px_table.specs.Once.{IsPrefix, put_each};
 ghost use Rattle.px_table.specs.Tables.{rows_of};
 
 use crate::kept::{has_mark, leaf_mark};
@@ -15,7 +15,7 @@ use px_proof::{Leaf, Proof};
 /// Returns how many marks the first `count` ones and the leaf's make, where the list begins with these.
 fn after_leaf(marks: &[Mark], count: usize, row: u32, leaf: &Leaf) -> Option<usize>
     requires { count ≤ length marks.now }
-    ensures { IsFront marks.now (put_each mark_eq (take count marks.now) (map (mark_of row) (leaf.now ∷ []))) result }
+    ensures { IsPrefix marks.now (put_each mark_eq (take count marks.now) (map (mark_of row) (leaf.now ∷ []))) result }
 {
     let mark = leaf_mark(row, leaf);
     if has_mark(&marks[..count], &mark) {
@@ -31,7 +31,7 @@ fn after_leaf(marks: &[Mark], count: usize, row: u32, leaf: &Leaf) -> Option<usi
 #[cycle(walks)]
 fn after_proof(marks: &[Mark], count: usize, row: u32, proof: &Proof) -> Option<usize>
     requires { count ≤ length marks.now }
-    ensures { IsFront marks.now (put_each mark_eq (take count marks.now) (map (mark_of row) (leaves_of (derivation_of proof.now)))) result }
+    ensures { IsPrefix marks.now (put_each mark_eq (take count marks.now) (map (mark_of row) (leaves_of (derivation_of proof.now)))) result }
 {
     match proof {
         Proof::Fact(leaf) => after_leaf(marks, count, row, leaf),
@@ -44,7 +44,7 @@ fn after_proof(marks: &[Mark], count: usize, row: u32, proof: &Proof) -> Option<
 #[cycle(walks)]
 fn after_proofs(marks: &[Mark], count: usize, row: u32, proofs: &[Proof]) -> Option<usize>
     requires { count ≤ length marks.now }
-    ensures { IsFront marks.now (put_each mark_eq (take count marks.now)
+    ensures { IsPrefix marks.now (put_each mark_eq (take count marks.now)
         (map (mark_of row) (all_leaves_of (derivations (map derivation_of proofs.now))))) result }
 {
     let mut at = count;
@@ -59,7 +59,7 @@ fn after_proofs(marks: &[Mark], count: usize, row: u32, proofs: &[Proof]) -> Opt
 
 /// Returns how many marks the row has, where the list begins with these.
 fn after_row(marks: &[Mark], row: u32, proofs: &[Proof]) -> Option<usize>
-    ensures { IsFront marks.now (row_marks row (map derivation_of proofs.now)) result }
+    ensures { IsPrefix marks.now (row_marks row (map derivation_of proofs.now)) result }
 {
     after_proofs(marks, 0, row, proofs)
 }

@@ -12,14 +12,14 @@ pub fn is_step_of(problem: &Problem, params: u32, inst: &OpInst) -> bool
     ensures { IsTrue result ↔ IsStepOf problem.now params inst.now }
 {
     let schemas = problem.schemas.as_slice();
-    let vars = u64::from(params);
+    let variable_count = u64::from(params);
     let op = inst.op() as usize;
     op < schemas.len()
         && inst.args().len() == schemas[op].params as usize
         && inst
             .args()
             .iter()
-            .all(|term| is_term_of(problem, vars, term))
+            .all(|term| is_term_of(problem, variable_count, term))
 }
 
 /// Returns whether each step is an instance of an operator of the problem over its objects and the first `params` parameters.
@@ -35,13 +35,13 @@ pub fn are_in_range(
     params: u32,
     steps: &[OpInst],
     goal: &[Atom],
-    goal_vars: u32,
+    goal_variable_count: u32,
 ) -> bool
     ensures { IsTrue result ↔ ((length steps.now < u32_max) × All (IsStepOf problem.now params) steps.now
-        × All (IsAtomOf problem.now (params + goal_vars)) goal.now) }
+        × All (IsAtomOf problem.now (params + goal_variable_count)) goal.now) }
 {
-    let vars = u64::from(params) + u64::from(goal_vars);
+    let variable_count = u64::from(params) + u64::from(goal_variable_count);
     steps.len() < u32::MAX as usize
         && are_steps_of(problem, params, steps)
-        && are_atoms_of(problem, vars, goal)
+        && are_atoms_of(problem, variable_count, goal)
 }

@@ -80,7 +80,7 @@ pub struct Table {
     pub steps: Sequence<OpInst>,
     pub goal: Sequence<Atom>,
     /// How many variables of its own the goal has.
-    pub goal_vars: u32,
+    pub goal_variable_count: u32,
     /// In what `check_table` accepts: the facts that the rows rest on, row by row, each once in its row.
     pub marks: Sequence<Mark>,
     /// In what `check_table` accepts: a row for each step, and one for the goal.
@@ -99,18 +99,18 @@ impl Table {
         params: u32,
         steps: Sequence<OpInst>,
         goal: Sequence<Atom>,
-        goal_vars: u32,
+        goal_variable_count: u32,
         marks: Sequence<Mark>,
         proofs: Sequence<Row>,
     ) -> Result<Table, NoMemory>
-        ensures { IfOk result (λ table. table ≡ table_without_sorts params steps goal goal_vars marks proofs) }
+        ensures { IfOk result (λ table. table ≡ table_without_sorts params steps goal goal_variable_count marks proofs) }
     {
         let param_sorts = Sequence::from_vec(vec![in alloc; 0; params as usize]?);
         Ok(Table {
             params,
             steps,
             goal,
-            goal_vars,
+            goal_variable_count,
             marks,
             proofs,
             param_sorts,
@@ -133,7 +133,7 @@ impl Table {
             params: self.params,
             steps,
             goal,
-            goal_vars: self.goal_vars,
+            goal_variable_count: self.goal_variable_count,
             marks,
             proofs,
             param_sorts,

@@ -48,7 +48,7 @@ fn own_rows_make_table(problem: &Problem, table: &Table) -> bool
         table.param_sorts.as_slice(),
         table.steps.as_slice(),
         table.goal.as_slice(),
-        table.goal_vars,
+        table.goal_variable_count,
         table.proofs.as_slice(),
     )
 }
@@ -61,16 +61,24 @@ pub fn rows_make_table(
     param_sorts: &[u32],
     steps: &[OpInst],
     goal: &[Atom],
-    goal_vars: u32,
+    goal_variable_count: u32,
     rows: &[Row],
 ) -> bool
     requires { IsValid problem.now }
-    ensures exact { IsTrue result ↔ IsTable problem.now (table_of_rows params param_sorts.now steps.now goal.now goal_vars rows.now) }
-    ensures computes { result ≡ rows_are_table problem.now params param_sorts.now steps.now goal.now goal_vars (rows_of rows.now) }
+    ensures exact { IsTrue result ↔ IsTable problem.now (table_of_rows params param_sorts.now steps.now goal.now goal_variable_count rows.now) }
+    ensures computes { result ≡ rows_are_table problem.now params param_sorts.now steps.now goal.now goal_variable_count (rows_of rows.now) }
     ensures carries { IsTrue result
-        → KernelsCarry problem.now (table_of_rows params param_sorts.now steps.now goal.now goal_vars rows.now) }
+        → KernelsCarry problem.now (table_of_rows params param_sorts.now steps.now goal.now goal_variable_count rows.now) }
 {
-    meets_each(problem, params, param_sorts, steps, goal, goal_vars, rows)
+    meets_each(
+        problem,
+        params,
+        param_sorts,
+        steps,
+        goal,
+        goal_variable_count,
+        rows,
+    )
 }
 
 /// Returns whether these meet each of the conditions of a table.
@@ -80,18 +88,18 @@ fn meets_each(
     param_sorts: &[u32],
     steps: &[OpInst],
     goal: &[Atom],
-    goal_vars: u32,
+    goal_variable_count: u32,
     rows: &[Row],
 ) -> bool
     requires { IsValid problem.now }
-    ensures { IsTrue result ↔ IsTable problem.now (table_of_rows params param_sorts.now steps.now goal.now goal_vars rows.now) }
+    ensures { IsTrue result ↔ IsTable problem.now (table_of_rows params param_sorts.now steps.now goal.now goal_variable_count rows.now) }
 {
-    if !are_in_range(problem, params, steps, goal, goal_vars)
+    if !are_in_range(problem, params, steps, goal, goal_variable_count)
         || !are_well_sorted(problem, params, param_sorts, steps)
     {
         return false;
     }
-    rows_prove(problem, params, steps, goal, goal_vars, rows)
+    rows_prove(problem, params, steps, goal, goal_variable_count, rows)
         && leaves_are_named(problem, params, steps, rows)
 }
 
@@ -121,13 +129,13 @@ fn rows_prove(
     params: u32,
     steps: &[OpInst],
     goal: &[Atom],
-    goal_vars: u32,
+    goal_variable_count: u32,
     rows: &[Row],
 ) -> bool
     requires problem { IsValid problem.now }
     requires steps { All (IsStepOf problem.now params) steps.now }
-    requires goal { All (IsAtomOf problem.now (params + goal_vars)) goal.now }
-    ensures { IsTrue result ↔ RowsProve (IsObjectOrParameter problem.now.objects params) problem.now params steps.now goal.now goal_vars
+    requires goal { All (IsAtomOf problem.now (params + goal_variable_count)) goal.now }
+    ensures { IsTrue result ↔ RowsProve (IsObjectOrParameter problem.now.objects params) problem.now params steps.now goal.now goal_variable_count
         (rows_of rows.now) }
 {
     let count = steps.len();
@@ -139,5 +147,11 @@ fn rows_prove(
             return false;
         }
     }
-    goal_is_proved(problem, params, goal_vars, goal, rows[count].proofs())
+    goal_is_proved(
+        problem,
+        params,
+        goal_variable_count,
+        goal,
+        rows[count].proofs(),
+    )
 }

@@ -27,8 +27,8 @@ valid =
     ((omega arith, refl), All-nothing (IsTermOf contradiction 0)) in record {
       schemas = λ k below. absurd (omega (arith, below));
       axioms =
-          two (IsAxiomOf contradiction) claim denial (record { vars = omega arith; lits = one is_of _ atom })
-          (record { vars = omega arith; lits = one is_of _ atom });
+          two (IsAxiomOf contradiction) claim denial (record { variable_count = omega arith; lits = one is_of _ atom })
+          (record { variable_count = omega arith; lits = one is_of _ atom });
       arena = record {
         each = two IsClause claim denial
             (record { size = (omega arith, omega arith); plain = one plain _ (All-nothing (IsPlainBelow 0)) })
@@ -41,7 +41,7 @@ valid =
       shapes = (omega arith, omega arith);
       weight = omega arith;
       sorts = no_object_sorts-are contradiction 0 (omega arith);
-      no_objects = λ _. (All-nothing _, two (λ (clause : Clause). clause.vars ≡ 0) claim denial refl refl);
+      no_objects = λ _. (All-nothing _, two (λ (clause : Clause). clause.variable_count ≡ 0) claim denial refl refl);
     }
 
 unmet : (state : State) → ¬ AxiomsHold contradiction state
@@ -55,8 +55,8 @@ no_run state [] steps run = unmet state run.1
 no_run state (next ∷ later) [] run = run
 no_run state (next ∷ later) (step ∷ steps) run = unmet state run.0.1
 
-carried : (facts : List Atom) (steps : List OpInst) (vars : ℕ) (goal : List Atom) → Carries contradiction facts steps vars goal
-carried facts steps vars goal = record {
+carried : (facts : List Atom) (steps : List OpInst) (variable_count : ℕ) (goal : List Atom) → Carries contradiction facts steps variable_count goal
+carried facts steps variable_count goal = record {
   meets = λ state later run _. absurd (no_run state later steps run);
   ends = λ state later run _ _. absurd (no_run state later steps run);
 }

@@ -88,8 +88,8 @@ valid =
     let variable : All (IsPlainBelow 1) (Var 0 ∷ []) = one (IsPlainBelow 1) (Var 0) (omega arith) in
     valid_with both
     (two (IsAxiomOf lamp) on_or_off on_shines
-    (record { vars = omega arith; lits = two is_of _ _ (on_parameter both) (off_parameter both) })
-    (record { vars = omega arith; lits = two is_of _ _ (on_parameter both) (shines_parameter both) }))
+    (record { variable_count = omega arith; lits = two is_of _ _ (on_parameter both) (off_parameter both) })
+    (record { variable_count = omega arith; lits = two is_of _ _ (on_parameter both) (shines_parameter both) }))
     (record {
       each = two IsClause on_or_off on_shines
           (record { size = (omega arith, omega arith); plain = two plain _ _ variable variable })
@@ -128,13 +128,13 @@ one_value (m ∷ n ∷ ns) count below = absurd (omega (arith, count))
 
 -- the axiom is true in the state
 abbrev AxiomHolds : State → Clause → Type 0
-AxiomHolds state clause = (values : List ℕ) → AreValues state clause.vars values → Any (LiteralHoldsUnder state values) clause.lits
+AxiomHolds state clause = (values : List ℕ) → AreValues state clause.variable_count values → Any (LiteralHoldsUnder state values) clause.lits
 
 -- what holds of the lamp's element holds of all values
-of_all : (state : State) (clause : Clause) → state.size ≡ 1 → clause.vars ≡ 1 → Any (LiteralHoldsUnder state (0 ∷ [])) clause.lits
-    → (values : List ℕ) → AreValues state clause.vars values → Any (LiteralHoldsUnder state values) clause.lits
-of_all state clause size vars holds values are =
-    let is = one_value values (rw vars at are.0) (subst (λ (size : ℕ). All (λ e. e < size) values) size are.1) in
+of_all : (state : State) (clause : Clause) → state.size ≡ 1 → clause.variable_count ≡ 1 → Any (LiteralHoldsUnder state (0 ∷ [])) clause.lits
+    → (values : List ℕ) → AreValues state clause.variable_count values → Any (LiteralHoldsUnder state values) clause.lits
+of_all state clause size variable_count holds values are =
+    let is = one_value values (rw variable_count at are.0) (subst (λ (size : ℕ). All (λ e. e < size) values) size are.1) in
     subst (λ (v : List ℕ). Any (LiteralHoldsUnder state v) clause.lits) (sym is) holds
 
 dark_holds : AxiomsHold lamp dark

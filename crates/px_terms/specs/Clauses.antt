@@ -7,7 +7,7 @@ use Rattle.px_terms.specs.Limits.{most_clauses, most_literals}
 
 -- the literals have no wild card, and their variables are below the limit
 abbrev pub ArePlainBelow : ℕ → List Lit → Type 0
-ArePlainBelow vars lits = All (λ lit. All (IsPlainBelow vars) lit.atom.args) lits
+ArePlainBelow variable_count lits = All (λ lit. All (IsPlainBelow variable_count) lit.atom.args) lits
 
 -- a clause has a literal, and no more than one may have
 abbrev pub HasClauseLength : List Lit → Type 0
@@ -16,7 +16,7 @@ HasClauseLength lits = (1 ≤ length lits) × (length lits ≤ most_literals)
 -- a clause has a right length, no wild card, and its own variables alone
 pub record IsClause (clause : Clause) : Type 0 where
   pub size : HasClauseLength clause.lits
-  pub plain : ArePlainBelow clause.vars clause.lits
+  pub plain : ArePlainBelow clause.variable_count clause.lits
 
 -- an arena has no more clauses than one may have
 pub record IsArena (clauses : List Clause) : Type 0 where

@@ -24,11 +24,11 @@ shines x = record { pred = 2; args = x ∷ [] }
 
 -- each thing is on or off; and what is on shines
 abbrev pub on_or_off : Clause
-on_or_off = record { vars = 1; lits = record { positive = true; atom = on (Var 0) } ∷ record { positive = true; atom = off (Var 0) } ∷ [] }
+on_or_off = record { variable_count = 1; lits = record { positive = true; atom = on (Var 0) } ∷ record { positive = true; atom = off (Var 0) } ∷ [] }
 
 abbrev pub on_shines : Clause
 on_shines = record {
-  vars = 1;
+  variable_count = 1;
   lits = record { positive = false; atom = on (Var 0) } ∷ record { positive = true; atom = shines (Var 0) } ∷
       [];
 }
@@ -83,10 +83,10 @@ pub record LampFact : Type 0 where
 
 -- P, and not P
 abbrev pub claim : Clause
-claim = record { vars = 0; lits = record { positive = true; atom = record { pred = 0; args = [] } } ∷ [] }
+claim = record { variable_count = 0; lits = record { positive = true; atom = record { pred = 0; args = [] } } ∷ [] }
 
 abbrev pub denial : Clause
-denial = record { vars = 0; lits = record { positive = false; atom = record { pred = 0; args = [] } } ∷ [] }
+denial = record { variable_count = 0; lits = record { positive = false; atom = record { pred = 0; args = [] } } ∷ [] }
 
 abbrev pub contradiction : Problem
 contradiction = problem_without_sorts 0 (0 ∷ []) (claim ∷ denial ∷ []) [] 1 1 2
@@ -95,4 +95,4 @@ contradiction = problem_without_sorts 0 (0 ∷ []) (claim ∷ denial ∷ []) [] 
 pub record ContradictionFact : Type 0 where
   pub valid : IsValid contradiction
   pub unmet : (state : State) → ¬ AxiomsHold contradiction state
-  pub carried : (facts : List Atom) (steps : List OpInst) (vars : ℕ) (goal : List Atom) → Carries contradiction facts steps vars goal
+  pub carried : (facts : List Atom) (steps : List OpInst) (variable_count : ℕ) (goal : List Atom) → Carries contradiction facts steps variable_count goal

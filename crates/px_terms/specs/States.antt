@@ -39,7 +39,7 @@ Holds state atom = HoldsUnder state [] atom
 
 -- `values` has an element of the state for each of the variables
 abbrev pub AreValues : State → ℕ → List ℕ → Type 0
-AreValues state vars values = (length values ≡ vars) × All (λ e. e < state.size) values
+AreValues state variable_count values = (length values ≡ variable_count) × All (λ e. e < state.size) values
 
 -- the literal is true where the variables have these elements: its atom is, or where it denies the atom, its atom is not
 abbrev pub LiteralHoldsUnder : State → List ℕ → Lit → Type 0
@@ -50,7 +50,7 @@ LiteralHoldsUnder state values lit = signed lit.positive where
 
 -- each axiom has a true literal, whatever elements its variables have
 abbrev pub AxiomsHold : Problem → State → Type 0
-AxiomsHold problem state = All (λ clause. (values : List ℕ) → AreValues state clause.vars values
+AxiomsHold problem state = All (λ clause. (values : List ℕ) → AreValues state clause.variable_count values
     → Any (LiteralHoldsUnder state values) clause.lits) problem.axioms
 
 -- the second state is one that the instance may leave: where the precondition holds, all adds hold afterwards,

@@ -13,29 +13,29 @@ use Rattle.px_terms.specs.Language.{IsObject, IsPlainBelow, IsVariableBelow}
 use Rattle.px_terms.specs.Limits.{most_formula_variables, most_height, most_nodes, most_parameters, most_shapes, most_weight}
 use Rattle.px_terms.specs.Operators.{no_schema, schema_of}
 
--- the term is one of the problem's objects or one of `vars` variables
+-- the term is one of the problem's objects or one of `variable_count` variables
 abbrev pub IsTermOf : Problem → ℕ → Term → Type 0
-IsTermOf problem vars (Obj n) = n < problem.objects
-IsTermOf problem vars (Var v) = v < vars
-IsTermOf problem vars Any = ⊥
+IsTermOf problem variable_count (Obj n) = n < problem.objects
+IsTermOf problem variable_count (Var v) = v < variable_count
+IsTermOf problem variable_count Any = ⊥
 
--- the term is one of the problem's objects, one of `vars` variables, or the wild card
+-- the term is one of the problem's objects, one of `variable_count` variables, or the wild card
 abbrev pub IsPatternTermOf : Problem → ℕ → Term → Type 0
-IsPatternTermOf problem vars (Obj n) = n < problem.objects
-IsPatternTermOf problem vars (Var v) = v < vars
-IsPatternTermOf problem vars Any = Unit {0}
+IsPatternTermOf problem variable_count (Obj n) = n < problem.objects
+IsPatternTermOf problem variable_count (Var v) = v < variable_count
+IsPatternTermOf problem variable_count Any = Unit {0}
 
 -- the predicate is the problem's, and has this number of arguments
 abbrev pub HasArity : Problem → Atom → Type 0
 HasArity problem atom = (atom.pred < length problem.arities) × (length atom.args ≡ slice_index problem.arities atom.pred)
 
--- the atom is one of the problem over its objects and `vars` variables
+-- the atom is one of the problem over its objects and `variable_count` variables
 abbrev pub IsAtomOf : Problem → ℕ → Atom → Type 0
-IsAtomOf problem vars atom = HasArity problem atom × All (IsTermOf problem vars) atom.args
+IsAtomOf problem variable_count atom = HasArity problem atom × All (IsTermOf problem variable_count) atom.args
 
 -- the pattern is such an atom, in which the wild card may stand, too
 abbrev pub IsPatternOf : Problem → ℕ → Atom → Type 0
-IsPatternOf problem vars atom = HasArity problem atom × All (IsPatternTermOf problem vars) atom.args
+IsPatternOf problem variable_count atom = HasArity problem atom × All (IsPatternTermOf problem variable_count) atom.args
 
 -- the schema's variables are its parameters, and `Any` stands in its delete list alone
 pub record IsSchemaWellFormed (schema : Schema) : Type 0 where
@@ -64,8 +64,8 @@ pub record IsSchemaOf (problem : Problem) (place : ℕ) (schema : Schema) : Type
 
 -- an axiom of the problem has no more variables than one may have, and its atoms are the problem's
 pub record IsAxiomOf (problem : Problem) (clause : Clause) : Type 0 where
-  pub vars : clause.vars ≤ most_formula_variables
-  pub lits : All (λ lit. IsAtomOf problem clause.vars lit.atom) clause.lits
+  pub variable_count : clause.variable_count ≤ most_formula_variables
+  pub lits : All (λ lit. IsAtomOf problem clause.variable_count lit.atom) clause.lits
 
 -- All numbers of the problem are in range, its limits too, there is a sort for each object, and there is an object where a variable or
 -- parameter is declared. Each of its lists is short; the axioms are such clauses as an arena has, and no more.
@@ -79,7 +79,7 @@ pub record IsValid (problem : Problem) : Type 0 where
   pub shapes : (2 ≤ problem.shapes) × (problem.shapes ≤ most_shapes)
   pub weight : problem.weight ≤ most_weight
   pub sorts : (length problem.object_sorts ≡ problem.objects) × AreSortsOf problem problem.object_sorts × IsShort problem.object_sorts
-  pub no_objects : problem.objects ≡ 0 → All (λ schema. schema.params ≡ 0) problem.schemas × All (λ clause. clause.vars ≡ 0) problem.axioms
+  pub no_objects : problem.objects ≡ 0 → All (λ schema. schema.params ≡ 0) problem.schemas × All (λ clause. clause.variable_count ≡ 0) problem.axioms
 
 -- a ground instance of one of the problem's operators, over any objects
 pub record IsGroundInstanceOf (problem : Problem) (inst : OpInst) : Type 0 where

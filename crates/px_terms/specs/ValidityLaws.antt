@@ -17,15 +17,15 @@ use Rattle.px_terms.specs.Operators.{IsDeleted, IsResult, precondition, adds, de
 use Rattle.px_terms.specs.Substitution.{substitute_atom}
 use Rattle.px_terms.specs.Validity.{IsTermOf, IsPatternTermOf, IsSchemaWellFormed, IsSchemaOf, IsValid, IsGroundInstanceOf, IsInstanceOf, IsAtomOf}
 
-plain_term : (problem : Problem) (vars : ℕ) (term : Term) → IsTermOf problem vars term → IsPlainBelow vars term
-plain_term problem vars (Obj n) h = tt
-plain_term problem vars (Var v) h = h
-plain_term problem vars WildCard h = h
+plain_term : (problem : Problem) (variable_count : ℕ) (term : Term) → IsTermOf problem variable_count term → IsPlainBelow variable_count term
+plain_term problem variable_count (Obj n) h = tt
+plain_term problem variable_count (Var v) h = h
+plain_term problem variable_count WildCard h = h
 
-pattern_term : (problem : Problem) (vars : ℕ) (term : Term) → IsPatternTermOf problem vars term → IsVariableBelow vars term
-pattern_term problem vars (Obj n) h = tt
-pattern_term problem vars (Var v) h = h
-pattern_term problem vars WildCard h = tt
+pattern_term : (problem : Problem) (variable_count : ℕ) (term : Term) → IsPatternTermOf problem variable_count term → IsVariableBelow variable_count term
+pattern_term problem variable_count (Obj n) h = tt
+pattern_term problem variable_count (Var v) h = h
+pattern_term problem variable_count WildCard h = tt
 
 object_term : (problem : Problem) (term : Term) → IsTermOf problem 0 term → IsObject term
 object_term problem (Obj n) h = tt

@@ -33,11 +33,11 @@ pub enum ArenaErr {
     NoMemory,
 }
 
-/// An axiom: one of its literals is true in every state, whatever its variables, `vars` in number, stand for.
+/// An axiom: one of its literals is true in every state, whatever its variables, `variable_count` in number, stand for.
 #[derive(Drop)]
 pub struct Clause {
     /// How many variables it has, numbered from 0.
-    pub vars: u32,
+    pub variable_count: u32,
     /// Its literals, from one to six in an arena.
     pub lits: Sequence<Lit>,
 }
@@ -76,10 +76,10 @@ impl ClauseArena {
     /// # Errors
     /// `BadLength` exactly where there is no literal or more than six; else `Full` exactly where 64 clauses are there;
     /// else `NoMemory`, where there is no memory. A refused clause leaves the arena as it was.
-    pub fn push(&mut self, vars: u32, lits: &[Lit]) -> Result<u32, ArenaErr>
-        requires { ArePlainBelow vars lits.now }
+    pub fn push(&mut self, variable_count: u32, lits: &[Lit]) -> Result<u32, ArenaErr>
+        requires { ArePlainBelow variable_count lits.now }
         ensures number { IfOk result (λ number. number ≡ length self.old) }
-        ensures added { IfOk result (λ _. self.new ≡ self.old ++ record { vars = vars; lits = lits.now } ∷ []) }
+        ensures added { IfOk result (λ _. self.new ≡ self.old ++ record { variable_count = variable_count; lits = lits.now } ∷ []) }
         ensures length { (result ≡ Err ArenaErr.BadLength) ↔ (¬ HasClauseLength lits.now) }
         ensures full { (result ≡ Err ArenaErr.Full) ↔ (HasClauseLength lits.now × (length self.old ≡ most_clauses)) }
         ensures err { OnErr result (self.new ≡ self.old) }
@@ -95,7 +95,10 @@ impl ClauseArena {
             Ok(lits) => lits,
             Err(NoMemory) => return Err(ArenaErr::NoMemory),
         };
-        match self.clauses.push(Clause { vars, lits }) {
+        match self.clauses.push(Clause {
+            variable_count,
+            lits,
+        }) {
             Ok(()) => Ok(number),
             Err(_) => Err(ArenaErr::NoMemory),
         }
@@ -118,12 +121,12 @@ impl ClauseArena {
     }
 
     /// Returns the number of the clause's variables.
-    pub fn vars(&self, clause: u32) -> u32
+    pub fn variable_count(&self, clause: u32) -> u32
         requires { clause < length self.now }
-        ensures value { (d : Clause) → result ≡ (slice_index_or self.now clause d).vars }
+        ensures value { (d : Clause) → result ≡ (slice_index_or self.now clause d).variable_count }
         ensures arena { IsArena self.now }
     {
-        self.clauses[clause as usize].vars
+        self.clauses[clause as usize].variable_count
     }
 
     /// Returns the literals of the clause.

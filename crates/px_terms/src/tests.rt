@@ -69,7 +69,7 @@ fn a_clause_is_kept_as_it_was_pushed(rt: HostRuntime) -> Result<(), ArenaErr> {
     let mut arena = ClauseArena::new(rt.alloc());
     assert!(&rt; arena.push(2, &[first, second])? == 0);
     assert!(&rt; arena.push(2, &[second])? == 1);
-    assert!(&rt; arena.vars(0) == 2);
+    assert!(&rt; arena.variable_count(0) == 2);
     assert!(&rt; arena.lits(0) == [first, second].as_slice());
     assert!(&rt; arena.lits(1) == [second].as_slice());
     Ok(())

@@ -95,24 +95,24 @@ pub fn are_plain_below(count: u32, lits: &[Lit]) -> bool
     lits.iter().all(|lit| is_plain_literal(count, lit))
 }
 
-/// Returns whether the term is an object of the problem or one of the first `vars` variables.
-pub fn is_term_of(problem: &Problem, vars: u64, term: &Term) -> bool
-    ensures { IsTrue result ↔ IsTermOf problem.now vars term.now }
+/// Returns whether the term is an object of the problem or one of the first `variable_count` variables.
+pub fn is_term_of(problem: &Problem, variable_count: u64, term: &Term) -> bool
+    ensures { IsTrue result ↔ IsTermOf problem.now variable_count term.now }
 {
     match *term {
         Term::Obj(number) => number < problem.objects,
-        Term::Var(number) => u64::from(number) < vars,
+        Term::Var(number) => u64::from(number) < variable_count,
         Term::Any => false,
     }
 }
 
-/// Returns whether the term is an object of the problem, one of the first `vars` variables, or the wild card.
-fn is_pattern_term_of(problem: &Problem, vars: u64, term: &Term) -> bool
-    ensures { IsTrue result ↔ IsPatternTermOf problem.now vars term.now }
+/// Returns whether the term is an object of the problem, one of the first `variable_count` variables, or the wild card.
+fn is_pattern_term_of(problem: &Problem, variable_count: u64, term: &Term) -> bool
+    ensures { IsTrue result ↔ IsPatternTermOf problem.now variable_count term.now }
 {
     match *term {
         Term::Any => true,
-        Term::Obj(_) | Term::Var(_) => is_term_of(problem, vars, term),
+        Term::Obj(_) | Term::Var(_) => is_term_of(problem, variable_count, term),
     }
 }
 
@@ -125,42 +125,46 @@ fn has_arity(problem: &Problem, atom: &Atom) -> bool
     pred < arities.len() && atom.args().len() == arities[pred] as usize
 }
 
-/// Returns whether the atom is one of the problem over its objects and the first `vars` variables: it has a predicate of the
+/// Returns whether the atom is one of the problem over its objects and the first `variable_count` variables: it has a predicate of the
 /// problem, that predicate's number of arguments, and no wild card.
-pub fn is_atom_of(problem: &Problem, vars: u64, atom: &Atom) -> bool
-    ensures { IsTrue result ↔ IsAtomOf problem.now vars atom.now }
+pub fn is_atom_of(problem: &Problem, variable_count: u64, atom: &Atom) -> bool
+    ensures { IsTrue result ↔ IsAtomOf problem.now variable_count atom.now }
 {
     has_arity(problem, atom)
         && atom
             .args()
             .iter()
-            .all(|term| is_term_of(problem, vars, term))
+            .all(|term| is_term_of(problem, variable_count, term))
 }
 
-/// Returns whether each of the atoms is one of the problem over its objects and the first `vars` variables.
-pub fn are_atoms_of(problem: &Problem, vars: u64, atoms: &[Atom]) -> bool
-    ensures { IsTrue result ↔ All (IsAtomOf problem.now vars) atoms.now }
+/// Returns whether each of the atoms is one of the problem over its objects and the first `variable_count` variables.
+pub fn are_atoms_of(problem: &Problem, variable_count: u64, atoms: &[Atom]) -> bool
+    ensures { IsTrue result ↔ All (IsAtomOf problem.now variable_count) atoms.now }
 {
-    atoms.iter().all(|atom| is_atom_of(problem, vars, atom))
+    atoms
+        .iter()
+        .all(|atom| is_atom_of(problem, variable_count, atom))
 }
 
 // Alike: `is_atom_of`. One function with a test of terms as a parameter would hide what each asks for.
-/// Returns whether the atom is one of the problem over its objects, the first `vars` variables and the wild card.
-fn is_pattern_of(problem: &Problem, vars: u64, atom: &Atom) -> bool
-    ensures { IsTrue result ↔ IsPatternOf problem.now vars atom.now }
+/// Returns whether the atom is one of the problem over its objects, the first `variable_count` variables and the wild card.
+fn is_pattern_of(problem: &Problem, variable_count: u64, atom: &Atom) -> bool
+    ensures { IsTrue result ↔ IsPatternOf problem.now variable_count atom.now }
 {
     has_arity(problem, atom)
         && atom
             .args()
             .iter()
-            .all(|term| is_pattern_term_of(problem, vars, term))
+            .all(|term| is_pattern_term_of(problem, variable_count, term))
 }
 
 /// Returns whether all atoms are patterns of the problem: atoms in which the wild card may stand, too.
-fn are_patterns_of(problem: &Problem, vars: u64, atoms: &[Atom]) -> bool
-    ensures { IsTrue result ↔ All (IsPatternOf problem.now vars) atoms.now }
+fn are_patterns_of(problem: &Problem, variable_count: u64, atoms: &[Atom]) -> bool
+    ensures { IsTrue result ↔ All (IsPatternOf problem.now variable_count) atoms.now }
 {
-    atoms.iter().all(|atom| is_pattern_of(problem, vars, atom))
+    atoms
+        .iter()
+        .all(|atom| is_pattern_of(problem, variable_count, atom))
 }
 
 /// Returns whether the instance is of an operator of the problem, with an object of the problem for each parameter.
@@ -178,13 +182,13 @@ pub fn is_instance_of(problem: &Problem, inst: &OpInst) -> bool
 fn is_axiom_of(problem: &Problem, clause: &Clause) -> bool
     ensures { IsTrue result ↔ IsAxiomOf problem.now clause.now }
 {
-    let vars = clause.vars;
-    vars as usize <= MOST_FORMULA_VARIABLES
-        && clause
-            .lits
-            .as_slice()
-            .iter()
-            .all(|lit| is_atom_of(problem, u64::from(vars), &lit.atom))
+    let variable_count = clause.variable_count;
+    variable_count as usize <= MOST_FORMULA_VARIABLES
+        && clause.lits.as_slice().iter().all(|lit| is_atom_of(
+            problem,
+            u64::from(variable_count),
+            &lit.atom,
+        ))
 }
 
 /// A length that no list of a problem reaches.
@@ -203,10 +207,10 @@ fn has_atoms_of(problem: &Problem, schema: &Schema) -> bool
         × All (IsPatternOf problem.now schema.now.params) schema.now.del
         × All (IsAtomOf problem.now schema.now.params) schema.now.add) }
 {
-    let vars = u64::from(schema.params);
-    are_atoms_of(problem, vars, schema.pre.as_slice())
-        && are_patterns_of(problem, vars, schema.del.as_slice())
-        && are_atoms_of(problem, vars, schema.add.as_slice())
+    let variable_count = u64::from(schema.params);
+    are_atoms_of(problem, variable_count, schema.pre.as_slice())
+        && are_patterns_of(problem, variable_count, schema.del.as_slice())
+        && are_atoms_of(problem, variable_count, schema.add.as_slice())
 }
 
 /// Returns whether the schema has the number of the place, and at most [`MOST_PARAMETERS`] parameters.
@@ -288,7 +292,7 @@ fn are_axioms_of(problem: &Problem) -> bool
 /// Returns whether there is an object, or nothing that one could be put for.
 fn has_objects(problem: &Problem) -> bool
     ensures { IsTrue result ↔ (problem.now.objects ≡ 0 → All (λ schema. schema.params ≡ 0) problem.now.schemas
-        × All (λ clause. clause.vars ≡ 0) problem.now.axioms) }
+        × All (λ clause. clause.variable_count ≡ 0) problem.now.axioms) }
 {
     problem.objects > 0
         || (problem
@@ -300,7 +304,7 @@ fn has_objects(problem: &Problem) -> bool
                 .axioms
                 .clauses()
                 .iter()
-                .all(|clause| clause.vars == 0))
+                .all(|clause| clause.variable_count == 0))
 }
 
 /// Returns whether the problem has one of its sorts for each object, and an object where it needs one.
@@ -308,7 +312,7 @@ fn are_objects_sorted(problem: &Problem) -> bool
     ensures { IsTrue result ↔ (((length problem.now.object_sorts ≡ problem.now.objects)
         × AreSortsOf problem.now problem.now.object_sorts × IsShort problem.now.object_sorts)
         × (problem.now.objects ≡ 0 → All (λ schema. schema.params ≡ 0) problem.now.schemas
-        × All (λ clause. clause.vars ≡ 0) problem.now.axioms)) }
+        × All (λ clause. clause.variable_count ≡ 0) problem.now.axioms)) }
 {
     has_sorts(problem) && has_objects(problem)
 }

@@ -6,7 +6,7 @@ use Rattle.std.proofs.lemmas.List.Elements.{Contains-push_cases}
 use Rattle.px_base.specs.ListLaws.{Contains-cases, Contains-first, Contains-later, Contains-none}
 use Rattle.px_order.proofs.LawProofs.{blind_is_breadth, blind_needs_no_agenda}
 use Rattle.px_order.specs.AtZero.{no_end, push-parts}
-use Rattle.px_order.specs.Beginnings.{can-front, front-least, one_place, places_ascend}
+use Rattle.px_order.specs.Beginnings.{can-prefix, prefix-least, one_place, places_ascend}
 use Rattle.px_order.specs.Breadth.{down_from, down_from-below, down_from-has}
 use Rattle.px_order.specs.Frontier.{IsMoveOrder}
 use Rattle.px_order.specs.Places.{at_end, at_index, contains_place, joined, length-end, none-behind, order_of, place-within-list, place_of, some-one, still_there}
@@ -19,12 +19,12 @@ use Rattle.px_order.specs.Spaces.{CanMake, IsBefore, IsBeginning, IsLeast, IsLin
 -- ---- lists
 
 -- lists that are the same and begin with as many items begin alike
-pub same-front : {A : Type 0} (ks ls ms ns : List A) → length ks ≡ length ms → ks ++ ls ≡ ms ++ ns → ks ≡ ms
-same-front [] ls [] ns long e = refl
-same-front [] ls (m ∷ ms) ns long e = absurd (omega (arith, long))
-same-front (k ∷ ks) ls [] ns long e = absurd (omega (arith, long))
-same-front (k ∷ ks) ls (m ∷ ms) ns long e =
-    let h : (k ≡ m) × (ks ++ ls ≡ ms ++ ns) = (cc, cc) in cc (h.0, same-front ks ls ms ns (omega (arith, long)) h.1)
+pub same-prefix : {A : Type 0} (ks ls ms ns : List A) → length ks ≡ length ms → ks ++ ls ≡ ms ++ ns → ks ≡ ms
+same-prefix [] ls [] ns long e = refl
+same-prefix [] ls (m ∷ ms) ns long e = absurd (omega (arith, long))
+same-prefix (k ∷ ks) ls [] ns long e = absurd (omega (arith, long))
+same-prefix (k ∷ ks) ls (m ∷ ms) ns long e =
+    let h : (k ≡ m) × (ks ++ ls ≡ ms ++ ns) = (cc, cc) in cc (h.0, same-prefix ks ls ms ns (omega (arith, long)) h.1)
 
 last-same : {A : Type 0} (p q : List A) (m n : A) → p ++ m ∷ [] ≡ q ++ n ∷ [] → m ≡ n
 last-same {A} p q m n e =
@@ -77,9 +77,9 @@ module _ {N M : Type 0} (space : Space N M) (order : Order N M) (linear : IsLine
   new-step n xs f x picked q p m is run again (inl s) =
       again (subst (λ (l : List (List M)). RunsFor space (blind order) n l q) (sym s.found_is) run)
   new-step n xs f x picked q p m is run again (inr s) =
-      let front : xs ≡ f = push-parts xs f x (s.moves ++ s.m ∷ []) s.found_is in
+      let prefix : xs ≡ f = push-parts xs f x (s.moves ++ s.m ∷ []) s.found_is in
       let whole : p ++ m ∷ [] ≡ s.moves ++ s.m ∷ [] = sym is ∙ last-same xs f x (s.moves ++ s.m ∷ []) s.found_is in
-      subst (λ (l : List (List M)). IsNew space (blind order) l p m) (sym front)
+      subst (λ (l : List (List M)). IsNew space (blind order) l p m) (sym prefix)
       (subst (λ (k : M). IsNew space (blind order) f p k) (sym (last-same p s.moves m s.m whole))
       (subst (λ (l : List M). IsNew space (blind order) f l s.m) (sym (push-parts p s.moves m s.m whole)) s.is_new))
 
@@ -119,7 +119,7 @@ module _ {N M : Type 0} (space : Space N M) (order : Order N M) (linear : IsLine
     -- where the list stands from which it goes on
     parent-at : (j : ℕ) × (slice_get xs j ≡ Some p)
     parent-at =
-        let has = beginning.closed p x (contains_place all (length xs) x x-at) (front-least space before sound p m least-whole)
+        let has = beginning.closed p x (contains_place all (length xs) x x-at) (prefix-least space before sound p m least-whole)
         parent-before in
         let place = place_of all p has in
         elim (order_of place.0 (length xs)) [
@@ -144,7 +144,7 @@ module _ {N M : Type 0} (space : Space N M) (order : Order N M) (linear : IsLine
     j = parent-at.0
 
     can-parent : CanMake space space.start p × space.allows (node_of p) m
-    can-parent = can-front space before sound space.start p m least-whole.made
+    can-parent = can-prefix space before sound space.start p m least-whole.made
 
     made-at : (k : ℕ) (q : List M) → slice_get xs k ≡ Some q → CanMake space space.start q
     made-at k q at_k = (beginning.least q (contains_place all k q (in-front k q at_k))).made
@@ -274,14 +274,14 @@ module _ {N M : Type 0} (space : Space N M) (order : Order N M) (linear : IsLine
 
   module _ (all : List (List M)) (beginning : IsBeginning space before space.start all) (possible : ¬ ¬ Begins space (blind order) all)
     where
-      possible-front : (xs : List (List M)) (x : List M) (rest : List (List M)) → all ≡ (xs ++ x ∷ []) ++ rest
+      possible-prefix : (xs : List (List M)) (x : List M) (rest : List (List M)) → all ≡ (xs ++ x ∷ []) ++ rest
           → ¬ ¬ Begins space (blind order) (xs ++ x ∷ [])
-      possible-front xs x rest is never = possible (λ b.
+      possible-prefix xs x rest is never = possible (λ b.
           let within : length xs < length all = place-within-list all (length xs) x
           (ap (λ (l : List (List M)). slice_get l (length xs)) is ∙ still_there (xs ++ x ∷ []) rest (length xs) x (at_end xs x)) in
           let f = found-at space (blind order) b.1.0 all b.0 b.1.1 (length xs) within in
           never (subst (λ (l : List (List M)). Begins space (blind order) l)
-          (same-front (f.earlier ++ f.moves ∷ []) f.rest (xs ++ x ∷ []) rest
+          (same-prefix (f.earlier ++ f.moves ∷ []) f.rest (xs ++ x ∷ []) rest
           (length-end f.earlier f.moves ∙ ap suc f.number ∙ sym (length-end xs x)) (sym f.found_is ∙ is)) f.begins))
 
       -- a list is empty, or has a last item
@@ -303,7 +303,7 @@ module _ {N M : Type 0} (space : Space N M) (order : Order N M) (linear : IsLine
             (place-within-list xs 0 [] (root space (blind order) c.1.0 xs (down_from c.0) c.1.1))
             (ap (λ (l : List (List M)). slice_get l 0) is ∙ first)
             (ap (λ (l : List (List M)). slice_get l (length xs)) whole ∙ here))))
-        | inr parts ↦ goes-on (xs ++ x ∷ []) ys whole (one-more all beginning xs x ys whole (possible-front xs x ys whole) parts.0 parts.1
+        | inr parts ↦ goes-on (xs ++ x ∷ []) ys whole (one-more all beginning xs x ys whole (possible-prefix xs x ys whole) parts.0 parts.1
             parts.2 c.0 c.1)
       ]
         where

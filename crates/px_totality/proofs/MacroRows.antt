@@ -44,10 +44,10 @@ proof-of s (first ∷ atoms) (also d ds) are atom has = elim (Contains-cases fir
 
 -- where atoms without variables were found, each has a first proof
 pub each-proof : (problem : Problem) (facts formula : List Atom)
-    → IsFindable problem (record { formula = formula; vars = 0; facts = facts }) → (atom : Atom) → Contains formula atom
+    → IsFindable problem (record { formula = formula; variable_count = 0; facts = facts }) → (atom : Atom) → Contains formula atom
     → (d : Derivation) × IsFirstProof (setting_of problem facts) atom d
 each-proof problem facts formula is atom has =
-    let first = first-there problem (record { formula = formula; vars = 0; facts = facts }) is in
+    let first = first-there problem (record { formula = formula; variable_count = 0; facts = facts }) is in
     let empty : first.0 ≡ [] = nil_from_length first.0 first.2.finished.count in
     let whole = subst (λ (objects : List ℕ). IsFirst (setting_of problem facts) formula 0 objects first.1) empty first.2 in
     proof-of (setting_of problem facts) formula first.1 ((first-is_of_each (setting_of problem facts) formula first.1).0 whole) atom has
@@ -104,7 +104,7 @@ module _ (problem : Problem) (table : Table) (is : IsTable problem table) (prefi
 
   firsts-at : (place : ℕ) → place < prefix → (row : List Derivation) → slice_get (rows_of table.proofs) place ≡ Some row
       → (facts : List Atom)
-      → IsFindable problem (record { formula = initial_atoms table sigma (suc place); vars = 0; facts = facts }) → HasFirsts problem sigma facts row
+      → IsFindable problem (record { formula = initial_atoms table sigma (suc place); variable_count = 0; facts = facts }) → HasFirsts problem sigma facts row
   firsts-at place early row at facts findable d has leaf inside =
       let graftable = row-graftable problem table is prefix sigma m 0 room place early row at d has in
       each-proof problem facts (initial_atoms table sigma (suc place)) findable leaf.atom
@@ -124,7 +124,7 @@ module _ (problem : Problem) (table : Table) (is : IsTable problem table) (prefi
       ap (slice_get (rows_of table.proofs)) same ∙ sym (at 0) in
       let left = filter (λ atom. not (deletes problem step atom)) facts in
       let later = row_obligations problem table sigma left (suc (suc place)) steps in
-      let head : Obligation = record { formula = initial_atoms table sigma (suc place); vars = 0; facts = facts } in (
+      let head : Obligation = record { formula = initial_atoms table sigma (suc place); variable_count = 0; facts = facts } in (
         firsts-at place (omega (arith, within)) row here facts (All-head (IsFindable problem) head later findable),
         ready-from (suc place) rows steps left
             (λ k.

@@ -49,7 +49,7 @@ module _ (problem : Problem) (tables : List Table) (learned : AreLearned problem
       → All (IsFindable problem) (obligations_of problem tables model entry)
       → (rows : List (List Derivation)) × EntryRows problem tables model made entry rows
   entry-rows model made (Op inst) is findable =
-      let needed : Obligation = record { formula = precondition problem inst; vars = 0; facts = model } in
+      let needed : Obligation = record { formula = precondition problem inst; variable_count = 0; facts = model } in
       let row = first-row problem made model (precondition problem inst) 0 (All-head (IsFindable problem) needed [] findable) in
       (row.0 ∷ [], (row.0, row.1, refl))
   entry-rows model made (Macro number prefix sigma) is findable =
@@ -57,7 +57,7 @@ module _ (problem : Problem) (tables : List Table) (learned : AreLearned problem
       let steps = effect_of tables (Macro number prefix sigma) in
       let m = macro-table problem tables learned number prefix sigma is in
       let count : length steps ≡ prefix = steps-count table sigma prefix m.1.within in
-      let long = rows-count (IsObjectOrParameter problem.objects table.params) problem table.params table.goal_vars table.goal table.steps
+      let long = rows-count (IsObjectOrParameter problem.objects table.params) problem table.params table.goal_variable_count table.goal table.steps
       (rows_of table.proofs) m.0.prove in
       let each = subst (All (IsFindable problem)) (in_turn problem table sigma model steps) findable in
       let ready = ready-from problem table m.0 prefix sigma m.1 0 (rows_of table.proofs) steps model
@@ -72,7 +72,7 @@ module _ (task : Task) (learned : AreLearned task.problem task.tables) where
       → All (IsEntry task.problem task.tables) stack → AreTakeable task (record { model = model; stack = stack }) moves
       → (rows : List (List Derivation)) × MovesRows task (record { model = model; stack = stack }) made moves rows
   moves-rows model stack made [] entries takeable =
-      let row = first-row task.problem made model task.goal task.vars takeable in
+      let row = first-row task.problem made model task.goal task.variable_count takeable in
       (row.0 ∷ [], (row.0, row.1, refl))
   moves-rows model stack made (Push entry ∷ moves) entries takeable =
       moves-rows model (entry ∷ stack) made moves (All-cons (IsEntry task.problem task.tables) entry stack takeable.0 entries) takeable.1
@@ -115,21 +115,21 @@ row-back axioms (atom ∷ atoms) (d ∷ row) proves =
     let rest = row-back axioms atoms row proves.1 in
     λ i. here i ∷ rest i
 
-rows-back : (problem : Problem) (goal : List Atom) (vars : ℕ) (steps : List OpInst) (rows : List (List Derivation))
-    → RowsProve IsObject problem 0 steps goal vars rows → rows_of (map (map proof_of) rows) ≡ rows
-rows-back problem goal vars [] [] proves = absurd proves
-rows-back problem goal vars [] (row ∷ []) proves =
+rows-back : (problem : Problem) (goal : List Atom) (variable_count : ℕ) (steps : List OpInst) (rows : List (List Derivation))
+    → RowsProve IsObject problem 0 steps goal variable_count rows → rows_of (map (map proof_of) rows) ≡ rows
+rows-back problem goal variable_count [] [] proves = absurd proves
+rows-back problem goal variable_count [] (row ∷ []) proves =
     ap (λ (r : List Derivation). r ∷ []) (row-back problem.axioms _ row proves.2)
-rows-back problem goal vars [] (row ∷ second ∷ rows) proves = absurd proves
-rows-back problem goal vars (inst ∷ steps) [] proves = absurd proves
-rows-back problem goal vars (inst ∷ steps) (row ∷ rows) proves =
+rows-back problem goal variable_count [] (row ∷ second ∷ rows) proves = absurd proves
+rows-back problem goal variable_count (inst ∷ steps) [] proves = absurd proves
+rows-back problem goal variable_count (inst ∷ steps) (row ∷ rows) proves =
     let here = row-back problem.axioms (precondition problem inst) row proves.0 in
-    let rest = rows-back problem goal vars steps rows proves.1 in
+    let rest = rows-back problem goal variable_count steps rows proves.1 in
     λ i. here i ∷ rest i
 
 -- ---- the table
 
-module _ (task : Task) (moves : List Move) (valid : IsValid task.problem) (goal_of : All (IsAtomOf task.problem task.vars) task.goal)
+module _ (task : Task) (moves : List Move) (valid : IsValid task.problem) (goal_of : All (IsAtomOf task.problem task.variable_count) task.goal)
     (learned : AreLearned task.problem task.tables) (found : AreFoundMoves task moves) where
   rows-there : (rows : List (List Derivation)) × MovesRows task (initial_node task) [] moves rows
   rows-there =
@@ -143,16 +143,16 @@ module _ (task : Task) (moves : List Move) (valid : IsValid task.problem) (goal_
   proofs = map (map proof_of) rows-there.0
 
   back : rows_of proofs ≡ rows-there.0
-  back = rows-back task.problem task.goal task.vars (steps_of task.tables [] moves) rows-there.0 support.supports.prove
+  back = rows-back task.problem task.goal task.variable_count (steps_of task.tables [] moves) rows-there.0 support.supports.prove
 
   pub table-there : (table : Table) × IsTableOfMoves task moves table
   table-there = (
-    table_of_rows 0 [] (steps_of task.tables [] moves) task.goal task.vars proofs,
+    table_of_rows 0 [] (steps_of task.tables [] moves) task.goal task.variable_count proofs,
     record {
       params = refl;
       steps = refl;
       goal = refl;
-      goal_vars = refl;
+      goal_variable_count = refl;
       rows = subst (MovesRows task (initial_node task) [] moves) (sym back) rows-there.1;
       marks = refl;
       param_sorts = refl;

@@ -141,25 +141,25 @@ items-are (also d ds) = ap (λ (x : Derivations). also d x) (items-are ds)
 
 -- what is found has a first answer
 pub first-there : (problem : Problem) (needed : Obligation) → IsFindable problem needed
-    → (objects : List ℕ) × (ds : Derivations) × IsFirst (setting_of problem needed.facts) needed.formula needed.vars objects ds
+    → (objects : List ℕ) × (ds : Derivations) × IsFirst (setting_of problem needed.facts) needed.formula needed.variable_count objects ds
 first-there problem needed is =
-    elim (questions-are_decided.proofs (setting_of problem needed.facts) needed.formula needed.vars) [
+    elim (questions-are_decided.proofs (setting_of problem needed.facts) needed.formula needed.variable_count) [
       | inl limited ↦ absurd (is.below limited.0 limited.1)
       | inr (inl first) ↦ (first.0, first.1, first.2)
       | inr (inr nothing) ↦ absurd (nothing.0 is.answer)
     ]
 
-pub first-row : (problem : Problem) (made : List OpInst) (facts formula : List Atom) (vars : ℕ)
-    → IsFindable problem (record { formula = formula; vars = vars; facts = facts })
-    → (row : List Derivation) × IsFirstRow problem made facts formula vars row
-first-row problem made facts formula vars is =
-    let first = first-there problem (record { formula = formula; vars = vars; facts = facts }) is in
+pub first-row : (problem : Problem) (made : List OpInst) (facts formula : List Atom) (variable_count : ℕ)
+    → IsFindable problem (record { formula = formula; variable_count = variable_count; facts = facts })
+    → (row : List Derivation) × IsFirstRow problem made facts formula variable_count row
+first-row problem made facts formula variable_count is =
+    let first = first-there problem (record { formula = formula; variable_count = variable_count; facts = facts }) is in
     let row = row-sourced problem made (items first.1) in (
       row.0,
       (
         first.0,
         items first.1,
-        subst (IsFirst (setting_of problem facts) formula vars first.0) (sym (items-are first.1)) first.2,
+        subst (IsFirst (setting_of problem facts) formula variable_count first.0) (sym (items-are first.1)) first.2,
         row.1,
       ),
     )

@@ -10,8 +10,8 @@ use Rattle.px_table.specs.declared.node.Node.{Node}
 use Rattle.px_gaps.specs.Questions.{MeetsLimit}
 use Rattle.px_gaps.specs.declared.question.MetLimit.{MetLimit}
 use Rattle.px_gaps.specs.declared.question.Question.{Question}
-use Rattle.px_order.specs.Beginnings.{can-front}
-use Rattle.px_order.specs.Places.{contains_place, get-front, none-behind, place-within-list, some-one, still_there}
+use Rattle.px_order.specs.Beginnings.{can-prefix}
+use Rattle.px_order.specs.Places.{contains_place, get-prefix, none-behind, place-within-list, some-one, still_there}
 use Rattle.px_order.specs.RunLaws.{made}
 use Rattle.px_order.specs.RunOrigins.{From, origins}
 use Rattle.px_order.specs.Runs.{Begins}
@@ -88,11 +88,11 @@ module _ (task : Task) (weight : ℕ) where
     from-origin k moves at (inr h) =
         let can = subst (λ (l : List Move). CanMake (space_of task) (initial_node task) l) h.moves_are
         (made (space_of task) (order_by task weight) b.1.0 all b.0 b.1.1 moves (contains_place all k moves (in-all k moves at))) in
-        let may = (can-front (space_of task) (IsBefore (order_by task weight)) (breadth_order (order_by task weight) linear)
+        let may = (can-prefix (space_of task) (IsBefore (order_by task weight)) (breadth_order (order_by task weight) linear)
         (initial_node task) h.parent h.m can).1 in
         let told = told-move (node_of task h.parent) h.m may in
         let stands : slice_get found h.place ≡ Some h.parent =
-        get-front found rest h.place h.parent (omega (arith, h.earlier, place-within-list found k moves at))
+        get-prefix found rest h.place h.parent (omega (arith, h.earlier, place-within-list found k moves at))
         (ap (λ (l : List (List Move)). slice_get l h.place) (sym all_are) ∙ h.stands) in (
           record { origin = Some (record { parent = h.place; last = told.0 }); needs = needs task (node_of task moves) },
           record {

@@ -103,9 +103,9 @@ module _ (task : Task) where
   possible : (earlier : List (List Move)) (last : List Move) → breadth.IsStop task earlier last → ¬ ¬ Begun (earlier ++ last ∷ [])
   possible earlier last stop never = some-run (λ r. elim r [
     | inl s ↦
-        let front : s.earlier ≡ earlier = same_earlier task s.earlier earlier s.last last (stop-of s) stop in
+        let prefix : s.earlier ≡ earlier = same_earlier task s.earlier earlier s.last last (stop-of s) stop in
         let end : s.last ≡ last = same_stop task s.earlier earlier s.last last (stop-of s) stop in
-        never (subst (λ (l : List (List Move)). Begun (l ++ last ∷ [])) front
+        never (subst (λ (l : List (List Move)). Begun (l ++ last ∷ [])) prefix
         (subst (λ (l : List Move). Begun (s.earlier ++ l ∷ [])) end s.stop.begins))
     | inr f ↦ elim stop.stops [
       | inl solved ↦ f.unsolved last

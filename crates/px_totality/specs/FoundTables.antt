@@ -11,5 +11,5 @@ use Rattle.px_ends.specs.Tasks.{Task}
 -- where the goal is one of a valid problem, and the tables are like learned ones
 abbrev pub FoundHaveTables : Type 0
 FoundHaveTables = (task : Task) (weight : ℕ) (moves : List Move) → IsValid task.problem
-    → All (IsAtomOf task.problem task.vars) task.goal → AreLearned task.problem task.tables → IsFound task weight moves
+    → All (IsAtomOf task.problem task.variable_count) task.goal → AreLearned task.problem task.tables → IsFound task weight moves
     → (table : Table) × IsTableOfMoves task moves table

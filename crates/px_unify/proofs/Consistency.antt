@@ -13,19 +13,19 @@ use Rattle.px_unify.specs.Changes.{slots_after, slots_of, IsUnbound, WellBound, 
 use Rattle.px_unify.specs.ChangeLaws.{slots_after-append, slots-fresh}
 use Rattle.px_unify.proofs.Slots.{Slots}
 
-WellBound-push : (front rest : List Change) (slots : Slots) → WellBound slots front → WellBound (slots_after slots front) rest
-    → WellBound slots (front ++ rest)
+WellBound-push : (prefix rest : List Change) (slots : Slots) → WellBound slots prefix → WellBound (slots_after slots prefix) rest
+    → WellBound slots (prefix ++ rest)
 WellBound-push [] rest slots well more = more
-WellBound-push (Fresh ∷ front) rest slots well more = WellBound-push front rest (slots ++ None ∷ []) well more
-WellBound-push (Bound v term ∷ front) rest slots well more =
-    (well.0, well.1, WellBound-push front rest (set slots v (Some term)) well.2 more)
+WellBound-push (Fresh ∷ prefix) rest slots well more = WellBound-push prefix rest (slots ++ None ∷ []) well more
+WellBound-push (Bound v term ∷ prefix) rest slots well more =
+    (well.0, well.1, WellBound-push prefix rest (set slots v (Some term)) well.2 more)
 
-WellBound-front : (front rest : List Change) (slots : Slots) → WellBound slots (front ++ rest)
-    → WellBound slots front × WellBound (slots_after slots front) rest
-WellBound-front [] rest slots well = (tt, well)
-WellBound-front (Fresh ∷ front) rest slots well = WellBound-front front rest (slots ++ None ∷ []) well
-WellBound-front (Bound v term ∷ front) rest slots well =
-    let later = WellBound-front front rest (set slots v (Some term)) well.2 in
+WellBound-prefix : (prefix rest : List Change) (slots : Slots) → WellBound slots (prefix ++ rest)
+    → WellBound slots prefix × WellBound (slots_after slots prefix) rest
+WellBound-prefix [] rest slots well = (tt, well)
+WellBound-prefix (Fresh ∷ prefix) rest slots well = WellBound-prefix prefix rest (slots ++ None ∷ []) well
+WellBound-prefix (Bound v term ∷ prefix) rest slots well =
+    let later = WellBound-prefix prefix rest (set slots v (Some term)) well.2 in
     ((well.0, well.1, later.0), later.1)
 
 WellBound-fresh : (n : ℕ) (slots : Slots) → WellBound slots (replicate n Fresh)
@@ -102,25 +102,25 @@ consistent-bind changes slots capacity larger v term is grown unbound earlier = 
   few = omega (arith, is.few, length-set slots v (Some term));
 }
 
-consistent-undo_bind : (front : List Change) (slots : Slots) (capacity v : ℕ) (term : Term)
-    → IsConsistent (front ++ Bound v term ∷ []) slots capacity → IsConsistent front (set slots v None) capacity
-consistent-undo_bind front slots capacity v term is =
-    let well = WellBound-front front (Bound v term ∷ []) [] is.bound in
+consistent-undo_bind : (prefix : List Change) (slots : Slots) (capacity v : ℕ) (term : Term)
+    → IsConsistent (prefix ++ Bound v term ∷ []) slots capacity → IsConsistent prefix (set slots v None) capacity
+consistent-undo_bind prefix slots capacity v term is =
+    let well = WellBound-prefix prefix (Bound v term ∷ []) [] is.bound in
     record {
       slots_are =
-          rw (is.slots_are, slots_after-append front (Bound v term ∷ []) []) (set-back (slots_of front) v None (Some term) well.1.0);
+          rw (is.slots_are, slots_after-append prefix (Bound v term ∷ []) []) (set-back (slots_of prefix) v None (Some term) well.1.0);
       bound = well.0;
       room = omega (arith, is.room, length-set slots v None);
       few = omega (arith, is.few, length-set slots v None);
     }
 
-consistent-undo_fresh : (front : List Change) (slots : Slots) (capacity : ℕ) → IsConsistent (front ++ Fresh ∷ []) slots capacity
-    → IsConsistent front (take (length slots - 1) slots) capacity
-consistent-undo_fresh front slots capacity is =
-    let well = WellBound-front front (Fresh ∷ []) [] is.bound in
-    let pushed : slots ≡ slots_of front ++ None ∷ [] = is.slots_are ∙ slots_after-append front (Fresh ∷ []) [] in
-    let before : take (length slots - 1) slots ≡ slots_of front = rw pushed (take_pushed (slots_of front) None) in
-    let count : length slots ≡ length (slots_of front) + 1 = ap length pushed ∙ length-append (slots_of front) (None ∷ []) in
+consistent-undo_fresh : (prefix : List Change) (slots : Slots) (capacity : ℕ) → IsConsistent (prefix ++ Fresh ∷ []) slots capacity
+    → IsConsistent prefix (take (length slots - 1) slots) capacity
+consistent-undo_fresh prefix slots capacity is =
+    let well = WellBound-prefix prefix (Fresh ∷ []) [] is.bound in
+    let pushed : slots ≡ slots_of prefix ++ None ∷ [] = is.slots_are ∙ slots_after-append prefix (Fresh ∷ []) [] in
+    let before : take (length slots - 1) slots ≡ slots_of prefix = rw pushed (take_pushed (slots_of prefix) None) in
+    let count : length slots ≡ length (slots_of prefix) + 1 = ap length pushed ∙ length-append (slots_of prefix) (None ∷ []) in
     record {
       slots_are = before;
       bound = well.0;
@@ -148,25 +148,25 @@ consistent-fresh changes slots capacity larger n new new_slots is added longer e
     count = ap length longer ∙ length-append slots (replicate n None) ∙ ap (λ k. length slots + k) (length-replicate n None)
 
 -- the same, where the last change is known by equations
-module _ (changes front : List Change) (last : Change) (slots : Slots) (capacity : ℕ) (is : IsConsistent changes slots capacity)
-    (splits : changes ≡ front ++ last ∷ []) where
-  last-fresh : last ≡ Fresh → IsConsistent (front ++ Fresh ∷ []) slots capacity
+module _ (changes prefix : List Change) (last : Change) (slots : Slots) (capacity : ℕ) (is : IsConsistent changes slots capacity)
+    (splits : changes ≡ prefix ++ last ∷ []) where
+  last-fresh : last ≡ Fresh → IsConsistent (prefix ++ Fresh ∷ []) slots capacity
   last-fresh fresh = rw (splits, fresh) at is
 
-  last-bound : (v : ℕ) (term : Term) → last ≡ Bound v term → IsConsistent (front ++ Bound v term ∷ []) slots capacity
+  last-bound : (v : ℕ) (term : Term) → last ≡ Bound v term → IsConsistent (prefix ++ Bound v term ∷ []) slots capacity
   last-bound v term bound = rw (splits, bound) at is
 
-  pub undo-fresh : last ≡ Fresh → IsConsistent front (take (length slots - 1) slots) capacity
-  undo-fresh fresh = consistent-undo_fresh front slots capacity (last-fresh fresh)
+  pub undo-fresh : last ≡ Fresh → IsConsistent prefix (take (length slots - 1) slots) capacity
+  undo-fresh fresh = consistent-undo_fresh prefix slots capacity (last-fresh fresh)
 
-  pub undo-bound : (v : ℕ) (term : Term) → last ≡ Bound v term → IsConsistent front (set slots v None) capacity
-  undo-bound v term bound = consistent-undo_bind front slots capacity v term (last-bound v term bound)
+  pub undo-bound : (v : ℕ) (term : Term) → last ≡ Bound v term → IsConsistent prefix (set slots v None) capacity
+  undo-bound v term bound = consistent-undo_bind prefix slots capacity v term (last-bound v term bound)
 
   pub undo-within : (v : ℕ) (term : Term) → last ≡ Bound v term → v < length slots
   undo-within v term bound = within (last-bound v term bound)
     where
-      within : IsConsistent (front ++ Bound v term ∷ []) slots capacity → v < length slots
+      within : IsConsistent (prefix ++ Bound v term ∷ []) slots capacity → v < length slots
       within consistent =
-          let well = WellBound-front front (Bound v term ∷ []) [] consistent.bound in
-          let here : v < length (slots_of front) = slice_get_within (slots_of front) v None well.1.0 in
-          rw (consistent.slots_are, slots_after-append front (Bound v term ∷ []) [], length-set) here
+          let well = WellBound-prefix prefix (Bound v term ∷ []) [] consistent.bound in
+          let here : v < length (slots_of prefix) = slice_get_within (slots_of prefix) v None well.1.0 in
+          rw (consistent.slots_are, slots_after-append prefix (Bound v term ∷ []) [], length-set) here

@@ -36,11 +36,11 @@ module _ (xs ys : List Term) (same_length : length xs ≡ length ys) (k : ℕ) (
       ↔ (AreEqualBelow k xs ys sigma × (substitute sigma (get_or xs k x) ≡ substitute sigma (get_or ys k y)))
   one_more sigma =
       let within_ys : k < length ys = omega (arith, within, same_length) in
-      let fronts : length (map (substitute sigma) (take k xs)) ≡ length (map (substitute sigma) (take k ys)) =
+      let prefixes : length (map (substitute sigma) (take k xs)) ≡ length (map (substitute sigma) (take k ys)) =
       simp (length-map, length-take) (rw same_length refl) in
       rw (add-one, take-suc xs k x within, take-suc ys k y within_ys, map-append, map-append)
       (snoc-equal (map (substitute sigma) (take k xs)) (map (substitute sigma) (take k ys)) (substitute sigma (get_or xs k x))
-      (substitute sigma (get_or ys k y)) fronts)
+      (substitute sigma (get_or ys k y)) prefixes)
 
   module _ (start now : List Change) (so_far : NarrowedBy start now (AreEqualBelow k xs ys)) where
     -- one more pair of arguments is made equal
@@ -59,9 +59,9 @@ module _ (xs ys : List Term) (same_length : length xs ≡ length ys) (k : ℕ) (
     pub never-more : NoneFits now (λ sigma. substitute sigma (get_or xs k x) ≡ substitute sigma (get_or ys k y))
         → NoneFits start (λ sigma. map (substitute sigma) xs ≡ map (substitute sigma) ys)
     never-more never sigma fits equal =
-        let front : AreEqualBelow (k + 1) xs ys sigma =
+        let prefix : AreEqualBelow (k + 1) xs ys sigma =
         sym (take-map (substitute sigma) (k + 1) xs) ∙ ap (take (k + 1)) equal ∙ take-map (substitute sigma) (k + 1) ys in
-        let parts = (one_more sigma).0 front in
+        let parts = (one_more sigma).0 prefix in
         never sigma ((so_far sigma).1 (fits, parts.0)) parts.1
 
 -- the two atoms are equal where their arguments are, as they have one predicate

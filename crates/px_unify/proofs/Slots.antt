@@ -28,10 +28,10 @@ slice_get-push [] x y (suc k) at = absurd (cc)
 slice_get-push (z ∷ xs) x y zero at = inl at
 slice_get-push (z ∷ xs) x y (suc k) at = elim (slice_get-push xs x y k at) [ inl h ↦ inl h | inr h ↦ inr (ap suc h.0, h.1) ]
 
-pub slice_get-front : {X : Type 0} (xs ys : List X) (k : ℕ) → k < length xs → slice_get (xs ++ ys) k ≡ slice_get xs k
-slice_get-front [] ys k within = absurd (omega (arith, within))
-slice_get-front (x ∷ xs) ys zero within = refl
-slice_get-front (x ∷ xs) ys (suc k) within = slice_get-front xs ys k (omega (arith, within))
+pub slice_get-prefix : {X : Type 0} (xs ys : List X) (k : ℕ) → k < length xs → slice_get (xs ++ ys) k ≡ slice_get xs k
+slice_get-prefix [] ys k within = absurd (omega (arith, within))
+slice_get-prefix (x ∷ xs) ys zero within = refl
+slice_get-prefix (x ∷ xs) ys (suc k) within = slice_get-prefix xs ys k (omega (arith, within))
 
 pub slice_get-last : {X : Type 0} (xs : List X) (x : X) → slice_get (xs ++ x ∷ []) (length xs) ≡ Some x
 slice_get-last [] x = refl
@@ -133,7 +133,7 @@ module _ (sigma : List Term) where
   changes_from [] slots well fits = (fits, All-nil (Meets sigma))
   changes_from (Fresh ∷ changes) slots well fits =
       let later = changes_from changes (slots ++ None ∷ []) well fits in (
-        λ v term at. later.0 v term (slice_get-front slots (None ∷ []) v (slice_get_within slots v (Some term) at) ∙ at),
+        λ v term at. later.0 v term (slice_get-prefix slots (None ∷ []) v (slice_get_within slots v (Some term) at) ∙ at),
         All-cons (Meets sigma) Fresh changes tt later.1,
       )
   changes_from (Bound v term ∷ changes) slots well fits =

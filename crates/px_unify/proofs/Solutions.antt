@@ -9,7 +9,7 @@ use Rattle.px_terms.specs.declared.term.Term.TheVariants.{Obj, Var, Any}
 use Rattle.px_unify.specs.declared.change.Change.{Change}
 use Rattle.px_unify.specs.Changes.{slots_of, WellBound, HasSolutions}
 use Rattle.px_base.specs.Answers.{some_same}
-use Rattle.px_unify.proofs.Slots.{Slots, FitsSlots, IsTriangular, triangular-of, slice_get-push, slice_get-front, slice_get-last, fits_changes}
+use Rattle.px_unify.proofs.Slots.{Slots, FitsSlots, IsTriangular, triangular-of, slice_get-push, slice_get-prefix, slice_get-last, fits_changes}
 
 -- the value of the next variable, where those before it have theirs
 abbrev next_value : List Term → Option Term → Term → Term
@@ -28,15 +28,15 @@ kept sigma more v (Obj o) earlier within = refl
 kept sigma more v (Var w) earlier within = get_or_append_left sigma more Any w (omega (arith, earlier, within))
 kept sigma more v Any earlier within = refl
 
-fits-push : (sigma : List Term) (front : Slots) (slot : Option Term) (chosen : Term) → length sigma ≡ length front
-    → IsTriangular (front ++ slot ∷ []) → FitsSlots sigma front
-    → FitsSlots (sigma ++ next_value sigma slot chosen ∷ []) (front ++ slot ∷ [])
-fits-push sigma front slot chosen count tri fits v term at = go slot (slice_get-push front slot (Some term) v at)
+fits-push : (sigma : List Term) (prefix : Slots) (slot : Option Term) (chosen : Term) → length sigma ≡ length prefix
+    → IsTriangular (prefix ++ slot ∷ []) → FitsSlots sigma prefix
+    → FitsSlots (sigma ++ next_value sigma slot chosen ∷ []) (prefix ++ slot ∷ [])
+fits-push sigma prefix slot chosen count tri fits v term at = go slot (slice_get-push prefix slot (Some term) v at)
   where
-    go : (s : Option Term) → (slice_get front v ≡ Some (Some term)) ⊎ ((v ≡ length front) × (s ≡ Some term))
+    go : (s : Option Term) → (slice_get prefix v ≡ Some (Some term)) ⊎ ((v ≡ length prefix) × (s ≡ Some term))
         → substitute (sigma ++ next_value sigma s chosen ∷ []) (Var v) ≡ substitute (sigma ++ next_value sigma s chosen ∷ []) term
     go s (inl h) =
-        let within : v < length front = slice_get_within front v (Some term) h in
+        let within : v < length prefix = slice_get_within prefix v (Some term) h in
         let before : substitute (sigma ++ next_value sigma s chosen ∷ []) (Var v) ≡ substitute sigma (Var v) =
         get_or_append_left sigma (next_value sigma s chosen ∷ []) Any v (omega (arith, within, count)) in
         before ∙ fits v term h ∙ sym (kept sigma (next_value sigma s chosen ∷ []) v term (tri v term at) (omega (arith, within, count)))
@@ -49,60 +49,60 @@ fits-push sigma front slot chosen count tri fits v term at = go slot (slice_get-
         here ∙ ap (substitute sigma) same ∙ sym (kept sigma (substitute sigma t ∷ []) v term (tri v term at) (omega (arith, place)))
 
 -- the values of the first variables stay
-values-front : (slots : Slots) (sigma chosen : List Term) (k : ℕ) → k < length sigma
+values-prefix : (slots : Slots) (sigma chosen : List Term) (k : ℕ) → k < length sigma
     → slice_get (values sigma slots chosen) k ≡ slice_get sigma k
-values-front [] sigma chosen k within = refl
-values-front (slot ∷ slots) sigma [] k within =
-    values-front slots (sigma ++ next_value sigma slot Any ∷ []) [] k
+values-prefix [] sigma chosen k within = refl
+values-prefix (slot ∷ slots) sigma [] k within =
+    values-prefix slots (sigma ++ next_value sigma slot Any ∷ []) [] k
     (omega (arith, within, length-append sigma (next_value sigma slot Any ∷ [])))
-    ∙ slice_get-front sigma (next_value sigma slot Any ∷ []) k within
-values-front (slot ∷ slots) sigma (c ∷ chosen) k within =
-    values-front slots (sigma ++ next_value sigma slot c ∷ []) chosen k
+    ∙ slice_get-prefix sigma (next_value sigma slot Any ∷ []) k within
+values-prefix (slot ∷ slots) sigma (c ∷ chosen) k within =
+    values-prefix slots (sigma ++ next_value sigma slot c ∷ []) chosen k
     (omega (arith, within, length-append sigma (next_value sigma slot c ∷ [])))
-    ∙ slice_get-front sigma (next_value sigma slot c ∷ []) k within
+    ∙ slice_get-prefix sigma (next_value sigma slot c ∷ []) k within
 
-longer : (sigma : List Term) (front : Slots) (value : Term) (slot : Option Term) → length sigma ≡ length front
-    → length (sigma ++ value ∷ []) ≡ length (front ++ slot ∷ [])
-longer sigma front value slot count = length-append sigma (value ∷ []) ∙ ap (λ n. n + 1) count ∙ sym (length-append front (slot ∷ []))
+longer : (sigma : List Term) (prefix : Slots) (value : Term) (slot : Option Term) → length sigma ≡ length prefix
+    → length (sigma ++ value ∷ []) ≡ length (prefix ++ slot ∷ [])
+longer sigma prefix value slot count = length-append sigma (value ∷ []) ∙ ap (λ n. n + 1) count ∙ sym (length-append prefix (slot ∷ []))
 
 module _ (all : Slots) (tri : IsTriangular all) where
-  earlier_part : (front rest : Slots) → front ++ rest ≡ all → IsTriangular front
-  earlier_part front rest splits v term at =
-      tri v term (rw (← splits) (slice_get-front front rest v (slice_get_within front v (Some term) at) ∙ at))
+  earlier_part : (prefix rest : Slots) → prefix ++ rest ≡ all → IsTriangular prefix
+  earlier_part prefix rest splits v term at =
+      tri v term (rw (← splits) (slice_get-prefix prefix rest v (slice_get_within prefix v (Some term) at) ∙ at))
 
-  values-fit : (slots front : Slots) (sigma chosen : List Term) → front ++ slots ≡ all → length sigma ≡ length front
-      → length slots ≡ length chosen → FitsSlots sigma front
+  values-fit : (slots prefix : Slots) (sigma chosen : List Term) → prefix ++ slots ≡ all → length sigma ≡ length prefix
+      → length slots ≡ length chosen → FitsSlots sigma prefix
       → FitsSlots (values sigma slots chosen) all × (length (values sigma slots chosen) ≡ length all)
-  values-fit [] front sigma chosen splits count enough fits =
-      let whole : front ≡ all = sym (append-nil front) ∙ splits in
+  values-fit [] prefix sigma chosen splits count enough fits =
+      let whole : prefix ≡ all = sym (append-nil prefix) ∙ splits in
       (rw (← whole) fits, count ∙ ap length whole)
-  values-fit (slot ∷ slots) front sigma [] splits count enough fits = absurd (omega (arith, enough))
-  values-fit (slot ∷ slots) front sigma (c ∷ chosen) splits count enough fits =
-      let regrouped : (front ++ slot ∷ []) ++ slots ≡ all = append_assoc front (slot ∷ []) slots ∙ splits in
-      values-fit slots (front ++ slot ∷ []) (sigma ++ next_value sigma slot c ∷ []) chosen regrouped
-      (longer sigma front (next_value sigma slot c) slot count) (omega (arith, enough))
-      (fits-push sigma front slot c count (earlier_part (front ++ slot ∷ []) slots regrouped) fits)
+  values-fit (slot ∷ slots) prefix sigma [] splits count enough fits = absurd (omega (arith, enough))
+  values-fit (slot ∷ slots) prefix sigma (c ∷ chosen) splits count enough fits =
+      let regrouped : (prefix ++ slot ∷ []) ++ slots ≡ all = append_assoc prefix (slot ∷ []) slots ∙ splits in
+      values-fit slots (prefix ++ slot ∷ []) (sigma ++ next_value sigma slot c ∷ []) chosen regrouped
+      (longer sigma prefix (next_value sigma slot c) slot count) (omega (arith, enough))
+      (fits-push sigma prefix slot c count (earlier_part (prefix ++ slot ∷ []) slots regrouped) fits)
 
-  values-chosen : (slots front : Slots) (sigma chosen : List Term) (v : ℕ) → length sigma ≡ length front → length slots ≡ length chosen
+  values-chosen : (slots prefix : Slots) (sigma chosen : List Term) (v : ℕ) → length sigma ≡ length prefix → length slots ≡ length chosen
       → slice_get slots v ≡ Some None
       → slice_get (values sigma slots chosen) (length sigma + v) ≡ slice_get chosen v
-  values-chosen [] front sigma chosen v count enough at = absurd (cc)
-  values-chosen (slot ∷ slots) front sigma [] v count enough at = absurd (omega (arith, enough))
-  values-chosen (slot ∷ slots) front sigma (c ∷ chosen) zero count enough at =
+  values-chosen [] prefix sigma chosen v count enough at = absurd (cc)
+  values-chosen (slot ∷ slots) prefix sigma [] v count enough at = absurd (omega (arith, enough))
+  values-chosen (slot ∷ slots) prefix sigma (c ∷ chosen) zero count enough at =
       let unbound : slot ≡ None = some_same at in
       let here : length sigma + 0 ≡ length sigma = omega arith in
       rw (
         here,
-        values-front slots (sigma ++ next_value sigma slot c ∷ []) chosen (length sigma)
+        values-prefix slots (sigma ++ next_value sigma slot c ∷ []) chosen (length sigma)
             (omega (arith, length-append sigma (next_value sigma slot c ∷ []))),
         slice_get-last sigma (next_value sigma slot c),
         unbound,
       ) refl
-  values-chosen (slot ∷ slots) front sigma (c ∷ chosen) (suc v) count enough at =
+  values-chosen (slot ∷ slots) prefix sigma (c ∷ chosen) (suc v) count enough at =
       let one_on : length (sigma ++ next_value sigma slot c ∷ []) + v ≡ length sigma + suc v =
       omega (arith, length-append sigma (next_value sigma slot c ∷ [])) in
-      rw (← one_on) (values-chosen slots (front ++ slot ∷ []) (sigma ++ next_value sigma slot c ∷ []) chosen v
-      (longer sigma front (next_value sigma slot c) slot count) (omega (arith, enough)) at)
+      rw (← one_on) (values-chosen slots (prefix ++ slot ∷ []) (sigma ++ next_value sigma slot c ∷ []) chosen v
+      (longer sigma prefix (next_value sigma slot c) slot count) (omega (arith, enough)) at)
 
 pub has-solutions : (changes : List Change) → WellBound [] changes → HasSolutions changes
 has-solutions changes well chosen count =

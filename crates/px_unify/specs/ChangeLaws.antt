@@ -46,15 +46,15 @@ IsUnbound-fresh changes n v within = rw (slots-fresh changes n, slice_get-after 
     (slice_get-replicate n None v within)
 
 module _ (sigma : List Term) where
-  fits_front : (front rest : List Change) → Fits sigma (front ++ rest) → Fits sigma front × Fits sigma rest
-  fits_front [] rest fits = (All-nil (Meets sigma), fits)
-  fits_front (change ∷ front) rest fits =
-      let later = fits_front front rest (All-tail (Meets sigma) change (front ++ rest) fits) in
+  fits_prefix : (front rest : List Change) → Fits sigma (front ++ rest) → Fits sigma front × Fits sigma rest
+  fits_prefix [] rest fits = (All-nil (Meets sigma), fits)
+  fits_prefix (change ∷ front) rest fits =
+      let later = fits_prefix front rest (All-tail (Meets sigma) change (front ++ rest) fits) in
       (All-cons (Meets sigma) change front (All-head (Meets sigma) change (front ++ rest) fits) later.0, later.1)
 
   -- fitting more changes is fitting them too
   pub Fits-append : (old more : List Change) → Fits sigma (old ++ more) ↔ (Fits sigma old × Fits sigma more)
-  Fits-append old more = (fits_front old more, λ h. All-append (Meets sigma) old more h.0 h.1)
+  Fits-append old more = (fits_prefix old more, λ h. All-append (Meets sigma) old more h.0 h.1)
 
   -- what fits now fitted at each mark
   pub Fits-take : (changes : List Change) (mark : ℕ) → Fits sigma changes → Fits sigma (take mark changes)
@@ -138,11 +138,11 @@ NarrowedBy-fresh old now n Condition narrowed sigma = (
   λ h. (Fits-fresh sigma now n).1 ((narrowed sigma).1 h),
 )
 
-each_front : (sigma : List Term) (pairs later : List (Atom × Atom)) → MakesEachEqual (pairs ++ later) sigma → MakesEachEqual pairs sigma
+each_prefix : (sigma : List Term) (pairs later : List (Atom × Atom)) → MakesEachEqual (pairs ++ later) sigma → MakesEachEqual pairs sigma
     × MakesEachEqual later sigma
-each_front sigma [] later all = (All-nil (MakesPairEqual sigma), all)
-each_front sigma (pair ∷ pairs) later all =
-    let rest = each_front sigma pairs later (All-tail (MakesPairEqual sigma) pair (pairs ++ later) all) in
+each_prefix sigma [] later all = (All-nil (MakesPairEqual sigma), all)
+each_prefix sigma (pair ∷ pairs) later all =
+    let rest = each_prefix sigma pairs later (All-tail (MakesPairEqual sigma) pair (pairs ++ later) all) in
     (All-cons (MakesPairEqual sigma) pair pairs (All-head (MakesPairEqual sigma) pair (pairs ++ later) all) rest.0, rest.1)
 
 -- Pairs unified one after the other. Before the first nothing is asked.
@@ -156,7 +156,7 @@ pub NarrowedBy-pair : (old now new : List Change) (pairs : List (Atom × Atom)) 
 NarrowedBy-pair old now new pairs a b first second sigma =
     let both = NarrowedBy-both old now new (MakesEachEqual pairs) (MakesEqual a b) first second sigma in (
       λ fits. let h = both.0 fits in (h.0, All-push (MakesPairEqual sigma) pairs (a, b) h.1.0 h.1.1),
-      λ h. let parts = each_front sigma pairs ((a, b) ∷ []) h.1 in
+      λ h. let parts = each_prefix sigma pairs ((a, b) ∷ []) h.1 in
           both.1 (h.0, (parts.0, All-head (MakesPairEqual sigma) (a, b) [] parts.1)),
     )
 
@@ -165,7 +165,7 @@ pub NoneFits-pair : (old now : List Change) (pairs : List (Atom × Atom)) (a b :
     → NarrowedBy old now (MakesEachEqual pairs) → NoneFits now (MakesEqual a b)
     → NoneFits old (MakesEachEqual (pairs ++ (a, b) ∷ later))
 NoneFits-pair old now pairs a b later narrowed never sigma fits all =
-    let parts = each_front sigma pairs ((a, b) ∷ later) all in
+    let parts = each_prefix sigma pairs ((a, b) ∷ later) all in
     never sigma ((narrowed sigma).1 (fits, parts.0)) (All-head (MakesPairEqual sigma) (a, b) later parts.1)
 
 -- After each pair was unified some substitution makes all of them equal, whatever the unbound variables stand for.

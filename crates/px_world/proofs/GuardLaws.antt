@@ -45,7 +45,7 @@ both : (P : Lit → Type 0) → P p_is_true → P q_is_false → All P (p_is_tru
 both P first second = All-cons P p_is_true (q_is_false ∷ []) first (one P q_is_false second)
 
 is_axiom : IsAxiomOf guarded p_or_not_q
-is_axiom = record { vars = omega arith; lits = both (λ lit. IsAtomOf guarded 0 lit.atom) p_is_atom q_is_atom }
+is_axiom = record { variable_count = omega arith; lits = both (λ lit. IsAtomOf guarded 0 lit.atom) p_is_atom q_is_atom }
 
 is_clause : IsClause p_or_not_q
 is_clause =
@@ -65,7 +65,7 @@ valid = record {
   shapes = (omega arith, omega arith);
   weight = omega arith;
   sorts = no_object_sorts-are guarded 0 (omega arith);
-  no_objects = λ _. (one (λ (schema : Schema). schema.params ≡ 0) needs_p refl, one (λ (clause : Clause). clause.vars ≡ 0) p_or_not_q refl);
+  no_objects = λ _. (one (λ (schema : Schema). schema.params ≡ 0) needs_p refl, one (λ (clause : Clause). clause.variable_count ≡ 0) p_or_not_q refl);
 }
 
 instance : IsInstanceOf guarded go
@@ -73,7 +73,7 @@ instance = record { op = omega arith; count = refl; objects = All-nothing (IsTer
 
 -- some literal of the clause is true, whatever elements its variables have
 abbrev HasTrueLiteral : State → Clause → Type 0
-HasTrueLiteral state clause = (values : List ℕ) → AreValues state clause.vars values → Any (LiteralHoldsUnder state values) clause.lits
+HasTrueLiteral state clause = (values : List ℕ) → AreValues state clause.variable_count values → Any (LiteralHoldsUnder state values) clause.lits
 
 -- ---- in a state in which nothing is true the axiom holds
 

@@ -23,7 +23,7 @@ abbrev pub q_is_false : Lit
 q_is_false = record { positive = false; atom = q }
 
 abbrev pub p_or_not_q : Clause
-p_or_not_q = record { vars = 0; lits = p_is_true ∷ q_is_false ∷ [] }
+p_or_not_q = record { variable_count = 0; lits = p_is_true ∷ q_is_false ∷ [] }
 
 abbrev pub needs_p : Schema
 needs_p = schema_without_sorts 0 0 (p ∷ []) [] (q ∷ [])

@@ -65,11 +65,11 @@ step-returns-in_err-place t c =
 pub step-returns-in_err-rest : goal.step-returns-in_err-rest
 step-returns-in_err-rest t c =
     let total = step_at c.args.draft.now (proof_at c.args.draft.now c.args.levels) c.args.bytes.now in
-    let empty : Clause = record { vars = 0; lits = [] } in
-    let vars : c.vars.result ≡ (clause_at c.args.draft.now.axioms c.in_ok-clause.clause).vars = c.vars.ensures.value empty in
+    let empty : Clause = record { variable_count = 0; lits = [] } in
+    let variable_count : c.variable_count.result ≡ (clause_at c.args.draft.now.axioms c.in_ok-clause.clause).variable_count = c.variable_count.ensures.value empty in
     let full = c.in_ok-theta.theta.ok.0 in
     let value = ap (λ (ts : List Term). length ts) c.deref_mut.ensures.value in
-    let room : length c.deref_mut.result.now ≡ (clause_at c.args.draft.now.axioms c.in_ok-clause.clause).vars = omega (arith, c.in_ok-theta.ensures.len) in
+    let room : length c.deref_mut.result.now ≡ (clause_at c.args.draft.now.axioms c.in_ok-clause.clause).variable_count = omega (arith, c.in_ok-theta.ensures.len) in
     carried (λ (x : Proof × Bor (List ℕ)). (x.0, x.1.now)) c.from_residual-in_err-rest.result c.in_err-rest.field-0.0 total
     c.from_residual-in_err-rest.ensures.1
     (terms_fail c.args.draft.now c.args.levels c.args.bytes.now c.in_err-rest.field-0.0 c.count.result c.in_ok-clause.clause
@@ -80,24 +80,24 @@ step-returns-in_err-rest t c =
 
 pub step-overflow_cast-count : goal.step-overflow_cast-count
 step-overflow_cast-count t c =
-    let empty : Clause = record { vars = 0; lits = [] } in
+    let empty : Clause = record { variable_count = 0; lits = [] } in
     let size = lits_are c.args.draft.now c.in_ok-clause.clause c.lits.result.now c.requires (omega (arith, c.in_ok-clause.ensures.below)) (c.lits.ensures.value empty) in
     let few = size.1 in
     omega (arith, few)
 
 pub step-overflow_sub-count : goal.step-overflow_sub-count
 step-overflow_sub-count t c =
-    let empty : Clause = record { vars = 0; lits = [] } in
+    let empty : Clause = record { variable_count = 0; lits = [] } in
     (lits_are c.args.draft.now c.in_ok-clause.clause c.lits.result.now c.requires (omega (arith, c.in_ok-clause.ensures.below)) (c.lits.ensures.value empty)).0
 
 pub step-returns-in_err-subs : goal.step-returns-in_err-subs
 step-returns-in_err-subs t c =
     let total = step_at c.args.draft.now (proof_at c.args.draft.now c.args.levels) c.args.bytes.now in
-    let empty : Clause = record { vars = 0; lits = [] } in
-    let vars : c.vars.result ≡ (clause_at c.args.draft.now.axioms c.in_ok-clause.clause).vars = c.vars.ensures.value empty in
+    let empty : Clause = record { variable_count = 0; lits = [] } in
+    let variable_count : c.variable_count.result ≡ (clause_at c.args.draft.now.axioms c.in_ok-clause.clause).variable_count = c.variable_count.ensures.value empty in
     let full = c.in_ok-theta.theta.ok.0 in
     let value = ap (λ (ts : List Term). length ts) c.deref_mut.ensures.value in
-    let room : length c.deref_mut.result.now ≡ (clause_at c.args.draft.now.axioms c.in_ok-clause.clause).vars = omega (arith, c.in_ok-theta.ensures.len) in
+    let room : length c.deref_mut.result.now ≡ (clause_at c.args.draft.now.axioms c.in_ok-clause.clause).variable_count = omega (arith, c.in_ok-theta.ensures.len) in
     carried (λ (x : Proof × Bor (List ℕ)). (x.0, x.1.now)) c.from_residual-in_err-subs.result c.in_err-subs.field-0.0 total
     c.from_residual-in_err-subs.ensures.1
     (parts_fail c.args.draft.now c.args.levels c.args.bytes.now c.in_err-subs.field-0.0 c.count.result c.in_ok-clause.clause
@@ -111,11 +111,11 @@ step-returns-in_err-subs t c =
 
 pub step-returns : goal.step-returns
 step-returns t c =
-    let empty : Clause = record { vars = 0; lits = [] } in
-    let vars : c.vars.result ≡ (clause_at c.args.draft.now.axioms c.in_ok-clause.clause).vars = c.vars.ensures.value empty in
+    let empty : Clause = record { variable_count = 0; lits = [] } in
+    let variable_count : c.variable_count.result ≡ (clause_at c.args.draft.now.axioms c.in_ok-clause.clause).variable_count = c.variable_count.ensures.value empty in
     let full = c.in_ok-theta.theta.ok.0 in
     let value = ap (λ (ts : List Term). length ts) c.deref_mut.ensures.value in
-    let room : length c.deref_mut.result.now ≡ (clause_at c.args.draft.now.axioms c.in_ok-clause.clause).vars = omega (arith, c.in_ok-theta.ensures.len) in
+    let room : length c.deref_mut.result.now ≡ (clause_at c.args.draft.now.axioms c.in_ok-clause.clause).variable_count = omega (arith, c.in_ok-theta.ensures.len) in
     let theta : c.fill.new.terms ≡ c.from_vec.result = first_of (cc, search rules, grind (arith, common_steps)) in
     let subs : c.in_ok-subs.subs.items ≡ c.from_vec-2.result = first_of (cc, search rules, grind (arith, common_steps)) in
     step_read c.args.draft.now c.args.levels c.args.bytes.now c.count.result c.in_ok-clause.clause c.in_ok-place.place

@@ -7,7 +7,7 @@ use Rattle.px_cert.proofs.terms.fill.Goals as goal
 
 pub returns-in_err-value-clause-read : goal.returns-in_err-value-clause-read
 returns-in_err-value-clause-read c =
-    let item = term_at c.args.objects c.args.vars c.args.wild in
+    let item = term_at c.args.objects c.args.variable_count c.args.wild in
     let total = many_at item (length c.args.terms.now) c.args.bytes.now in
     carried_whole c.loop-place.terms c.from_residual.result c.in_err-value.field-0.0 total c.from_residual.ensures.1
     (ends item c.in_err-value.field-0.0 (take c.loop-place.place c.loop-place.terms) (length c.args.terms.now) c.loop-place.place
@@ -15,7 +15,7 @@ returns-in_err-value-clause-read c =
 
 pub loop-place-preserved : goal.loop-place-preserved
 loop-place-preserved c =
-    let item = term_at c.args.objects c.args.vars c.args.wild in
+    let item = term_at c.args.objects c.args.variable_count c.args.wild in
     let total = many_at item (length c.args.terms.now) c.args.bytes.now in
     let same = c.loop-place.invariant.count in
     let inside : c.loop-place.place < length c.loop-place.terms = omega arith in
@@ -29,7 +29,7 @@ loop-place-preserved c =
 
 pub returns-clause-read : goal.returns-clause-read
 returns-clause-read c =
-    let item = term_at c.args.objects c.args.vars c.args.wild in
+    let item = term_at c.args.objects c.args.variable_count c.args.wild in
     let same = c.loop-place.invariant.count in
     let past : length c.loop-place.terms ≤ c.loop-place.place = omega arith in
     is_done item (take c.loop-place.place c.loop-place.terms) (length c.args.terms.now) c.loop-place.place c.loop-place.rest.now

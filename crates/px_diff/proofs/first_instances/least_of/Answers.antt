@@ -7,5 +7,5 @@ use Rattle.px_diff.proofs.first_instances.least_of.Goals as goal
 pub returns : goal.returns
 returns c = λ full stands.
     subst (λ (inst : OpInst). IsNotAfter inst full) (sym c.filled.ensures)
-    (instance-least c.args.problem.now c.args.partial.now (take c.args.partial.now.vars eight_zeros) full c.requires.partial
-    (zeros-long c.args.partial.now.vars c.requires.partial.few) (zeros-all c.args.partial.now.vars) stands)
+    (instance-least c.args.problem.now c.args.partial.now (take c.args.partial.now.variable_count eight_zeros) full c.requires.partial
+    (zeros-long c.args.partial.now.variable_count c.requires.partial.few) (zeros-all c.args.partial.now.variable_count) stands)

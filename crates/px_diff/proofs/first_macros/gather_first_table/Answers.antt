@@ -1,7 +1,7 @@
 use Rattle.std.proofs.Common.{get_or, sym, subst, arith}
 use Rattle.px_proof.specs.PlaceLaws.{slice_get-read}
 use Rattle.px_diff.specs.Macros.{IsOfTable}
-use Rattle.px_diff.proofs.FirstLemmas.{fronts-left}
+use Rattle.px_diff.proofs.FirstLemmas.{prefixes-left}
 use Rattle.px_diff.proofs.EntryLemmas.{entries_reordered, entries_since}
 use Rattle.px_entries.specs.Parameters.{AreFirstTerms}
 use Rattle.px_diff.proofs.GatherLemmas.{IsShorter, shorter-all, shorter-next, shorter-none, shorter-zero, learned-at}
@@ -9,7 +9,7 @@ use Rattle.px_diff.proofs.first_macros.gather_first_table.Goals as goal
 
 pub returns-then-can_leave_off_steps-clause-gathers : goal.returns-then-can_leave_off_steps-clause-gathers
 returns-then-can_leave_off_steps-clause-gathers c =
-    fronts-left c.args.request.now.problem.now c.args.request.now.tables.now c.args.request.now.wanted.now c.args.request.now.stack.now
+    prefixes-left c.args.request.now.problem.now c.args.request.now.tables.now c.args.request.now.wanted.now c.args.request.now.stack.now
     c.args.request.now.model.now.atoms c.args.enough c.args.number 0 c.args.found.now.items c.can_leave_off_steps.new.found.items
     (entries_reordered c.args.request.now.problem.now c.args.request.now.tables.now c.args.request.now.wanted.now
     c.args.request.now.stack.now c.args.request.now.model.now.atoms
@@ -34,8 +34,8 @@ choices_of_table-requires-clause-table c =
     learned-at c.args.request.now.problem.now c.args.request.now.tables.now c.args.number c.index-request-number.result c.requires.tables
     c.requires.number
 
-pub gather_front-requires-clause-front : goal.gather_front-requires-clause-front
-gather_front-requires-clause-front c = record {
+pub gather_prefix-requires-clause-prefix : goal.gather_prefix-requires-clause-prefix
+gather_prefix-requires-clause-prefix c = record {
   problem = c.requires.problem;
   tables = c.requires.tables;
   table = slice_get-read c.args.request.now.tables.now c.args.number c.index-request-number.result c.requires.number;
@@ -48,20 +48,20 @@ gather_front-requires-clause-front c = record {
   suffice = λ e. (c.requires.never, (c.facts_suffice-suffice.ensures).0 e);
 }
 
-pub gather_front-requires-clause-rows : goal.gather_front-requires-clause-rows
-gather_front-requires-clause-rows c = c.in_ok-made.ensures
+pub gather_prefix-requires-clause-rows : goal.gather_prefix-requires-clause-rows
+gather_prefix-requires-clause-rows c = c.in_ok-made.ensures
 
 pub loop-count-preserved : goal.loop-count-preserved
 loop-count-preserved c =
     shorter-next c.args.request.now.problem.now c.args.request.now.tables.now c.args.request.now.wanted.now c.args.request.now.stack.now
     c.args.request.now.model.now.atoms c.args.number c.loop-count.count c.can_leave_off_steps.new.found.items
-    c.can_leave_off_steps-in-loop-count.new.found.items c.gather_front.new.found.items
+    c.can_leave_off_steps-in-loop-count.new.found.items c.gather_prefix.new.found.items
     (entries_reordered c.args.request.now.problem.now c.args.request.now.tables.now c.args.request.now.wanted.now
     c.args.request.now.stack.now c.args.request.now.model.now.atoms
     (IsShorter c.args.request.now.problem.now c.args.request.now.tables.now c.args.request.now.wanted.now c.args.request.now.stack.now
     c.args.request.now.model.now.atoms c.args.number c.loop-count.count) c.can_leave_off_steps.new.found.items c.loop-count.found.items
     c.can_leave_off_steps-in-loop-count.new.found.items c.can_leave_off_steps-in-loop-count.ensures.members c.loop-count.invariant)
-    c.in_ok-gather_front.ensures.gathers
+    c.in_ok-gather_prefix.ensures.gathers
 
 pub returns-clause-gathers : goal.returns-clause-gathers
 returns-clause-gathers c =
@@ -79,7 +79,7 @@ returns-clause-gathers c =
 
 pub returns-then-can_leave_off_steps-2-clause-gathers : goal.returns-then-can_leave_off_steps-2-clause-gathers
 returns-then-can_leave_off_steps-2-clause-gathers c =
-    fronts-left c.args.request.now.problem.now c.args.request.now.tables.now c.args.request.now.wanted.now c.args.request.now.stack.now
+    prefixes-left c.args.request.now.problem.now c.args.request.now.tables.now c.args.request.now.wanted.now c.args.request.now.stack.now
     c.args.request.now.model.now.atoms c.args.enough c.args.number c.loop-count.count c.args.found.now.items
     c.can_leave_off_steps-in-loop-count.new.found.items
     (entries_since c.args.request.now.problem.now c.args.request.now.tables.now c.args.request.now.wanted.now c.args.request.now.stack.now

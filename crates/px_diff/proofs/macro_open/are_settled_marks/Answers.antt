@@ -5,7 +5,7 @@ use Rattle.px_table.specs.declared.mark.Mark.{Mark}
 use Rattle.px_terms.specs.Language.{IsVariableBelow}
 use Rattle.px_diff.specs.MacroOpen.{IsSettledMark}
 use Rattle.px_base.proofs.Loops.{all_before_next, all_whole, contains_here}
-use Rattle.px_diff.proofs.GatherLemmas.{front-table}
+use Rattle.px_diff.proofs.GatherLemmas.{prefix-table}
 use Rattle.px_entries.proofs.PlainLaws.{some-no, some-yes}
 use Rattle.px_entries.proofs.RowSteps.{mark-is_of, marks-variables}
 use Rattle.px_diff.proofs.macro_open.are_settled_marks.Goals as goal
@@ -13,23 +13,23 @@ use Rattle.px_diff.proofs.macro_open.are_settled_marks.Goals as goal
 pub is_settled_mark-requires-clause-variables : goal.is_settled_mark-requires-clause-variables
 is_settled_mark-requires-clause-variables c =
     let has = contains_here c.as_slice-marks.result.now c.loop-mark.mark-index c.mark-item.result c.loop-mark-test.true c.mark-item.is in
-    All-at (λ (mark : Mark). All (IsVariableBelow (length c.args.sigma.now)) mark.atom.args) c.args.front.now.table.now.marks
+    All-at (λ (mark : Mark). All (IsVariableBelow (length c.args.sigma.now)) mark.atom.args) c.args.prefix.now.table.now.marks
     c.mark-item.result
-    (marks-variables c.args.front.now.request.problem.now c.args.front.now.table.now c.args.sigma.now
-    (front-table c.args.front.now c.requires.front) c.requires.sigma.count)
+    (marks-variables c.args.prefix.now.request.problem.now c.args.prefix.now.table.now c.args.sigma.now
+    (prefix-table c.args.prefix.now c.requires.prefix) c.requires.sigma.count)
     (subst (λ (l : List Mark). Contains l c.mark-item.result) c.as_slice-marks.ensures has)
 
 pub is_settled_mark-requires-clause-atom : goal.is_settled_mark-requires-clause-atom
 is_settled_mark-requires-clause-atom c = λ early.
     let has = contains_here c.as_slice-marks.result.now c.loop-mark.mark-index c.mark-item.result c.loop-mark-test.true c.mark-item.is in
-    mark-is_of c.args.front.now.request.problem.now c.args.front.now.table.now c.args.front.now.count c.args.sigma.now
-    (front-table c.args.front.now c.requires.front) c.requires.sigma c.mark-item.result
+    mark-is_of c.args.prefix.now.request.problem.now c.args.prefix.now.table.now c.args.prefix.now.count c.args.sigma.now
+    (prefix-table c.args.prefix.now c.requires.prefix) c.requires.sigma c.mark-item.result
     (subst (λ (l : List Mark). Contains l c.mark-item.result) c.as_slice-marks.ensures has) early
 
 pub returns-in-Some-false : goal.returns-in-Some-false
 returns-in-Some-false c = λ all.
     let Settled =
-    IsSettledMark c.args.front.now.request.problem.now c.args.front.now.request.model.now.atoms c.args.front.now.count c.args.sigma.now
+    IsSettledMark c.args.prefix.now.request.problem.now c.args.prefix.now.request.model.now.atoms c.args.prefix.now.count c.args.sigma.now
     in
     some-no {P = Settled c.mark-item.result} c.in_ok-is_settled_mark.field-0 c.in-Some-false.field-0 c.in-Some-false.is
     c.in-Some-false.field-0-test c.in_ok-is_settled_mark.ensures
@@ -39,7 +39,7 @@ returns-in-Some-false c = λ all.
 pub loop-mark-preserved : goal.loop-mark-preserved
 loop-mark-preserved c =
     let Settled =
-    IsSettledMark c.args.front.now.request.problem.now c.args.front.now.request.model.now.atoms c.args.front.now.count c.args.sigma.now
+    IsSettledMark c.args.prefix.now.request.problem.now c.args.prefix.now.request.model.now.atoms c.args.prefix.now.count c.args.sigma.now
     in
     all_before_next Settled c.as_slice-marks.result.now c.loop-mark.mark-index c.mark-item.result c.loop-mark.invariant
     c.loop-mark-test.true c.mark-item.is
@@ -49,7 +49,7 @@ loop-mark-preserved c =
 pub returns : goal.returns
 returns c =
     let Settled =
-    IsSettledMark c.args.front.now.request.problem.now c.args.front.now.request.model.now.atoms c.args.front.now.count c.args.sigma.now
+    IsSettledMark c.args.prefix.now.request.problem.now c.args.prefix.now.request.model.now.atoms c.args.prefix.now.count c.args.sigma.now
     in
     subst (All Settled) c.as_slice-marks.ensures (all_whole Settled c.as_slice-marks.result.now c.loop-mark.mark-index c.loop-mark.invariant
     c.loop-mark-test.false)

@@ -4,4 +4,4 @@ use Rattle.px_diff.proofs.macro_open.are_settled_marks.Given as goal
 
 abbrev pub invariant-loop-mark : goal.invariant-loop-mark
 invariant-loop-mark l =
-    AllBefore (IsSettledMark l.front.request.problem.now l.front.request.model.now.atoms l.front.count l.sigma) l.marks l.mark-index
+    AllBefore (IsSettledMark l.prefix.request.problem.now l.prefix.request.model.now.atoms l.prefix.count l.sigma) l.marks l.mark-index

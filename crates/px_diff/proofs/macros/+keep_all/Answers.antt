@@ -12,13 +12,13 @@ use Rattle.px_diff.proofs.macros.+keep_all.Goals as goal
 
 pub returns-then-not-steps_may_fit-clause-gathers : goal.returns-then-not-steps_may_fit-clause-gathers
 returns-then-not-steps_may_fit-clause-gathers t c =
-    objects-unfit c.args.front.now.request.problem.now c.args.front.now.request.tables.now c.args.front.now.request.wanted.now
-    c.args.front.now.request.stack.now c.args.front.now.request.model.now.atoms c.args.front.now.number c.args.front.now.count
-    c.args.front.now.table.now c.requires.front.table c.args.terms.now c.args.found.now.items
+    objects-unfit c.args.prefix.now.request.problem.now c.args.prefix.now.request.tables.now c.args.prefix.now.request.wanted.now
+    c.args.prefix.now.request.stack.now c.args.prefix.now.request.model.now.atoms c.args.prefix.now.number c.args.prefix.now.count
+    c.args.prefix.now.table.now c.requires.prefix.table c.args.terms.now c.args.found.now.items
     (c.steps_may_fit.ensures c.if-not-steps_may_fit.true)
 
 pub first_unbound-requires : goal.first_unbound-requires
-first_unbound-requires t c = record { binding = (c.args.front.now.request.problem.now.objects, c.requires.binding) }
+first_unbound-requires t c = record { binding = (c.args.prefix.now.request.problem.now.objects, c.requires.binding) }
 
 pub bound-requires : goal.bound-requires
 bound-requires t c = slice_get_within c.args.terms.now c.in-Some.parameter (Var c.in-Some.parameter) c.in-Some.ensures.some
@@ -34,24 +34,24 @@ keep_all-requires t c =
     (count-falls terms v v object c.in-Some.ensures.some) in (
       omega (arith, less, c.decreases),
       (
-        c.requires.front,
-        subst (IsBinding c.args.front.now.request.problem.now.objects) (sym next_is)
-            (bound-binding c.args.front.now.request.problem.now.objects terms v c.in-Some.ensures.some object c.requires.binding
+        c.requires.prefix,
+        subst (IsBinding c.args.prefix.now.request.problem.now.objects) (sym next_is)
+            (bound-binding c.args.prefix.now.request.problem.now.objects terms v c.in-Some.ensures.some object c.requires.binding
             c.loop-object-test.true),
       ),
     )
 
 pub loop-object-init : goal.loop-object-init
 loop-object-init t c =
-    objects-none c.args.front.now.request.problem.now c.args.front.now.request.tables.now c.args.front.now.request.wanted.now
-    c.args.front.now.request.stack.now c.args.front.now.request.model.now.atoms c.args.front.now.number c.args.front.now.count
+    objects-none c.args.prefix.now.request.problem.now c.args.prefix.now.request.tables.now c.args.prefix.now.request.wanted.now
+    c.args.prefix.now.request.stack.now c.args.prefix.now.request.model.now.atoms c.args.prefix.now.number c.args.prefix.now.count
     c.args.terms.now c.in-Some.parameter c.args.found.now.items c.in-Some.ensures.some
 
 pub loop-object-preserved-then-not-fits_sort : goal.loop-object-preserved-then-not-fits_sort
 loop-object-preserved-then-not-fits_sort t c =
-    objects-passed c.args.front.now.request.problem.now c.args.front.now.request.tables.now c.args.front.now.request.wanted.now
-    c.args.front.now.request.stack.now c.args.front.now.request.model.now.atoms c.args.front.now.number c.args.front.now.count
-    c.args.front.now.table.now c.requires.front.table c.args.terms.now c.in-Some.parameter c.loop-object.object c.parameter_sort-sort.result
+    objects-passed c.args.prefix.now.request.problem.now c.args.prefix.now.request.tables.now c.args.prefix.now.request.wanted.now
+    c.args.prefix.now.request.stack.now c.args.prefix.now.request.model.now.atoms c.args.prefix.now.number c.args.prefix.now.count
+    c.args.prefix.now.table.now c.requires.prefix.table c.args.terms.now c.in-Some.parameter c.loop-object.object c.parameter_sort-sort.result
     c.args.found.now.items c.loop-object.found.items c.in-Some.ensures.some c.parameter_sort-sort.ensures
     (λ fits. said_no c.fits_sort.result c.fits_sort.ensures c.if-not-fits_sort.true
     (subst (λ (sorts : List ℕ). FitsSort sorts c.parameter_sort-sort.result c.loop-object.object) (sym c.as_slice-in-loop-object.ensures)
@@ -59,23 +59,23 @@ loop-object-preserved-then-not-fits_sort t c =
 
 pub loop-object-preserved : goal.loop-object-preserved
 loop-object-preserved t c =
-    objects-next c.args.front.now.request.problem.now c.args.front.now.request.tables.now c.args.front.now.request.wanted.now
-    c.args.front.now.request.stack.now c.args.front.now.request.model.now.atoms c.args.front.now.number c.args.front.now.count
+    objects-next c.args.prefix.now.request.problem.now c.args.prefix.now.request.tables.now c.args.prefix.now.request.wanted.now
+    c.args.prefix.now.request.stack.now c.args.prefix.now.request.model.now.atoms c.args.prefix.now.number c.args.prefix.now.count
     c.args.terms.now c.deref.result.now c.in-Some.parameter c.loop-object.object c.args.found.now.items c.loop-object.found.items
     c.keep_all.new.found.items
     c.in-Some.ensures.some (c.deref.ensures.value ∙ c.in_ok-next.ensures) c.loop-object.invariant c.in_ok-keep_all.ensures.gathers
 
 pub returns-clause-gathers : goal.returns-clause-gathers
 returns-clause-gathers t c =
-    objects-all c.args.front.now.request.problem.now c.args.front.now.request.tables.now c.args.front.now.request.wanted.now
-    c.args.front.now.request.stack.now c.args.front.now.request.model.now.atoms c.args.front.now.number c.args.front.now.count
+    objects-all c.args.prefix.now.request.problem.now c.args.prefix.now.request.tables.now c.args.prefix.now.request.wanted.now
+    c.args.prefix.now.request.stack.now c.args.prefix.now.request.model.now.atoms c.args.prefix.now.number c.args.prefix.now.count
     c.args.terms.now c.in-Some.parameter c.loop-object.object c.args.found.now.items c.loop-object.found.items c.in-Some.ensures.some
     c.loop-object-test.false c.loop-object.invariant
 
 pub returns-in-None-clause-gathers : goal.returns-in-None-clause-gathers
 returns-in-None-clause-gathers t c =
-    on_ok c.keep_open_macro.result (objects-closed c.args.front.now.request.problem.now c.args.front.now.request.tables.now
-    c.args.front.now.request.wanted.now c.args.front.now.request.stack.now c.args.front.now.request.model.now.atoms
-    c.args.front.now.number c.args.front.now.count c.args.terms.now c.as_slice.result.now c.args.found.now.items
+    on_ok c.keep_open_macro.result (objects-closed c.args.prefix.now.request.problem.now c.args.prefix.now.request.tables.now
+    c.args.prefix.now.request.wanted.now c.args.prefix.now.request.stack.now c.args.prefix.now.request.model.now.atoms
+    c.args.prefix.now.number c.args.prefix.now.count c.args.terms.now c.as_slice.result.now c.args.found.now.items
     c.keep_open_macro.new.found.items c.in-None.ensures.none (c.as_slice.ensures.value ∙ c.in_ok-sigma-in-None.ensures))
     c.keep_open_macro.ensures.gathers

@@ -7,7 +7,7 @@ decreases-keep_all l = open_term_count l.terms.now
 
 abbrev pub invariant-loop-object : goal.invariant-loop-object
 invariant-loop-object l =
-    GathersEntries l.front.request.problem.now l.front.request.tables.now l.front.request.wanted.now l.front.request.stack.now
-    l.front.request.model.now.atoms
-    (IsMacroBefore l.front.request.problem.now.objects l.front.number l.front.count l.terms l.parameter l.object) l.initial.found.items
+    GathersEntries l.prefix.request.problem.now l.prefix.request.tables.now l.prefix.request.wanted.now l.prefix.request.stack.now
+    l.prefix.request.model.now.atoms
+    (IsMacroBefore l.prefix.request.problem.now.objects l.prefix.number l.prefix.count l.terms l.parameter l.object) l.initial.found.items
     l.found.items

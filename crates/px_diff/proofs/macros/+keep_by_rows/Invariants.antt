@@ -10,8 +10,8 @@ decreases-keep_by_rows l = length l.numbers.now
 
 abbrev pub invariant-loop-next : goal.invariant-loop-next
 invariant-loop-next l =
-    GathersEntries l.front.request.problem.now l.front.request.tables.now l.front.request.wanted.now l.front.request.stack.now
-    l.front.request.model.now.atoms
+    GathersEntries l.prefix.request.problem.now l.prefix.request.tables.now l.prefix.request.wanted.now l.prefix.request.stack.now
+    l.prefix.request.model.now.atoms
     (λ (entry : Entry). OneOf (take l.next-index l.joins)
-    (λ (ts : List Term). IsMacroFitting l.front.request.problem.now.objects l.front.number l.front.count ts l.rows entry))
+    (λ (ts : List Term). IsMacroFitting l.prefix.request.problem.now.objects l.prefix.number l.prefix.count ts l.rows entry))
     l.initial.found.items l.found.items

@@ -18,8 +18,8 @@ rows_of_table-requires-clause-table c =
     learned-at c.args.request.now.problem.now c.args.request.now.tables.now c.args.number c.index-request-number.result c.requires.tables
     c.requires.number
 
-pub gather_front-requires-clause-front : goal.gather_front-requires-clause-front
-gather_front-requires-clause-front c = record {
+pub gather_prefix-requires-clause-prefix : goal.gather_prefix-requires-clause-prefix
+gather_prefix-requires-clause-prefix c = record {
   problem = c.requires.problem;
   tables = c.requires.tables;
   table = slice_get-read c.args.request.now.tables.now c.args.number c.index-request-number.result c.requires.number;
@@ -32,14 +32,14 @@ gather_front-requires-clause-front c = record {
   suffice = λ e. absurd (cc);
 }
 
-pub gather_front-requires-clause-rows : goal.gather_front-requires-clause-rows
-gather_front-requires-clause-rows c = c.in_ok-made.ensures
+pub gather_prefix-requires-clause-rows : goal.gather_prefix-requires-clause-rows
+gather_prefix-requires-clause-rows c = c.in_ok-made.ensures
 
 pub loop-count-preserved : goal.loop-count-preserved
 loop-count-preserved c =
     shorter-next c.args.request.now.problem.now c.args.request.now.tables.now c.args.request.now.wanted.now c.args.request.now.stack.now
     c.args.request.now.model.now.atoms c.args.number c.loop-count.count c.args.found.now.items c.loop-count.found.items
-    c.gather_front.new.found.items c.loop-count.invariant c.in_ok-gather_front.ensures.gathers
+    c.gather_prefix.new.found.items c.loop-count.invariant c.in_ok-gather_prefix.ensures.gathers
 
 pub returns-clause-gathers : goal.returns-clause-gathers
 returns-clause-gathers c =

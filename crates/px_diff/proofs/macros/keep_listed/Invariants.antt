@@ -7,8 +7,8 @@ use Rattle.px_diff.proofs.macros.keep_listed.Given as goal
 
 abbrev pub invariant-loop-terms : goal.invariant-loop-terms
 invariant-loop-terms l =
-    GathersEntries l.front.request.problem.now l.front.request.tables.now l.front.request.wanted.now l.front.request.stack.now
-    l.front.request.model.now.atoms
+    GathersEntries l.prefix.request.problem.now l.prefix.request.tables.now l.prefix.request.wanted.now l.prefix.request.stack.now
+    l.prefix.request.model.now.atoms
     (λ (entry : Entry). OneOf (take l.terms-index l.matches)
-    (λ (terms : List Term). IsMacroBy l.front.request.problem.now.objects l.front.number l.front.count terms entry))
+    (λ (terms : List Term). IsMacroBy l.prefix.request.problem.now.objects l.prefix.number l.prefix.count terms entry))
     l.initial.found.items l.found.items

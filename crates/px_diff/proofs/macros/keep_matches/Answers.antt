@@ -11,15 +11,15 @@ use Rattle.px_diff.proofs.macros.keep_matches.Goals as goal
 
 pub loop-terms-init : goal.loop-terms-init
 loop-terms-init c =
-    matched-none c.args.front.now.request.problem.now c.args.front.now.request.tables.now c.args.front.now.request.wanted.now
-    c.args.front.now.request.stack.now c.args.front.now.request.model.now.atoms c.args.front.now.number c.args.front.now.count
-    (IsMacroTold c.args.front.now.request.problem.now.objects c.args.front.now.number c.args.front.now.count c.args.rows.now
+    matched-none c.args.prefix.now.request.problem.now c.args.prefix.now.request.tables.now c.args.prefix.now.request.wanted.now
+    c.args.prefix.now.request.stack.now c.args.prefix.now.request.model.now.atoms c.args.prefix.now.number c.args.prefix.now.count
+    (IsMacroTold c.args.prefix.now.request.problem.now.objects c.args.prefix.now.number c.args.prefix.now.count c.args.rows.now
     c.args.limited.now) c.args.found.now.items
 
 pub keep_told-requires-clause-binding : goal.keep_told-requires-clause-binding
 keep_told-requires-clause-binding c =
-    subst (IsBinding c.args.front.now.request.problem.now.objects) (sym c.as_slice.ensures)
-    (All-at (IsParameterMatch c.args.front.now.request.problem.now.objects c.args.front.now.table.now.params) c.args.matches.now
+    subst (IsBinding c.args.prefix.now.request.problem.now.objects) (sym c.as_slice.ensures)
+    (All-at (IsParameterMatch c.args.prefix.now.request.problem.now.objects c.args.prefix.now.table.now.params) c.args.matches.now
     c.terms-item.result
     c.requires.matches (contains_here c.args.matches.now c.loop-terms.terms-index c.terms-item.result c.loop-terms-test.true
     c.terms-item.is)).binding
@@ -28,7 +28,7 @@ pub keep_told-requires-clause-rows : goal.keep_told-requires-clause-rows
 keep_told-requires-clause-rows c =
     subst (λ (n : ℕ). All (All (λ (choice : List Term). length choice ≡ n)) c.args.rows.now)
     (sym (ap length c.as_slice.ensures
-    ∙ (All-at (IsParameterMatch c.args.front.now.request.problem.now.objects c.args.front.now.table.now.params) c.args.matches.now
+    ∙ (All-at (IsParameterMatch c.args.prefix.now.request.problem.now.objects c.args.prefix.now.table.now.params) c.args.matches.now
     c.terms-item.result c.requires.matches (contains_here c.args.matches.now c.loop-terms.terms-index c.terms-item.result
     c.loop-terms-test.true c.terms-item.is)).long)) c.requires.rows
 
@@ -36,26 +36,26 @@ pub keep_told-requires-clause-limited : goal.keep_told-requires-clause-limited
 keep_told-requires-clause-limited c =
     subst (λ (n : ℕ). All (All (λ (choice : List Term). length choice ≡ n)) c.args.limited.now)
     (sym (ap length c.as_slice.ensures
-    ∙ (All-at (IsParameterMatch c.args.front.now.request.problem.now.objects c.args.front.now.table.now.params) c.args.matches.now
+    ∙ (All-at (IsParameterMatch c.args.prefix.now.request.problem.now.objects c.args.prefix.now.table.now.params) c.args.matches.now
     c.terms-item.result c.requires.matches (contains_here c.args.matches.now c.loop-terms.terms-index c.terms-item.result
     c.loop-terms-test.true c.terms-item.is)).long)) c.requires.limited
 
 pub loop-terms-preserved : goal.loop-terms-preserved
 loop-terms-preserved c =
-    matched-next c.args.front.now.request.problem.now c.args.front.now.request.tables.now c.args.front.now.request.wanted.now
-    c.args.front.now.request.stack.now c.args.front.now.request.model.now.atoms c.args.front.now.number c.args.front.now.count
-    (IsMacroTold c.args.front.now.request.problem.now.objects c.args.front.now.number c.args.front.now.count c.args.rows.now
+    matched-next c.args.prefix.now.request.problem.now c.args.prefix.now.request.tables.now c.args.prefix.now.request.wanted.now
+    c.args.prefix.now.request.stack.now c.args.prefix.now.request.model.now.atoms c.args.prefix.now.number c.args.prefix.now.count
+    (IsMacroTold c.args.prefix.now.request.problem.now.objects c.args.prefix.now.number c.args.prefix.now.count c.args.rows.now
     c.args.limited.now) c.args.matches.now c.loop-terms.terms-index c.terms-item.result c.args.found.now.items c.loop-terms.found.items
     c.keep_told.new.found.items c.loop-terms-test.true c.terms-item.is c.loop-terms.invariant
-    (subst (λ (l : List Term). GathersEntries c.args.front.now.request.problem.now c.args.front.now.request.tables.now
-    c.args.front.now.request.wanted.now c.args.front.now.request.stack.now c.args.front.now.request.model.now.atoms
-    (IsMacroTold c.args.front.now.request.problem.now.objects c.args.front.now.number c.args.front.now.count c.args.rows.now
+    (subst (λ (l : List Term). GathersEntries c.args.prefix.now.request.problem.now c.args.prefix.now.request.tables.now
+    c.args.prefix.now.request.wanted.now c.args.prefix.now.request.stack.now c.args.prefix.now.request.model.now.atoms
+    (IsMacroTold c.args.prefix.now.request.problem.now.objects c.args.prefix.now.number c.args.prefix.now.count c.args.rows.now
     c.args.limited.now l) c.loop-terms.found.items c.keep_told.new.found.items) c.as_slice.ensures c.in_ok-keep_told.ensures.gathers)
 
 pub returns-clause-gathers : goal.returns-clause-gathers
 returns-clause-gathers c =
-    matched-all c.args.front.now.request.problem.now c.args.front.now.request.tables.now c.args.front.now.request.wanted.now
-    c.args.front.now.request.stack.now c.args.front.now.request.model.now.atoms c.args.front.now.number c.args.front.now.count
-    (IsMacroTold c.args.front.now.request.problem.now.objects c.args.front.now.number c.args.front.now.count c.args.rows.now
+    matched-all c.args.prefix.now.request.problem.now c.args.prefix.now.request.tables.now c.args.prefix.now.request.wanted.now
+    c.args.prefix.now.request.stack.now c.args.prefix.now.request.model.now.atoms c.args.prefix.now.number c.args.prefix.now.count
+    (IsMacroTold c.args.prefix.now.request.problem.now.objects c.args.prefix.now.number c.args.prefix.now.count c.args.rows.now
     c.args.limited.now) c.args.matches.now c.loop-terms.terms-index c.args.found.now.items c.loop-terms.found.items c.loop-terms-test.false
     c.loop-terms.invariant

@@ -7,8 +7,8 @@ use Rattle.px_diff.proofs.macros.keep_told.Given as goal
 
 abbrev pub invariant-loop-place : goal.invariant-loop-place
 invariant-loop-place l =
-    GathersEntries l.front.request.problem.now l.front.request.tables.now l.front.request.wanted.now l.front.request.stack.now
-    l.front.request.model.now.atoms
+    GathersEntries l.prefix.request.problem.now l.prefix.request.tables.now l.prefix.request.wanted.now l.prefix.request.stack.now
+    l.prefix.request.model.now.atoms
     (λ (entry : Entry). OneOf (take l.place l.limited)
-    (λ (row : List (List Term)). IsMacroFitting l.front.request.problem.now.objects l.front.number l.front.count l.terms
+    (λ (row : List (List Term)). IsMacroFitting l.prefix.request.problem.now.objects l.prefix.number l.prefix.count l.terms
     (row ∷ []) entry)) l.initial.found.items l.found.items

@@ -33,12 +33,12 @@ precondition_of-requires-clause-count t c = c.requires.partial.count
 
 pub rest_answer-requires-clause-formula : goal.rest_answer-requires-clause-formula
 rest_answer-requires-clause-formula t c =
-    subst (All (IsAtomOf c.args.request.now.problem.now c.args.partial.now.vars)) (sym (c.deref.ensures.value ∙ c.in_ok-formula.ensures))
+    subst (All (IsAtomOf c.args.request.now.problem.now c.args.partial.now.variable_count)) (sym (c.deref.ensures.value ∙ c.in_ok-formula.ensures))
     (needs-are c.args.request.now.problem.now c.args.partial.now c.requires.problem c.requires.partial)
 
 pub whole_answer-requires-clause-formula : goal.whole_answer-requires-clause-formula
 whole_answer-requires-clause-formula t c =
-    subst (All (IsAtomOf c.args.request.now.problem.now c.args.partial.now.vars)) (sym (c.deref-2.ensures.value ∙ c.in_ok-formula.ensures))
+    subst (All (IsAtomOf c.args.request.now.problem.now c.args.partial.now.variable_count)) (sym (c.deref-2.ensures.value ∙ c.in_ok-formula.ensures))
     (needs-are c.args.request.now.problem.now c.args.partial.now c.requires.problem c.requires.partial)
 
 pub keep_open-requires-clause-answer : goal.keep_open-requires-clause-answer
@@ -46,14 +46,14 @@ keep_open-requires-clause-answer t c =
     let problem = c.args.request.now.problem.now in
     let partial = c.args.partial.now in
     let rest =
-    subst (λ (l : List Atom). IsReorderedAnswer problem c.args.request.now.model.now.atoms l partial.vars c.in-Some.answer.patterns.items
+    subst (λ (l : List Atom). IsReorderedAnswer problem c.args.request.now.model.now.atoms l partial.variable_count c.in-Some.answer.patterns.items
     c.in-Some.answer.provable.atoms) (c.deref.ensures.value ∙ c.in_ok-formula.ensures)
-    (some_found (λ answer. IsReorderedAnswer problem c.args.request.now.model.now.atoms c.deref.result.now partial.vars
+    (some_found (λ answer. IsReorderedAnswer problem c.args.request.now.model.now.atoms c.deref.result.now partial.variable_count
     answer.patterns.items
     answer.provable.atoms) c.in_ok-answer.field-0 c.in-Some.answer c.in-Some.is c.in_ok-answer.ensures) in (
       rest.ordered,
-      reordered-all (IsAtomOf problem partial.vars) rest.rest rest.ordered rest.reordered
-          (rest-all (IsAtomOf problem partial.vars) problem (precondition problem partial.inst) rest.rest rest.is_rest
+      reordered-all (IsAtomOf problem partial.variable_count) rest.rest rest.ordered rest.reordered
+          (rest-all (IsAtomOf problem partial.variable_count) problem (precondition problem partial.inst) rest.rest rest.is_rest
           (needs-are problem partial c.requires.problem c.requires.partial)),
       rest.answer,
     )
@@ -66,16 +66,16 @@ returns-in-Some-clause-gathers t c =
     let provable = c.in-Some.answer.provable.atoms in
     let model = c.args.request.now.model.now.atoms in
     let rest =
-    subst (λ (l : List Atom). IsReorderedAnswer problem model l partial.vars patterns provable)
+    subst (λ (l : List Atom). IsReorderedAnswer problem model l partial.variable_count patterns provable)
     (c.deref.ensures.value ∙ c.in_ok-formula.ensures)
-    (some_found (λ answer. IsReorderedAnswer problem model c.deref.result.now partial.vars answer.patterns.items answer.provable.atoms)
+    (some_found (λ answer. IsReorderedAnswer problem model c.deref.result.now partial.variable_count answer.patterns.items answer.provable.atoms)
     c.in_ok-answer.field-0 c.in-Some.answer c.in-Some.is c.in_ok-answer.ensures) in
     let lists = lists_of problem.objects patterns in
     let listed =
-    lists-reordered (setting_of problem model) partial.vars rest.rest rest.ordered rest.reordered lists
-    (patterns-are (setting_of problem model) rest.ordered partial.vars patterns rest.answer.all) in
+    lists-reordered (setting_of problem model) partial.variable_count rest.rest rest.ordered rest.reordered lists
+    (patterns-are (setting_of problem model) rest.ordered partial.variable_count patterns rest.answer.all) in
     rest-gathered problem c.requires.problem model partial c.requires.partial rest.rest rest.is_rest lists listed provable
-    (none-provable (setting_of problem model) rest.ordered partial.vars patterns provable rest.answer)
+    (none-provable (setting_of problem model) rest.ordered partial.variable_count patterns provable rest.answer)
     c.args.request.now.tables.now c.args.request.now.wanted.now c.args.request.now.stack.now c.atoms-facts.ensures.model.ascending rest.few
     rest.answer.unlimited c.args.found.now.items c.keep_open.new.found.items c.in_ok-keep_open-in-Some.ensures
 
@@ -84,9 +84,9 @@ keep_open-requires-in-Some-2-clause-answer t c =
     let problem = c.args.request.now.problem.now in
     let partial = c.args.partial.now in (
       c.deref-2.result.now,
-      subst (All (IsAtomOf problem partial.vars)) (sym (c.deref-2.ensures.value ∙ c.in_ok-formula.ensures))
+      subst (All (IsAtomOf problem partial.variable_count)) (sym (c.deref-2.ensures.value ∙ c.in_ok-formula.ensures))
           (needs-are problem partial c.requires.problem c.requires.partial),
-      some_found (λ answer. IsGapAnswer (setting_of problem c.args.request.now.model.now.atoms) c.deref-2.result.now partial.vars
+      some_found (λ answer. IsGapAnswer (setting_of problem c.args.request.now.model.now.atoms) c.deref-2.result.now partial.variable_count
           answer.patterns.items answer.provable.atoms) c.in_ok-answer-2.field-0 c.in-Some-2.answer c.in-Some-2.is
           c.in_ok-answer-2.ensures,
     )
@@ -99,14 +99,14 @@ returns-in-Some-2-clause-gathers t c =
     let provable = c.in-Some-2.answer.provable.atoms in
     let s = setting_of problem c.args.request.now.model.now.atoms in
     let answer =
-    subst (λ (l : List Atom). IsGapAnswer s l partial.vars patterns provable)
+    subst (λ (l : List Atom). IsGapAnswer s l partial.variable_count patterns provable)
     (c.deref-2.ensures.value ∙ c.in_ok-formula.ensures)
-    (some_found (λ answer. IsGapAnswer s c.deref-2.result.now partial.vars answer.patterns.items answer.provable.atoms)
+    (some_found (λ answer. IsGapAnswer s c.deref-2.result.now partial.variable_count answer.patterns.items answer.provable.atoms)
     c.in_ok-answer-2.field-0 c.in-Some-2.answer c.in-Some-2.is c.in_ok-answer-2.ensures) in
     all-gathered problem c.requires.problem c.args.request.now.model.now.atoms partial c.requires.partial
-    (lists_of problem.objects patterns) (answer-listed s (precondition problem partial.inst) partial.vars patterns provable answer)
+    (lists_of problem.objects patterns) (answer-listed s (precondition problem partial.inst) partial.variable_count patterns provable answer)
     provable
-    (none-provable s (precondition problem partial.inst) partial.vars patterns provable answer)
+    (none-provable s (precondition problem partial.inst) partial.variable_count patterns provable answer)
     c.args.request.now.tables.now c.args.request.now.wanted.now c.args.request.now.stack.now answer.unlimited c.args.found.now.items
     c.keep_open-in-Some-2.new.found.items c.in_ok-keep_open-in-Some-2.ensures
 

@@ -6,7 +6,7 @@ use Rattle.px_entries.specs.Instances.{Fills}
 use Rattle.px_diff.proofs.pushes.+gather.Given as goal
 
 abbrev pub decreases-gather : goal.decreases-gather
-decreases-gather l = l.partial.now.vars
+decreases-gather l = l.partial.now.variable_count
 
 abbrev pub invariant-loop-object : goal.invariant-loop-object
 invariant-loop-object l =

@@ -25,14 +25,14 @@ choices_of-requires-clause-patterns c =
     let problem = c.args.request.now.problem.now in
     let partial = c.args.partial.now in
     subst (All (IsPlainPattern problem.objects)) (sym c.deref.ensures.value)
-    (patterns-plain problem c.requires.problem c.args.request.now.model.now.atoms c.requires.answer.0 partial.vars c.requires.answer.1
+    (patterns-plain problem c.requires.problem c.args.request.now.model.now.atoms c.requires.answer.0 partial.variable_count c.requires.answer.1
     c.args.answer.now.patterns.items c.requires.answer.2.all)
 
 pub choices_of-requires-clause-provable : goal.choices_of-requires-clause-provable
 choices_of-requires-clause-provable c =
     let problem = c.args.request.now.problem.now in
     let partial = c.args.partial.now in
-    provable-ground problem c.requires.problem c.args.request.now.model.now.atoms c.requires.answer.0 partial.vars c.requires.answer.1
+    provable-ground problem c.requires.problem c.args.request.now.model.now.atoms c.requires.answer.0 partial.variable_count c.requires.answer.1
     c.args.answer.now.patterns.items c.args.answer.now.provable.atoms c.requires.answer.2
 
 pub keep_choices-requires-clause-choices : goal.keep_choices-requires-clause-choices
@@ -48,7 +48,7 @@ keep_choices-requires-clause-choices c =
     subst (λ (l : List (List ℕ)). AreChoices problem.objects sorts wanted patterns l provable) (sym c.deref-2.ensures.value)
     (subst (λ (ps : List GapPattern). AreChoices problem.objects sorts wanted ps c.in_ok-choices.choices.items provable)
     c.deref.ensures.value c.in_ok-choices.ensures) in
-    let listed = patterns-are (setting_of problem model) c.requires.answer.0 partial.vars patterns c.requires.answer.2.all in
+    let listed = patterns-are (setting_of problem model) c.requires.answer.0 partial.variable_count patterns c.requires.answer.2.all in
     chosen-for problem partial (lists_of problem.objects patterns) provable c.deref-2.result.now (ObjectsFit sorts wanted) choices_are
     (stands-by problem model c.requires.answer.0 partial (lists_of problem.objects patterns) listed)
 
@@ -65,7 +65,7 @@ returns c =
     subst (λ (l : List (List ℕ)). AreChoices problem.objects sorts wanted patterns l provable) (sym c.deref-2.ensures.value)
     (subst (λ (ps : List GapPattern). AreChoices problem.objects sorts wanted ps c.in_ok-choices.choices.items provable)
     c.deref.ensures.value c.in_ok-choices.ensures) in
-    let listed = patterns-are (setting_of problem model) c.requires.answer.0 partial.vars patterns c.requires.answer.2.all in
+    let listed = patterns-are (setting_of problem model) c.requires.answer.0 partial.variable_count patterns c.requires.answer.2.all in
     on_ok c.keep_choices.result
     (λ made inst. then-same (made inst) (chosen-open problem partial (lists_of problem.objects patterns) provable c.deref-2.result.now
     (ObjectsFit sorts wanted) choices_are

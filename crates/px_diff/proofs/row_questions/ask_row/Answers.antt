@@ -17,7 +17,7 @@ have_few-requires-clause-forms c =
     let are : AreForms c.in-Ok.patterns.items c.deref-in-Ok.result.now =
     subst (AreForms c.in-Ok.patterns.items) (sym c.deref-in-Ok.ensures.value)
     (subst (λ (ps : List GapPattern). AreForms ps c.in_ok-forms-in-Ok.forms.items) c.deref.ensures.value c.in_ok-forms-in-Ok.ensures) in
-    forms-are c.args.problem.now c.requires.problem c.args.model.now.atoms c.args.formula.now c.args.vars c.requires.formula
+    forms-are c.args.problem.now c.requires.problem c.args.model.now.atoms c.args.formula.now c.args.variable_count c.requires.formula
     c.in-Ok.patterns.items c.in-Ok.ensures.patterns c.deref-in-Ok.result.now are
 
 pub returns-then-branch : goal.returns-then-branch
@@ -25,6 +25,6 @@ returns-then-branch c =
     let are : AreForms c.in-Ok.patterns.items c.deref-in-Ok.result.now =
     subst (AreForms c.in-Ok.patterns.items) (sym c.deref-in-Ok.ensures.value)
     (subst (λ (ps : List GapPattern). AreForms ps c.in_ok-forms-in-Ok.forms.items) c.deref.ensures.value c.in_ok-forms-in-Ok.ensures) in
-    row-answer c.args.problem.now c.requires.problem c.args.model.now.atoms c.args.formula.now c.args.vars c.requires.formula
+    row-answer c.args.problem.now c.requires.problem c.args.model.now.atoms c.args.formula.now c.args.variable_count c.requires.formula
     c.in-Ok.patterns.items c.in-Ok.ensures.patterns c.deref-in-Ok.result.now are c.in-Ok.ensures.few
     (c.in_ok-have_few-in-Ok.ensures c.if-branch.true)

@@ -7,10 +7,10 @@ use Rattle.px_diff.proofs.row_questions.has_few.Goals as goal
 
 pub gap_patterns-requires-clause-formula : goal.gap_patterns-requires-clause-formula
 gap_patterns-requires-clause-formula c =
-    let vars = length c.args-2.result.now in
-    All-cons (IsAtomOf c.args.problem.now vars) c.args.form.now []
+    let variable_count = length c.args-2.result.now in
+    All-cons (IsAtomOf c.args.problem.now variable_count) c.args.form.now []
     (subst (λ (n : ℕ). IsAtomOf c.args.problem.now n c.args.form.now) (ap length (sym c.args-2.ensures.value)) c.requires.form.is_atom)
-    (All-nil (IsAtomOf c.args.problem.now vars))
+    (All-nil (IsAtomOf c.args.problem.now variable_count))
 
 pub returns-in-Ok : goal.returns-in-Ok
 returns-in-Ok c =

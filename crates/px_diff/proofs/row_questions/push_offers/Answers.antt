@@ -9,11 +9,11 @@ use Rattle.px_base.proofs.Loops.{contains_here}
 use Rattle.px_diff.proofs.RowSplitting.{widens-next, widens-none}
 use Rattle.px_diff.proofs.row_questions.push_offers.Goals as goal
 
-long-here : (vars : ℕ) (patterns : List GapPattern) (place : ℕ) (pattern : GapPattern) (terms : List Term)
-    → All (λ (p : GapPattern). length p.terms ≡ vars) patterns → place < length patterns → pattern ≡ get_or patterns place pattern
-    → terms ≡ pattern.terms → length terms ≡ vars
-long-here vars patterns place pattern terms all below is same =
-    ap length same ∙ All-at (λ (p : GapPattern). length p.terms ≡ vars) patterns pattern all (contains_here patterns place pattern below is)
+long-here : (variable_count : ℕ) (patterns : List GapPattern) (place : ℕ) (pattern : GapPattern) (terms : List Term)
+    → All (λ (p : GapPattern). length p.terms ≡ variable_count) patterns → place < length patterns → pattern ≡ get_or patterns place pattern
+    → terms ≡ pattern.terms → length terms ≡ variable_count
+long-here variable_count patterns place pattern terms all below is same =
+    ap length same ∙ All-at (λ (p : GapPattern). length p.terms ≡ variable_count) patterns pattern all (contains_here patterns place pattern below is)
 
 here_or_after : (count passed place k : ℕ) → place + 1 + passed ≡ count → count - (passed + 1) ≤ k → (place ≡ k) ⊎ (count - passed ≤ k)
 here_or_after count passed place k is low = grind (arith, is, low)

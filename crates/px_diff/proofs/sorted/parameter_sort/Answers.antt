@@ -8,12 +8,12 @@ use Rattle.px_diff.proofs.sorted.parameter_sort.Goals as goal
 
 pub returns-then-sort-ne0 : goal.returns-then-sort-ne0
 returns-then-sort-ne0 c = λ sigma is within.
-    let front = c.args.front.now in
-    let problem = front.request.problem.now in
+    let prefix = c.args.prefix.now in
+    let problem = prefix.request.problem.now in
     let step = c.index-as_slice-place.result in
     let wanted = (schema_of problem step).param_sorts in
     let fits =
-    read-step-fits problem front.table.now front.count sigma is c.as_slice.result.now c.loop-place.place step c.as_slice.ensures
+    read-step-fits problem prefix.table.now prefix.count sigma is c.as_slice.result.now c.loop-place.place step c.as_slice.ensures
     c.index-as_slice-place.is (omega (arith, c.loop-place-test.true)) in
     subst (λ (sorts : List ℕ). FitsSort sorts c.sort_of-sort.result (slice_index sigma c.args.parameter)) c.as_slice-in-loop-place.ensures
     (c.sort_of-sort.ensures sigma within (read-fits problem.object_sorts wanted c.as_slice-in-loop-place.result.now

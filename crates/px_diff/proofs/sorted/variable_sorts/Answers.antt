@@ -11,7 +11,7 @@ pub loop-variable-preserved : goal.loop-variable-preserved
 loop-variable-preserved c =
     let problem = c.args.problem.now in
     let partial = c.args.partial.now in
-    let few : c.loop-variable.variable < partial.vars = c.loop-variable-test.true in
+    let few : c.loop-variable.variable < partial.variable_count = c.loop-variable-test.true in
     record {
       long = length-set c.loop-variable.sorts c.loop-variable.variable c.sort_of.result ∙ c.loop-variable.invariant.long;
       fits = λ objects are well_sorted.

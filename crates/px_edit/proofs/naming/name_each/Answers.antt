@@ -12,10 +12,10 @@ name_term-next-requires c = omega (arith, c.loop-term.invariant.left, c.requires
 pub loop-term-preserved : goal.loop-term-preserved
 loop-term-preserved c =
     let long : length c.loop-term.names ≡ length c.args.names.now = c.loop-term.invariant.long in
-    let front = take c.loop-term.term-index c.args.terms.now in
+    let prefix = take c.loop-term.term-index c.args.terms.now in
     let before =
-    subst (λ n. AreNamesAlong n front c.loop-term.names c.loop-term.next) (sym long) c.loop-term.invariant.named in
-    let after = c.name_term-next.ensures.names front before in
+    subst (λ n. AreNamesAlong n prefix c.loop-term.names c.loop-term.next) (sym long) c.loop-term.invariant.named in
+    let after = c.name_term-next.ensures.names prefix before in
     record {
       long = c.name_term-next.ensures.long ∙ long;
       left = c.name_term-next.ensures.left ∙ c.loop-term.invariant.left;

@@ -20,11 +20,11 @@ pub returns : goal.returns
 returns c = λ problem is.
     let number = new_number c.args.kept.now in
     let rows = c.loop-place.made.items in
-    let front =
+    let prefix =
     mapped_all (λ k. map (in_columns number) (slice_index_or (rows_of c.args.table.now.proofs) (k - 1) [])) c.args.kept.now
     c.loop-place.place (rows_of rows) c.loop-place-test.false c.loop-place.invariant
     ∙ map_twice (map (in_columns number)) (λ k. slice_index_or (rows_of c.args.table.now.proofs) (k - 1) []) c.args.kept.now in
     ap rows_of c.in_ok-push-2.ensures.items ∙ map-append (map derivation_of) rows (c.from_proofs-last.result ∷ [])
-    ∙ ap (λ (l : List (List Derivation)). l ++ map derivation_of c.from_proofs-last.result ∷ []) front
+    ∙ ap (λ (l : List (List Derivation)). l ++ map derivation_of c.from_proofs-last.result ∷ []) prefix
     ∙ ap (λ (r : List Derivation). map (map (in_columns number)) (kept_of [] c.args.kept.now (rows_of c.args.table.now.proofs)) ++ r ∷ [])
     (ap (map derivation_of) c.from_proofs-last.ensures ∙ c.in_ok-facts.ensures problem c.args.table.now is)

@@ -9,4 +9,4 @@ returns c =
     let xs = map signed_view c.args.goal.now in
     commanded Pursue c.add_command.result _ (with_names a_result (c.args.name.now ∷ []) d) _ _ (length d.names.results)
     _ (map (atom_of d (variable_names_of xs)) xs) _ (length (variable_names_of xs)) c.add_command.ensures
-    c.in_ok-name.ensures.declared c.in_ok-name.ensures.number c.in_ok-goal.ensures.atoms c.in_ok-goal.ensures.vars
+    c.in_ok-name.ensures.declared c.in_ok-name.ensures.number c.in_ok-goal.ensures.atoms c.in_ok-goal.ensures.variable_count

@@ -11,7 +11,7 @@ returns-clause-atoms c =
     (ap (map text_of) c.deref.ensures.value ∙ c.in_ok-variables.ensures.names)
     ∙ sym (map_map (atom_of d (variable_names_of xs)) signed_view c.args.goal.now)
 
-pub returns-clause-vars : goal.returns-clause-vars
-returns-clause-vars c =
+pub returns-clause-variable_count : goal.returns-clause-variable_count
+returns-clause-variable_count c =
     let items : c.len.result ≡ length c.in_ok-variables.variables.items = grind (arith, common_steps) in
     items ∙ c.in_ok-variables.ensures.count

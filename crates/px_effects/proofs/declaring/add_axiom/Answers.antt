@@ -49,7 +49,7 @@ returns-in-Ok c =
     ∙ ap (λ vs. map (λ x. literal_of d vs (signed_view x)) c.args.literals.now)
     (ap (map text_of) c.deref.ensures.value ∙ c.in_ok-variables.ensures.names)
     ∙ sym (map_map (literal_of d (variable_names_of xs)) signed_view c.args.literals.now) in
-    let new : ◌≡◌ {A = Clause} (record { vars = c.len.result; lits = c.deref-2.result.now }) (clause_of d xs)
-    = λ i. record { vars = count i; lits = lits i } in
+    let new : ◌≡◌ {A = Clause} (record { variable_count = c.len.result; lits = c.deref-2.result.now }) (clause_of d xs)
+    = λ i. record { variable_count = count i; lits = lits i } in
     ap (λ (axioms : List Clause). record d { axioms = axioms })
     (c.in-Ok.ensures.added ∙ ap (λ (clause : Clause). d.axioms ++ clause ∷ []) new)

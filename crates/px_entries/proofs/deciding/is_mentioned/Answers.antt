@@ -10,7 +10,7 @@ abbrev AreAbout : ℕ → List Lit → Type 0
 AreAbout pred lits = Any (λ (lit : Lit). lit.atom.pred ≡ pred) lits
 
 abbrev empty : Clause
-empty = record { vars = 0; lits = [] }
+empty = record { variable_count = 0; lits = [] }
 
 pub returns-then-mentions : goal.returns-then-mentions
 returns-then-mentions c =

@@ -26,7 +26,7 @@ returns-in_ok-formula-in-Op c =
     subst (λ (e : Entry). IfOk c.known_row.result (IsKnownOf c.args.problem.now
     (obligations_of c.args.problem.now c.args.tables.now c.args.model.now.atoms e))) (sym c.in-Op.is)
     (subst (λ (l : List Atom). IfOk c.known_row.result
-    (IsKnownOf c.args.problem.now (record { formula = l; vars = 0; facts = c.args.model.now.atoms } ∷ [])))
+    (IsKnownOf c.args.problem.now (record { formula = l; variable_count = 0; facts = c.args.model.now.atoms } ∷ [])))
     (c.deref.ensures.value ∙ c.in_ok-formula-in-Op.ensures) c.known_row.ensures)
 
 pub returns-in-Macro : goal.returns-in-Macro

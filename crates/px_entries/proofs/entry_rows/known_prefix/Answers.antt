@@ -44,7 +44,7 @@ returns-then-is_limited c =
     (subst (λ n. place < n) (sym (steps-count table sigma c.args.prefix c.requires.prefix.within)) c.loop-place-test.true)
     (step-taken table sigma c.args.prefix place c.step_under-step.result c.loop-place-test.true c.step_under-step.ensures)
     c.loop-place.invariant
-    (subst (λ (l : List Atom). IsKnownOf problem (record { formula = l; vars = 0; facts = facts } ∷ []) c.in_ok-row.row)
+    (subst (λ (l : List Atom). IsKnownOf problem (record { formula = l; variable_count = 0; facts = facts } ∷ []) c.in_ok-row.row)
     (c.deref.ensures.value ∙ c.in_ok-formula.ensures ∙ ap (initial_atoms table sigma) (add-one place)) c.in_ok-row.ensures)
     c.in_ok-both.ensures (c.is_limited.ensures.0 c.if-is_limited.true)
 
@@ -66,7 +66,7 @@ loop-place-preserved c =
     (subst (λ n. place < n) (sym (steps-count table sigma c.args.prefix c.requires.prefix.within)) c.loop-place-test.true)
     (step-taken table sigma c.args.prefix place c.step_under-step.result c.loop-place-test.true c.step_under-step.ensures)
     c.loop-place.invariant
-    (subst (λ (l : List Atom). IsKnownOf problem (record { formula = l; vars = 0; facts = facts } ∷ []) c.in_ok-row.row)
+    (subst (λ (l : List Atom). IsKnownOf problem (record { formula = l; variable_count = 0; facts = facts } ∷ []) c.in_ok-row.row)
     (c.deref.ensures.value ∙ c.in_ok-formula.ensures ∙ ap (initial_atoms table sigma) (add-one place)) c.in_ok-row.ensures)
     c.in_ok-both.ensures c.in_ok-left.left.atoms (place + 1) c.in_ok-left.ensures (add-one place)
 

@@ -7,7 +7,7 @@ use Rattle.px_base.proofs.Loops.{all_before_next, is_false, is_true, not_any, sa
 use Rattle.px_entries.proofs.plain.axioms_mention_addable.Goals as goal
 
 abbrev empty : Clause
-empty = record { vars = 0; lits = [] }
+empty = record { variable_count = 0; lits = [] }
 
 pub returns-then-are_about_addable : goal.returns-then-are_about_addable
 returns-then-are_about_addable c =

@@ -15,12 +15,12 @@ known_plain-requires-clause-formula c =
 
 pub known_plain-requires-clause-unlimited : goal.known_plain-requires-clause-unlimited
 known_plain-requires-clause-unlimited c =
-    subst (λ (l : List Atom). AreUnlimited c.args.problem.now (record { formula = l; vars = 0; facts = c.args.model.now.atoms } ∷ []))
+    subst (λ (l : List Atom). AreUnlimited c.args.problem.now (record { formula = l; variable_count = 0; facts = c.args.model.now.atoms } ∷ []))
     (sym (c.deref.ensures.value ∙ c.in_ok-formula.ensures))
     (c.requires.never c.args.model.now.atoms c.atoms-facts.ensures.model.ascending (Op c.args.inst.now) c.requires.inst)
 
 pub returns : goal.returns
 returns c =
     subst (λ (l : List Atom). IfOk c.known_plain.result
-    (λ found. IfSome found (IsKnownOf c.args.problem.now (record { formula = l; vars = 0; facts = c.args.model.now.atoms } ∷ []))))
+    (λ found. IfSome found (IsKnownOf c.args.problem.now (record { formula = l; variable_count = 0; facts = c.args.model.now.atoms } ∷ []))))
     (c.deref.ensures.value ∙ c.in_ok-formula.ensures) c.known_plain.ensures

@@ -17,7 +17,7 @@ returns-then-is_empty c =
 
 pub returns : goal.returns
 returns c =
-    let needed : Obligation = record { formula = c.args.formula.now; vars = 0; facts = c.args.model.now.atoms } in
+    let needed : Obligation = record { formula = c.args.formula.now; variable_count = 0; facts = c.args.model.now.atoms } in
     let filled : 0 < length c.atoms-gaps.result.now =
     filled-test c.atoms-gaps.result.now c.is_empty.result c.is_empty.ensures c.if-is_empty.false in
     subst (IsOpenWith c.args.problem.now (needed ∷ [])) (sym (c.in_ok-from_slice.ensures ∙ c.atoms-gaps.ensures.value))

@@ -26,7 +26,7 @@ push_open-requires-clause-bound c =
           (subst (λ (n : ℕ). ArePlain n c.args.pattern.now.atoms) (sym long) c.requires.pattern.atoms_plain);
       binding =
           subst (IsBinding c.args.limit) (sym c.deref.ensures.value)
-          (unbound-binding c.args.limit c.args.pattern.now.vars c.in_ok-terms.terms.items c.in_ok-terms.ensures
+          (unbound-binding c.args.limit c.args.pattern.now.variable_count c.in_ok-terms.terms.items c.in_ok-terms.ensures
           c.requires.pattern.some_object);
       is_ground = c.requires.provable;
     }
@@ -37,8 +37,8 @@ returns c = on_ok c.push_open.result (λ made objects.
     let pattern = c.args.pattern.now in
     let provable = c.args.provable.now.atoms in
     let Fits : List ℕ → Type 0 = ObjectsFit c.args.sorting.now.object_sorts.now c.args.sorting.now.wanted.now in
-    let are : AreUnbound pattern.vars c.deref.result.now =
-    subst (AreUnbound pattern.vars) (sym c.deref.ensures.value) c.in_ok-terms.ensures in
+    let are : AreUnbound pattern.variable_count c.deref.result.now =
+    subst (AreUnbound pattern.variable_count) (sym c.deref.ensures.value) c.in_ok-terms.ensures in
     let here =
     subst (λ (xs : List Atom). Contains c.push_open.new.found.items objects
     ↔ (Contains c.args.found.now.items objects
@@ -49,5 +49,5 @@ returns c = on_ok c.push_open.result (λ made objects.
     ↔ (Contains c.args.found.now.items objects
     ⊎ (IsOpenChoice limit c.deref.result.now pattern.atoms provable ts objects × Fits objects)))
     c.as_slice-targets.ensures here in
-    then-same whole (fit-same (unbound-open limit pattern.vars c.deref.result.now pattern.atoms provable
+    then-same whole (fit-same (unbound-open limit pattern.variable_count c.deref.result.now pattern.atoms provable
     (λ values. map (object_under values) pattern.terms) objects are))) c.push_open.ensures

@@ -14,7 +14,7 @@ provable_of-requires-clause-forms c =
     let are : AreForms c.in_ok-patterns.patterns.items c.deref-2.result.now =
     subst (AreForms c.in_ok-patterns.patterns.items) (sym c.deref-2.ensures.value)
     (subst (λ (ps : List GapPattern). AreForms ps c.in_ok-forms.forms.items) c.deref.ensures.value c.in_ok-forms.ensures) in
-    forms-are c.args.problem.now c.requires.problem c.args.model.now.atoms c.args.formula.now c.args.vars c.requires.formula
+    forms-are c.args.problem.now c.requires.problem c.args.model.now.atoms c.args.formula.now c.args.variable_count c.requires.formula
     c.in_ok-patterns.patterns.items c.in_ok-patterns.ensures.patterns c.deref-2.result.now are
 
 pub returns-in_err-provable-clause-limited : goal.returns-in_err-provable-clause-limited
@@ -25,8 +25,8 @@ returns-in_err-provable-clause-limited c =
     (subst (λ (ps : List GapPattern). AreForms ps c.in_ok-forms.forms.items) c.deref.ensures.value c.in_ok-forms.ensures) in
     let p = err_from_is_err_and c.from_residual-in_err-provable.result c.from_residual-in_err-provable.ensures.1 in
     rw (p.1, p.2) (limit_weaker (LimitsOne s (IsStoodFor c.args.problem.now.objects c.deref-2.result.now))
-    (MeetsGapLimit s c.args.formula.now c.args.vars) _
-    (limit-of c.args.problem.now c.requires.problem c.args.model.now.atoms c.args.formula.now c.args.vars c.requires.formula
+    (MeetsGapLimit s c.args.formula.now c.args.variable_count) _
+    (limit-of c.args.problem.now c.requires.problem c.args.model.now.atoms c.args.formula.now c.args.variable_count c.requires.formula
     c.in_ok-patterns.patterns.items c.in_ok-patterns.ensures.patterns c.deref-2.result.now are) c.in_err-provable.ensures.limited)
 
 pub returns-clause-answer : goal.returns-clause-answer
@@ -34,6 +34,6 @@ returns-clause-answer c =
     let are : AreForms c.in_ok-patterns.patterns.items c.deref-2.result.now =
     subst (AreForms c.in_ok-patterns.patterns.items) (sym c.deref-2.ensures.value)
     (subst (λ (ps : List GapPattern). AreForms ps c.in_ok-forms.forms.items) c.deref.ensures.value c.in_ok-forms.ensures) in
-    answer-of c.args.problem.now c.requires.problem c.args.model.now.atoms c.args.formula.now c.args.vars c.requires.formula
+    answer-of c.args.problem.now c.requires.problem c.args.model.now.atoms c.args.formula.now c.args.variable_count c.requires.formula
     c.in_ok-patterns.patterns.items c.in_ok-patterns.ensures.patterns c.deref-2.result.now are c.in_ok-patterns.ensures.few
     c.in_ok-provable.provable.atoms c.in_ok-provable.ensures.found

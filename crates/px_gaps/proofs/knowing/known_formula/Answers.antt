@@ -11,7 +11,7 @@ use Rattle.px_gaps.proofs.knowing.known_formula.Goals as goal
 
 pub returns-in_ok-asked-in-Err-ShapeLimit : goal.returns-in_ok-asked-in-Err-ShapeLimit
 returns-in_ok-asked-in-Err-ShapeLimit c =
-    known-limited c.args.problem.now (record { formula = c.args.formula.now; vars = c.args.vars; facts = c.args.model.now.atoms })
+    known-limited c.args.problem.now (record { formula = c.args.formula.now; variable_count = c.args.variable_count; facts = c.args.model.now.atoms })
     c.requires.no_answer
     (record {
       question = FindingGaps c.in_ok-asked-in-Err-ShapeLimit.asked;
@@ -33,14 +33,14 @@ nothing (atom ∷ atoms) e = absurd (omega (arith, e))
 
 pub returns-then-is_empty : goal.returns-then-is_empty
 returns-then-is_empty c =
-    known-closed c.args.problem.now (record { formula = c.args.formula.now; vars = c.args.vars; facts = c.args.model.now.atoms })
+    known-closed c.args.problem.now (record { formula = c.args.formula.now; variable_count = c.args.variable_count; facts = c.args.model.now.atoms })
     c.requires.no_answer c.in-Ok.found.items c.in-Ok.ensures.exact c.in-Ok.ensures.unlimited c.in-Ok.ensures.below
     (nothing c.in-Ok.found.items (no_items c.is_empty.result _ c.in-Ok.found.items c.is_empty.ensures c.if-is_empty.true
     (omega (arith, c.in-Ok.found.ok.0))))
 
 pub returns-else-is_empty : goal.returns-else-is_empty
 returns-else-is_empty c =
-    let needed : Obligation = record { formula = c.args.formula.now; vars = c.args.vars; facts = c.args.model.now.atoms } in
+    let needed : Obligation = record { formula = c.args.formula.now; variable_count = c.args.variable_count; facts = c.args.model.now.atoms } in
     subst (IsOpenWith c.args.problem.now (needed ∷ [])) (sym c.from_vec.ensures)
     (known-open c.args.problem.now needed c.requires.no_answer c.in-Ok.found.items c.in-Ok.ensures.exact c.in-Ok.ensures.unlimited
     c.in-Ok.ensures.below (some_items c.is_empty.result _ c.in-Ok.found.items c.is_empty.ensures c.if-is_empty.false

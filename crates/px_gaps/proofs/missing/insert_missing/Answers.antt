@@ -16,14 +16,14 @@ insert_open-requires-clause-bound c =
           (subst (λ (n : ℕ). ArePlain n c.args.pattern.now.atoms) (sym long) c.requires.pattern.atoms_plain);
       binding =
           subst (IsBinding c.args.limit) (sym c.deref.ensures.value)
-          (unbound-binding c.args.limit c.args.pattern.now.vars c.in_ok-terms.terms.items c.in_ok-terms.ensures
+          (unbound-binding c.args.limit c.args.pattern.now.variable_count c.in_ok-terms.terms.items c.in_ok-terms.ensures
           c.requires.pattern.some_object);
       is_ground = c.requires.provable;
     }
 
 pub loop-target-preserved : goal.loop-target-preserved
 loop-target-preserved c = λ q.
-    target-next c.args.limit c.args.pattern.now.vars c.in_ok-terms.terms.items c.deref.result.now c.as_slice-atoms.result.now
+    target-next c.args.limit c.args.pattern.now.variable_count c.in_ok-terms.terms.items c.deref.result.now c.as_slice-atoms.result.now
     c.args.provable.now.atoms c.as_slice-atoms.result.now c.loop-target.target-index c.target-item.result q c.in_ok-terms.ensures
     c.deref.ensures.value
     c.loop-target-test.true c.target-item.is (c.loop-target.invariant q) (c.in_ok-insert_open.ensures q)
@@ -33,8 +33,8 @@ returns c = λ q.
     let atoms = c.as_slice-atoms.result.now in
     let whole =
     subst (λ (ts : List Atom). Contains c.loop-target.found.atoms q
-    ↔ (Contains c.args.found.now.atoms q ⊎ OneOf ts (IsReached c.args.limit c.args.pattern.now.vars atoms c.args.provable.now.atoms q)))
+    ↔ (Contains c.args.found.now.atoms q ⊎ OneOf ts (IsReached c.args.limit c.args.pattern.now.variable_count atoms c.args.provable.now.atoms q)))
     (take_all c.loop-target.target-index atoms (omega (arith, c.loop-target-test.false))) (c.loop-target.invariant q) in
     subst (λ (ts : List Atom). Contains c.loop-target.found.atoms q
-    ↔ (Contains c.args.found.now.atoms q ⊎ OneOf ts (IsReached c.args.limit c.args.pattern.now.vars ts c.args.provable.now.atoms q)))
+    ↔ (Contains c.args.found.now.atoms q ⊎ OneOf ts (IsReached c.args.limit c.args.pattern.now.variable_count ts c.args.provable.now.atoms q)))
     c.as_slice-atoms.ensures whole

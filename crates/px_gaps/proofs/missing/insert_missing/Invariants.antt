@@ -8,4 +8,4 @@ abbrev pub invariant-loop-target : goal.invariant-loop-target
 invariant-loop-target l =
     (q : Atom) → Contains l.found.atoms q
     ↔ (Contains l.initial.found.atoms q
-    ⊎ OneOf (take l.target-index l.atoms) (IsReached l.limit l.pattern.vars l.atoms l.provable.atoms q))
+    ⊎ OneOf (take l.target-index l.atoms) (IsReached l.limit l.pattern.variable_count l.atoms l.provable.atoms q))

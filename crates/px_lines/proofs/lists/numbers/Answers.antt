@@ -3,8 +3,8 @@ use Rattle.px_lines.proofs.Walks.{number-advances, things-more, things-none, thi
 use Rattle.px_lines.proofs.lists.numbers.Goals as goal
 
 pub things-preserved : goal.things-preserved
-things-preserved c = let front = c.in-Some.ensures in
-    things-more number-advances c.things.invariant c.in-Some.number c.in-Some.after.now front.0 front.1 _ (grind (arith, common_steps))
+things-preserved c = let prefix = c.in-Some.ensures in
+    things-more number-advances c.things.invariant c.in-Some.number c.in-Some.after.now prefix.0 prefix.1 _ (grind (arith, common_steps))
 
 pub returns-then-ends : goal.returns-then-ends
 returns-then-ends c = ap Some (sym (map-same c.things.numbers.items)) ∙ things-end number-advances c.things.invariant c.in_default.ensures

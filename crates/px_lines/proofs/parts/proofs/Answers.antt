@@ -3,12 +3,12 @@ use Rattle.px_lines.proofs.Walks.{part-advances, things-fewer, things-more, thin
 use Rattle.px_lines.proofs.parts.proofs.Goals as goal
 
 pub things-smaller : goal.things-smaller
-things-smaller c = let front = (rw c.in-Some.is at c.in_ok-part.ensures) in
-    things-fewer part-advances c.things.invariant c.in-Some.part c.in-Some.after.now front.0
+things-smaller c = let prefix = (rw c.in-Some.is at c.in_ok-part.ensures) in
+    things-fewer part-advances c.things.invariant c.in-Some.part c.in-Some.after.now prefix.0
 
 pub things-preserved : goal.things-preserved
-things-preserved c = let front = (rw c.in-Some.is at c.in_ok-part.ensures) in
-    things-more part-advances c.things.invariant c.in-Some.part c.in-Some.after.now front.0 front.1 _ (grind (arith, common_steps))
+things-preserved c = let prefix = (rw c.in-Some.is at c.in_ok-part.ensures) in
+    things-more part-advances c.things.invariant c.in-Some.part c.in-Some.after.now prefix.0 prefix.1 _ (grind (arith, common_steps))
 
 pub returns-then-ends : goal.returns-then-ends
 returns-then-ends c = things-end part-advances c.things.invariant (rw c.in_default.is at c.in_ok-part.ensures)

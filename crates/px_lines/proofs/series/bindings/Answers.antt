@@ -3,8 +3,8 @@ use Rattle.px_lines.proofs.Walks.{binding-advances, things-more, things-none, th
 use Rattle.px_lines.proofs.series.bindings.Goals as goal
 
 pub things-preserved : goal.things-preserved
-things-preserved c = let front = c.in-Some.ensures in
-    things-more binding-advances c.things.invariant c.in-Some.binding c.in-Some.after.now front.0 front.1 _ (grind (arith, common_steps))
+things-preserved c = let prefix = c.in-Some.ensures in
+    things-more binding-advances c.things.invariant c.in-Some.binding c.in-Some.after.now prefix.0 prefix.1 _ (grind (arith, common_steps))
 
 pub returns-then-ends : goal.returns-then-ends
 returns-then-ends c = things-end binding-advances c.things.invariant c.in_default.ensures

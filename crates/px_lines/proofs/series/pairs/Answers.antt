@@ -3,8 +3,8 @@ use Rattle.px_lines.proofs.Walks.{pair-advances, things-more, things-none, thing
 use Rattle.px_lines.proofs.series.pairs.Goals as goal
 
 pub things-preserved : goal.things-preserved
-things-preserved c = let front = c.in-Some.ensures in
-    things-more pair-advances c.things.invariant c.in-Some.pair c.in-Some.after.now front.0 front.1 _ (grind (arith, common_steps))
+things-preserved c = let prefix = c.in-Some.ensures in
+    things-more pair-advances c.things.invariant c.in-Some.pair c.in-Some.after.now prefix.0 prefix.1 _ (grind (arith, common_steps))
 
 pub returns-then-ends : goal.returns-then-ends
 returns-then-ends c = things-end pair-advances c.things.invariant c.in_default.ensures

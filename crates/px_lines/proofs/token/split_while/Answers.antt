@@ -1,22 +1,22 @@
 use Rattle.px_lines.proofs.Common.{◌≡◌, arith, common_steps, is_of}
-use Rattle.px_lines.proofs.Texts.{front-ends, cut-boundary, cut-front}
+use Rattle.px_lines.proofs.Texts.{prefix-ends, cut-boundary, cut-prefix}
 use Rattle.px_lines.proofs.token.split_while.Goals as goal
 
 pub range-requires-clause-end_boundary : goal.range-requires-clause-end_boundary
 range-requires-clause-end_boundary c = let skip
-    = c.skip_while-rest.ensures in cut-boundary c.args.text.now skip.front c.skip_while-rest.result.now skip.whole c.skip_while-rest.utf8
+    = c.skip_while-rest.ensures in cut-boundary c.args.text.now skip.prefix c.skip_while-rest.result.now skip.whole c.skip_while-rest.utf8
 
-pub returns-clause-front : goal.returns-clause-front
-returns-clause-front c =
+pub returns-clause-prefix : goal.returns-clause-prefix
+returns-clause-prefix c =
     let skip = c.skip_while-rest.ensures in
-    let ends = front-ends (is_of c.args.class) c.args.text.now skip.front c.skip_while-rest.result.now c.utf8.text skip.whole
+    let ends = prefix-ends (is_of c.args.class) c.args.text.now skip.prefix c.skip_while-rest.result.now c.utf8.text skip.whole
     c.skip_while-rest.utf8 skip.all skip.stop in
-    let cut : c.range.result.now ≡ skip.front
-    = grind (arith, common_steps, cut-front c.args.text.now skip.front c.skip_while-rest.result.now skip.whole) in
+    let cut : c.range.result.now ≡ skip.prefix
+    = grind (arith, common_steps, cut-prefix c.args.text.now skip.prefix c.skip_while-rest.result.now skip.whole) in
     rw cut ends.0
 
 pub returns-clause-after : goal.returns-clause-after
 returns-clause-after c =
     let skip = c.skip_while-rest.ensures in
-    (front-ends (is_of c.args.class) c.args.text.now skip.front c.skip_while-rest.result.now c.utf8.text skip.whole
+    (prefix-ends (is_of c.args.class) c.args.text.now skip.prefix c.skip_while-rest.result.now c.utf8.text skip.whole
     c.skip_while-rest.utf8 skip.all skip.stop).1

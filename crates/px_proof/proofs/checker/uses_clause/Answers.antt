@@ -7,12 +7,12 @@ pub is_literal_at-requires : goal.is_literal_at-requires
 is_literal_at-requires c =
     plain_lits c.args.arena.now c.args.number c.args.theta.now c.lits.result.now c.lits.ensures.arena
     (omega (arith, c.if-number-count.false, c.count.ensures.count))
-    (c.if-theta-vars.false ∙ c.vars.ensures.value no_clause) (c.lits.ensures.value no_clause)
+    (c.if-theta-variable_count.false ∙ c.variable_count.ensures.value no_clause) (c.lits.ensures.value no_clause)
 
 pub returns-then-are_choices : goal.returns-then-are_choices
 returns-then-are_choices c =
     uses_exact (rules_of c.args.basis.now).IsChoice c.args.arena.now c.args.lit.now c.args.number c.args.theta.now c.args.place
     c.is_literal_at.result c.lits.result.now
-    (omega (arith, c.if-number-count.false, c.count.ensures.count)) (c.if-theta-vars.false ∙ c.vars.ensures.value no_clause)
+    (omega (arith, c.if-number-count.false, c.count.ensures.count)) (c.if-theta-variable_count.false ∙ c.variable_count.ensures.value no_clause)
     (c.are_choices.ensures.0 c.if-are_choices.true) (c.lits.ensures.value no_clause)
     c.is_literal_at.ensures

@@ -8,7 +8,7 @@ use Rattle.px_proof.specs.Derivation.{Derivation, derivations, terms_of, all_ter
 use Rattle.px_proof.specs.ProofTerm.{derivation_of}
 use Rattle.px_proof.specs.Substitution.{derivation_under}
 use Rattle.px_proof.proofs.Inside.{terms_of_one, under_each}
-use Rattle.px_proof.specs.PlaceLaws.{All-front, All-back}
+use Rattle.px_proof.specs.PlaceLaws.{All-prefix, All-back}
 use Rattle.px_proof.specs.LayerLaws.{derivation_of-step}
 use Rattle.px_proof.proofs.substitution.+substitute.Goals as goal
 
@@ -16,7 +16,7 @@ pub substitute_all-substitute_terms-requires : goal.substitute_all-substitute_te
 substitute_all-substitute_terms-requires t c =
     let is = ap derivation_of c.in-Step.is ∙ derivation_of-step c.in-Step.clause c.in-Step.theta c.in-Step.place c.in-Step.subs in
     let all = subst (λ (d : Derivation). All (IsVariableBelow (length c.args.map.now)) (terms_of d)) is c.requires in
-    rw c.as_slice.ensures (All-front (IsVariableBelow (length c.args.map.now)) c.in-Step.theta
+    rw c.as_slice.ensures (All-prefix (IsVariableBelow (length c.args.map.now)) c.in-Step.theta
     (all_terms_of (derivations (map derivation_of c.in-Step.subs))) all)
 
 pub substitute_all-substitute_each-requires : goal.substitute_all-substitute_each-requires

@@ -8,7 +8,7 @@ use Rattle.px_proof_state.proofs.axioms.try_clause.Goals as goal
 
 pub returns-in-Ok-true : goal.returns-in-Ok-true
 returns-in-Ok-true c =
-    let clause : Clause = record { vars = c.args.vars; lits = c.args.lits.now } in
+    let clause : Clause = record { variable_count = c.args.variable_count; lits = c.args.lits.now } in
     with_room c.args.number clause c.args.goal.now c.args.from c.args.state.now c.close_by_step.new.self true
     (c.has_room.ensures.0 c.if-not-has_room.false)
     (step-comes c.args.number clause c.args.goal.now c.args.from c.loop-place.place c.args.state.now c.loop-place.state
@@ -17,7 +17,7 @@ returns-in-Ok-true c =
 
 pub loop-place-preserved : goal.loop-place-preserved
 loop-place-preserved c =
-    let clause : Clause = record { vars = c.args.vars; lits = c.args.lits.now } in
+    let clause : Clause = record { variable_count = c.args.variable_count; lits = c.args.lits.now } in
     let both =
     step-never c.args.number clause c.args.goal.now c.args.from c.loop-place.place c.args.state.now c.loop-place.state
     c.close_by_step.new.self c.in-Ok-false.field-0 c.loop-place.invariant.same c.in-Ok-false.ensures
@@ -26,7 +26,7 @@ loop-place-preserved c =
 
 pub returns : goal.returns
 returns c =
-    let clause : Clause = record { vars = c.args.vars; lits = c.args.lits.now } in
+    let clause : Clause = record { variable_count = c.args.variable_count; lits = c.args.lits.now } in
     with_room c.args.number clause c.args.goal.now c.args.from c.args.state.now c.loop-place.state false
     (c.has_room.ensures.0 c.if-not-has_room.false)
     (range-none (NeverStep clause c.args.state.now c.args.goal.now)

@@ -21,9 +21,9 @@ up_from arena (suc i) first rest older within is =
     path_at-index arena i (get_or arena i none) here names.0
     ∙ (λ k. (get_or (same k) 0 first).lit ∷ (get_or (same k) 0 first).path)
 
-opening : (atom : Atom) (vars height : ℕ) (v : ProofStateValue) → IsOpening (atom ∷ []) vars height v
+opening : (atom : Atom) (variable_count height : ℕ) (v : ProofStateValue) → IsOpening (atom ∷ []) variable_count height v
     → path_at v.goals v.first ≡ positive_of atom ∷ []
-opening atom vars height v is =
+opening atom variable_count height v is =
     up_from v.goals v.first (record { lit = positive_of atom; path = []; budget = height }) [] is.arena is.within is.opened
 
 pub try_ancestors-requires-clause-few : goal.try_ancestors-requires-clause-few

@@ -11,7 +11,7 @@ use Rattle.px_prover.proofs.attempts.try_gap.Goals as goal
 
 pub close_by_gap-requires : goal.close_by_gap-requires
 close_by_gap-requires c =
-    ready-below c.args.question.now.loose (setting_in c.args.question.now) c.args.question.now.formula.now c.args.question.now.vars
+    ready-below c.args.question.now.loose (setting_in c.args.question.now) c.args.question.now.formula.now c.args.question.now.variable_count
     (ticks_in c.args.state.now.choices) c.args.state.now c.args.goal.now c.requires
 
 pub returns-then-not-question : goal.returns-then-not-question

@@ -10,12 +10,12 @@ use Rattle.px_prover.proofs.attempts.try_since_ancestor.Goals as goal
 
 pub try_ancestors-requires-clause-few : goal.try_ancestors-requires-clause-few
 try_ancestors-requires-clause-few c =
-    ready-near c.args.question.now.loose (setting_in c.args.question.now) c.args.question.now.formula.now c.args.question.now.vars
+    ready-near c.args.question.now.loose (setting_in c.args.question.now) c.args.question.now.formula.now c.args.question.now.variable_count
     (ticks_in c.args.state.now.choices) c.args.state.now c.args.goal.now c.requires
 
 pub try_ancestors-requires-clause-above_older : goal.try_ancestors-requires-clause-above_older
 try_ancestors-requires-clause-above_older c =
-    ready-above c.args.question.now.loose (setting_in c.args.question.now) c.args.question.now.formula.now c.args.question.now.vars
+    ready-above c.args.question.now.loose (setting_in c.args.question.now) c.args.question.now.formula.now c.args.question.now.variable_count
     (ticks_in c.args.state.now.choices) c.args.state.now c.args.goal.now c.requires
 
 pub try_ancestors-requires-clause-arena : goal.try_ancestors-requires-clause-arena
@@ -23,17 +23,17 @@ try_ancestors-requires-clause-arena c = c.requires.sound.arena
 
 pub try_ancestors-requires-clause-goal_below : goal.try_ancestors-requires-clause-goal_below
 try_ancestors-requires-clause-goal_below c =
-    ready-below c.args.question.now.loose (setting_in c.args.question.now) c.args.question.now.formula.now c.args.question.now.vars
+    ready-below c.args.question.now.loose (setting_in c.args.question.now) c.args.question.now.formula.now c.args.question.now.variable_count
     (ticks_in c.args.state.now.choices) c.args.state.now c.args.goal.now c.requires
 
 pub try_ancestors-requires-clause-path_below : goal.try_ancestors-requires-clause-path_below
 try_ancestors-requires-clause-path_below c =
-    ready-path_below c.args.question.now.loose (setting_in c.args.question.now) c.args.question.now.formula.now c.args.question.now.vars
+    ready-path_below c.args.question.now.loose (setting_in c.args.question.now) c.args.question.now.formula.now c.args.question.now.variable_count
     (ticks_in c.args.state.now.choices) c.args.state.now c.args.goal.now c.requires
 
 pub returns-in-Ok-true : goal.returns-in-Ok-true
 returns-in-Ok-true c =
-    ancestor-found c.args.question.now.loose (setting_in c.args.question.now) c.args.question.now.formula.now c.args.question.now.vars
+    ancestor-found c.args.question.now.loose (setting_in c.args.question.now) c.args.question.now.formula.now c.args.question.now.variable_count
     (ticks_in c.args.state.now.choices) c.args.state.now c.args.goal.now c.requires c.args.from c.try_ancestors.new.state
     (rw c.in-Ok-true.field-0-test at c.in-Ok-true.ensures)
 

@@ -10,17 +10,17 @@ use Rattle.px_prover.proofs.attempts.try_since_axiom.Goals as goal
 
 pub try_axioms-requires-clause-fit : goal.try_axioms-requires-clause-fit
 try_axioms-requires-clause-fit c =
-    ready-fit c.args.question.now.loose (setting_in c.args.question.now) c.args.question.now.formula.now c.args.question.now.vars
+    ready-fit c.args.question.now.loose (setting_in c.args.question.now) c.args.question.now.formula.now c.args.question.now.variable_count
     (ticks_in c.args.state.now.choices) c.args.state.now c.args.goal.now c.requires
 
 pub try_axioms-requires-clause-goal_below : goal.try_axioms-requires-clause-goal_below
 try_axioms-requires-clause-goal_below c =
-    ready-below c.args.question.now.loose (setting_in c.args.question.now) c.args.question.now.formula.now c.args.question.now.vars
+    ready-below c.args.question.now.loose (setting_in c.args.question.now) c.args.question.now.formula.now c.args.question.now.variable_count
     (ticks_in c.args.state.now.choices) c.args.state.now c.args.goal.now c.requires
 
 pub try_axioms-requires-clause-next_older : goal.try_axioms-requires-clause-next_older
 try_axioms-requires-clause-next_older c =
-    ready-next c.args.question.now.loose (setting_in c.args.question.now) c.args.question.now.formula.now c.args.question.now.vars
+    ready-next c.args.question.now.loose (setting_in c.args.question.now) c.args.question.now.formula.now c.args.question.now.variable_count
     (ticks_in c.args.state.now.choices) c.args.state.now c.args.goal.now c.requires
 
 pub try_axioms-requires-clause-first_older : goal.try_axioms-requires-clause-first_older
@@ -28,7 +28,7 @@ try_axioms-requires-clause-first_older c = c.requires.sound.within
 
 pub returns-in-Ok-true : goal.returns-in-Ok-true
 returns-in-Ok-true c =
-    axiom-found c.args.question.now.loose (setting_in c.args.question.now) c.args.question.now.formula.now c.args.question.now.vars
+    axiom-found c.args.question.now.loose (setting_in c.args.question.now) c.args.question.now.formula.now c.args.question.now.variable_count
     (ticks_in c.args.state.now.choices) c.args.state.now c.args.goal.now c.requires c.args.from c.args.place c.try_axioms.new.state
     (rw c.in-Ok-true.field-0-test at c.in-Ok-true.ensures)
 

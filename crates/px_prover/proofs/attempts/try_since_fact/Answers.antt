@@ -10,13 +10,13 @@ use Rattle.px_prover.proofs.attempts.try_since_fact.Goals as goal
 
 pub try_facts-requires-clause-goal_below : goal.try_facts-requires-clause-goal_below
 try_facts-requires-clause-goal_below c =
-    ready-below c.args.question.now.loose (setting_in c.args.question.now) c.args.question.now.formula.now c.args.question.now.vars
+    ready-below c.args.question.now.loose (setting_in c.args.question.now) c.args.question.now.formula.now c.args.question.now.variable_count
     (ticks_in c.args.state.now.choices) c.args.state.now c.args.goal.now c.requires
 
 pub returns-in-Ok-true : goal.returns-in-Ok-true
 returns-in-Ok-true c =
     let found =
-    fact-found c.args.question.now.loose (setting_in c.args.question.now) c.args.question.now.formula.now c.args.question.now.vars
+    fact-found c.args.question.now.loose (setting_in c.args.question.now) c.args.question.now.formula.now c.args.question.now.variable_count
     (ticks_in c.args.state.now.choices) c.args.state.now c.args.goal.now c.requires c.args.from c.try_facts.new.state
     (rw c.in-Ok-true.field-0-test at c.in-Ok-true.ensures) in
     found

@@ -7,5 +7,5 @@ use Rattle.px_prover.proofs.gathering.missing_atoms.Given as goal
 
 abbrev pub invariant-loop-choice : goal.invariant-loop-choice
 invariant-loop-choice l =
-    AreMissing (gap_setting l.fn._question) l.fn._question.formula.now l.fn._question.vars
+    AreMissing (gap_setting l.fn._question) l.fn._question.formula.now l.fn._question.variable_count
     (map (λ (x : Choice). x.tick) (take l.choice-index l.choices)) (variables_of l.state.changes) l.atoms.items

@@ -13,6 +13,6 @@ loop-variable-preserved c =
 
 pub returns : goal.returns
 returns c =
-    let all : c.loop-variable.variable ≡ c.args.vars = omega (arith, c.loop-variable-test.false, c.loop-variable.auto.variable-end) in
+    let all : c.loop-variable.variable ≡ c.args.variable_count = omega (arith, c.loop-variable-test.false, c.loop-variable.auto.variable-end) in
     subst (λ (n : ℕ). NotesEnds (IsFirstVariable n) c.args.roots.now c.args.free.now.items c.loop-variable.free.items) all
     c.loop-variable.invariant

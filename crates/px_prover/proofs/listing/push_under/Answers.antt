@@ -7,7 +7,7 @@ loop-tuple-init c = lists-start c.args.pattern.now c.args.tuples.now c.args.list
 
 pub list_under-requires-clause-count : goal.list_under-requires-clause-count
 list_under-requires-clause-count c =
-    tuple-long c.args.tuples.now c.args.pattern.now.vars c.loop-tuple.tuple-index _ c.as_slice.result.now c.loop-tuple-test.true
+    tuple-long c.args.tuples.now c.args.pattern.now.variable_count c.loop-tuple.tuple-index _ c.as_slice.result.now c.loop-tuple-test.true
     c.tuple-item.is c.as_slice.ensures c.requires.tuples
 
 pub loop-tuple-preserved : goal.loop-tuple-preserved

@@ -8,6 +8,6 @@ pub returns-clause-closings : goal.returns-clause-closings
 returns-clause-closings c =
     let s = setting_of c.args.problem.now c.args.model.now.atoms in
     ok-weaker c.kept_patterns.result
-    (λ kept. AreKeptPatterns 0 s c.args.formula.now c.args.vars kept.items)
-    (λ kept. AreGapClosings s c.args.formula.now c.args.vars kept.items)
-    (λ kept are. closings-kept s c.args.formula.now c.args.vars kept.items are) c.kept_patterns.ensures.patterns
+    (λ kept. AreKeptPatterns 0 s c.args.formula.now c.args.variable_count kept.items)
+    (λ kept. AreGapClosings s c.args.formula.now c.args.variable_count kept.items)
+    (λ kept are. closings-kept s c.args.formula.now c.args.variable_count kept.items are) c.kept_patterns.ensures.patterns

@@ -15,12 +15,12 @@ pub free_of-requires-clause-first : goal.free_of-requires-clause-first
 free_of-requires-clause-first c =
     let q = c.args.question.now in
     let v = c.args.state.now in
-    let few : c.kept_terms-terms.result ≤ q.vars =
-    subst (λ (n : ℕ). n ≤ q.vars) (sym c.kept_terms-terms.ensures) (few-kept q.with_terms q.vars) in
-    first-within (gap_setting q) q.formula.now q.vars v c.requires c.as_slice-roots.result.now
+    let few : c.kept_terms-terms.result ≤ q.variable_count =
+    subst (λ (n : ℕ). n ≤ q.variable_count) (sym c.kept_terms-terms.ensures) (few-kept q.with_terms q.variable_count) in
+    first-within (gap_setting q) q.formula.now q.variable_count v c.requires c.as_slice-roots.result.now
     (ends-read v.changes c.bind.result.now _ c.as_slice-roots.result.now c.bind.ensures c.in_ok-ends.ensures c.as_slice-roots.ensures.value)
     c.as_slice-missing.result.now
-    (subst (AreMissing (gap_setting q) q.formula.now q.vars (ticks_in v.choices) (variables_of v.changes))
+    (subst (AreMissing (gap_setting q) q.formula.now q.variable_count (ticks_in v.choices) (variables_of v.changes))
     (sym c.as_slice-missing.ensures.value) c.in_ok-atoms.ensures)
     c.kept_terms-terms.result few
 
@@ -28,10 +28,10 @@ pub free_of-requires-clause-atoms : goal.free_of-requires-clause-atoms
 free_of-requires-clause-atoms c =
     let q = c.args.question.now in
     let v = c.args.state.now in
-    missing-within (gap_setting q) q.formula.now q.vars v c.requires c.as_slice-roots.result.now
+    missing-within (gap_setting q) q.formula.now q.variable_count v c.requires c.as_slice-roots.result.now
     (ends-read v.changes c.bind.result.now _ c.as_slice-roots.result.now c.bind.ensures c.in_ok-ends.ensures c.as_slice-roots.ensures.value)
     c.as_slice-missing.result.now
-    (subst (AreMissing (gap_setting q) q.formula.now q.vars (ticks_in v.choices) (variables_of v.changes))
+    (subst (AreMissing (gap_setting q) q.formula.now q.variable_count (ticks_in v.choices) (variables_of v.changes))
     (sym c.as_slice-missing.ensures.value) c.in_ok-atoms.ensures)
 
 pub returns : goal.returns
@@ -42,7 +42,7 @@ returns c =
     (λ pattern. IsPatternBy c.kept_terms-terms.result c.as_slice-missing.result.now c.as_slice-roots.result.now c.as_slice-free.result.now
     pattern)
     (IsPatternOf q v)
-    (λ pattern by. state-pattern (terms_in q) c.kept_terms-terms.result (gap_setting q) q.formula.now q.vars v c.kept_terms-terms.ensures
+    (λ pattern by. state-pattern (terms_in q) c.kept_terms-terms.result (gap_setting q) q.formula.now q.variable_count v c.kept_terms-terms.ensures
     c.as_slice-roots.result.now
     (ends-read v.changes c.bind.result.now _ c.as_slice-roots.result.now c.bind.ensures c.in_ok-ends.ensures c.as_slice-roots.ensures.value)
     _ c.as_slice-missing.result.now c.in_ok-atoms.ensures c.as_slice-missing.ensures.value

@@ -6,7 +6,7 @@ use Rattle.px_pursue.proofs.pursuing.pursue.Given as goal
 
 abbrev pub invariant-searching : goal.invariant-searching
 invariant-searching g l =
-    VainSoFar g.W.World.leaves l.problem l.tables l.goal l.vars l.recorded (g.W.World.atoms l.fn.world) l.searches l.turns.items
+    VainSoFar g.W.World.leaves l.problem l.tables l.goal l.variable_count l.recorded (g.W.World.atoms l.fn.world) l.searches l.turns.items
     (g.W.World.atoms l.world)
     × (l.facts.atoms ≡ g.W.World.atoms l.world) × (g.W.World.rules l.world ≡ g.W.World.rules l.fn.world)
     × AdmitSame (g.W.World.admits l.fn.world) (g.W.World.admits l.world)

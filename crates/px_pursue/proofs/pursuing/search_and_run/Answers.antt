@@ -20,7 +20,7 @@ returns-then-branch-clause-goes g c =
     (subst (IsSought (task_from aim c.args.facts.now.atoms)) c.in-Plan.is c.in_ok-end.ensures) in
     let ends = subst (λ b. EndsPlanRun b (map turn_told c.run_plan.new.turns.items)) c.if-branch.true
     c.in_ok-run_plan-in-Plan.ensures.ends in
-    let ran = ran-plan g.W.World.leaves aim.problem.now aim.tables.now aim.goal.now aim.vars c.args.recorded.now atoms
+    let ran = ran-plan g.W.World.leaves aim.problem.now aim.tables.now aim.goal.now aim.variable_count c.args.recorded.now atoms
     (g.W.World.atoms c.run_plan.new.world) c.args.turns.now.items c.run_plan.new.turns.items plan true sought
     c.in_ok-run_plan-in-Plan.ensures.runs ends in
     (ran.0, ran.1, (ran.2, ran.3))
@@ -34,7 +34,7 @@ returns-else-branch-clause-goes g c =
     (subst (IsSought (task_from aim c.args.facts.now.atoms)) c.in-Plan.is c.in_ok-end.ensures) in
     let ends = subst (λ b. EndsPlanRun b (map turn_told c.run_plan.new.turns.items)) c.if-branch.false
     c.in_ok-run_plan-in-Plan.ensures.ends in
-    let ran = ran-plan g.W.World.leaves aim.problem.now aim.tables.now aim.goal.now aim.vars c.args.recorded.now atoms
+    let ran = ran-plan g.W.World.leaves aim.problem.now aim.tables.now aim.goal.now aim.variable_count c.args.recorded.now atoms
     (g.W.World.atoms c.run_plan.new.world) c.args.turns.now.items c.run_plan.new.turns.items plan false sought
     c.in_ok-run_plan-in-Plan.ensures.runs ends in
     (ran.0, ran.1, ran.2, ran.3)
@@ -47,6 +47,6 @@ returns-in-WithoutPlan-clause-goes g c =
     (subst (IsSought (task_from aim c.args.facts.now.atoms)) c.in-WithoutPlan.is c.in_ok-end.ensures) in (
       [],
       sym (append-nil c.args.turns.now.items),
-      ends-without g.W.World.leaves aim.problem.now aim.tables.now aim.goal.now aim.vars c.args.recorded.now _
+      ends-without g.W.World.leaves aim.problem.now aim.tables.now aim.goal.now aim.variable_count c.args.recorded.now _
           (g.W.World.atoms c.args.world.now) end is,
     )

@@ -7,6 +7,6 @@ use Rattle.px_replay.proofs.goal.name_each.Given as goal
 abbrev pub invariant-loop-i : goal.invariant-loop-i
 invariant-loop-i l = record {
   long : length l.into ≡ length l.initial.into;
-  front : take l.i l.into ≡ named_args l.names l.own l.first (take l.i l.args);
+  prefix : take l.i l.into ≡ named_args l.names l.own l.first (take l.i l.args);
   next : l.next ≡ l.first + count_by is_object (take l.i l.args);
 }

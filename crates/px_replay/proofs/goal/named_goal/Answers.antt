@@ -12,12 +12,12 @@ loop-atom-preserved c =
     let atoms = c.args.goal.now in
     let k = c.loop-atom.atom-index in
     let own = c.args.own in
-    let front = named_goal c.args.names.now own c.args.first (take k atoms) in
+    let prefix = named_goal c.args.names.now own c.args.first (take k atoms) in
     let next = c.args.first + goal_objects (take k atoms) in
     record {
       made =
           c.in_ok-push.ensures.ok ∙ ap (λ l. l ++ c.named_atom.result ∷ []) c.loop-atom.invariant.made
-          ∙ ap (λ (a : Atom). front ++ a ∷ []) (c.named_atom.ensures
+          ∙ ap (λ (a : Atom). prefix ++ a ∷ []) (c.named_atom.ensures
           ∙ ap (λ n. record { pred = c.atom-item.result.pred; args = named_args c.args.names.now own n c.atom-item.result.args })
           c.loop-atom.invariant.next
           ∙ ap (λ (a : Atom). record { pred = a.pred; args = named_args c.args.names.now own next a.args }) c.atom-item.is)

@@ -1,7 +1,7 @@
-use Rattle.px_run.proofs.CheckLemmas.{check-completes, check-completes_surely, check-front, check-refuses, check-right, is_certified}
-use Rattle.px_run.proofs.DemoLemmas.{demo-completes, demo-completes_surely, demo-front, demo-right, run-right}
+use Rattle.px_run.proofs.CheckLemmas.{check-completes, check-completes_surely, check-prefix, check-refuses, check-right, is_certified}
+use Rattle.px_run.proofs.DemoLemmas.{demo-completes, demo-completes_surely, demo-prefix, demo-right, run-right}
 use Rattle.px_run.specs.Outcomes.{source_ends}
-use Rattle.px_run.proofs.Fronts.{run-front}
+use Rattle.px_run.proofs.Prefixes.{run-prefix}
 use Rattle.px_run.proofs.OutcomeLemmas.{run-completes, run-completes_surely, run-refuses}
 use Rattle.px_run.proofs.top.planex_main.Goals as goal
 
@@ -20,8 +20,8 @@ returns-clause-refuses g c = λ taken. run-refuses _ _ c.obey.result c.obey.ensu
     (run-right _ _ _ c.obey.result taken c.obey.ensures.right)
     c.obey.ensures.gone.1 c.obey.ensures.gone.2
 
-pub returns-clause-front : goal.returns-clause-front
-returns-clause-front g c = λ taken. run-front _ _ c.obey.result (run-right _ _ _ c.obey.result taken c.obey.ensures.right)
+pub returns-clause-prefix : goal.returns-clause-prefix
+returns-clause-prefix g c = λ taken. run-prefix _ _ c.obey.result (run-right _ _ _ c.obey.result taken c.obey.ensures.right)
 
 pub returns-clause-demo_completes : goal.returns-clause-demo_completes
 returns-clause-demo_completes g c =
@@ -32,9 +32,9 @@ returns-clause-demo_completes_surely g c =
     λ rooms seed taken. demo-completes_surely rooms seed _ c.obey.result
     (demo-right rooms seed _ _ _ c.obey.result taken c.obey.ensures.right)
 
-pub returns-clause-demo_front : goal.returns-clause-demo_front
-returns-clause-demo_front g c =
-    λ rooms seed taken. demo-front rooms seed _ c.obey.result (demo-right rooms seed _ _ _ c.obey.result taken c.obey.ensures.right)
+pub returns-clause-demo_prefix : goal.returns-clause-demo_prefix
+returns-clause-demo_prefix g c =
+    λ rooms seed taken. demo-prefix rooms seed _ c.obey.result (demo-right rooms seed _ _ _ c.obey.result taken c.obey.ensures.right)
 
 pub returns-clause-check_completes : goal.returns-clause-check_completes
 returns-clause-check_completes g c =
@@ -52,8 +52,8 @@ returns-clause-check_refuses g c = λ taken. check-refuses _ _ c.obey.result c.o
     (check-right _ _ _ c.obey.result taken c.obey.ensures.right)
     c.obey.ensures.gone.1 c.obey.ensures.gone.2
 
-pub returns-clause-check_front : goal.returns-clause-check_front
-returns-clause-check_front g c = λ taken. check-front _ _ c.obey.result (check-right _ _ _ c.obey.result taken c.obey.ensures.right)
+pub returns-clause-check_prefix : goal.returns-clause-check_prefix
+returns-clause-check_prefix g c = λ taken. check-prefix _ _ c.obey.result (check-right _ _ _ c.obey.result taken c.obey.ensures.right)
 
 pub returns-clause-certifies : goal.returns-clause-certifies
 returns-clause-certifies g c = λ taken. is_certified

@@ -42,7 +42,7 @@ loop-here-preserved c =
           (c.loop-here.here - 1) c.origin_at-origin.result c.in_ok-last.last c.loop-here.moves.items c.push.new.self.items trace
           c.origin_at-origin.ensures
           c.in_ok-last.ensures put
-          (subst (λ (n : ℕ). (front : List Move) × (slice_get found n ≡ Some front)
-          × (slice_get found c.args.place ≡ Some (front ++ reverse c.loop-here.moves.items))) (omega (arith, c.loop-here-test.true))
+          (subst (λ (n : ℕ). (prefix : List Move) × (slice_get found n ≡ Some prefix)
+          × (slice_get found c.args.place ≡ Some (prefix ++ reverse c.loop-here.moves.items))) (omega (arith, c.loop-here-test.true))
           (c.loop-here.invariant.trace found trace));
     }

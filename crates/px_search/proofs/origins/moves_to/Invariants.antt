@@ -8,7 +8,7 @@ invariant-loop-here l = record {
   within : l.here ≤ length l.origins;
   few : length l.moves.items + l.here ≤ l.place;
   trace : (found : List (List Move)) → Trace l.numbers l.origins found
-      → (front : List Move) × (slice_get found l.here ≡ Some front) × (slice_get found l.place ≡ Some (front ++ reverse l.moves.items));
+      → (prefix : List Move) × (slice_get found l.here ≡ Some prefix) × (slice_get found l.place ≡ Some (prefix ++ reverse l.moves.items));
 }
 
 abbrev pub decreases-loop-here : goal.decreases-loop-here

@@ -23,7 +23,7 @@ pursue-requires-clause-admitted c =
 pub returns-clause-pursues : goal.returns-clause-pursues
 returns-clause-pursues c =
     let made = c.in_ok-made.made in
-    let pursues = λ (before after : List Atom). IsPursuit leaves_edit c.args.problem.now c.args.tables.now c.args.goal.now c.args.vars
+    let pursues = λ (before after : List Atom). IsPursuit leaves_edit c.args.problem.now c.args.tables.now c.args.goal.now c.args.variable_count
     c.args.recorded.now before made.searches (map turn_told made.turns) made.end after in
     subst (λ (before : List Atom). pursues before made.facts.atoms) c.in_ok-world.ensures.atoms
     (subst (λ (after : List Atom). pursues (place_atoms c.in_ok-world.world) after) (sym c.in_ok-made.ensures.facts)

@@ -5,16 +5,16 @@ use Rattle.px_so_far.proofs.problem.copied_axioms.Goals as goal
 
 pub push-requires : goal.push-requires
 push-requires c =
-    let d : Clause = record { vars = 0; lits = [] } in
+    let d : Clause = record { variable_count = 0; lits = [] } in
     let below : c.loop-number.number < length c.args.axioms.now
     = omega (arith, c.loop-number-test.true, c.loop-number.auto.number-end, c.count-number-end.ensures.count) in
     let one = c.lits.ensures.arena.each c.loop-number.number d below in
-    subst (λ n. ArePlainBelow n c.lits.result.now) (sym (c.vars.ensures.value d))
+    subst (λ n. ArePlainBelow n c.lits.result.now) (sym (c.variable_count.ensures.value d))
     (subst (ArePlainBelow _) (sym (c.lits.ensures.value d)) one.plain)
 
 pub unreachable-requires : goal.unreachable-requires
 unreachable-requires c =
-    let d : Clause = record { vars = 0; lits = [] } in
+    let d : Clause = record { variable_count = 0; lits = [] } in
     let below : c.loop-number.number < length c.args.axioms.now
     = omega (arith, c.loop-number-test.true, c.loop-number.auto.number-end, c.count-number-end.ensures.count) in
     let one = c.lits.ensures.arena.each c.loop-number.number d below in
@@ -23,12 +23,12 @@ unreachable-requires c =
 
 pub loop-number-preserved : goal.loop-number-preserved
 loop-number-preserved c =
-    let d : Clause = record { vars = 0; lits = [] } in
+    let d : Clause = record { variable_count = 0; lits = [] } in
     let k = c.loop-number.number in
     let below : k < length c.args.axioms.now
     = omega (arith, c.loop-number-test.true, c.loop-number.auto.number-end, c.count-number-end.ensures.count) in
-    let new : ◌≡◌ {A = Clause} (record { vars = c.vars.result; lits = c.lits.result.now }) (get_or c.args.axioms.now k d)
-    = λ i. record { vars = c.vars.ensures.value d i; lits = c.lits.ensures.value d i } in
+    let new : ◌≡◌ {A = Clause} (record { variable_count = c.variable_count.result; lits = c.lits.result.now }) (get_or c.args.axioms.now k d)
+    = λ i. record { variable_count = c.variable_count.ensures.value d i; lits = c.lits.ensures.value d i } in
     c.in-Ok.ensures.added
-    ∙ ap (λ clauses. clauses ++ record { vars = c.vars.result; lits = c.lits.result.now } ∷ []) c.loop-number.invariant
+    ∙ ap (λ clauses. clauses ++ record { variable_count = c.variable_count.result; lits = c.lits.result.now } ∷ []) c.loop-number.invariant
     ∙ ap (λ (clause : Clause). take k c.args.axioms.now ++ clause ∷ []) new ∙ sym (take_more c.args.axioms.now k d below)

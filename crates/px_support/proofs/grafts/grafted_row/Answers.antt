@@ -21,11 +21,11 @@ grafted_proof-requires-clause-proof c =
 pub loop-proof-preserved : goal.loop-proof-preserved
 loop-proof-preserved c =
     let under = derivation_under c.args.graft.now.terms.now in
-    let front = map derivation_of (take c.loop-proof.proof-index c.args.proofs.now) in
+    let prefix = map derivation_of (take c.loop-proof.proof-index c.args.proofs.now) in
     zip-grown (IsGraftBy c.args.graft.now (map derivation_of c.args.firsts.now)) _ _ _ _ (under (derivation_of c.proof-item.result))
     (derivation_of c.in_ok-new.new)
     (ap (map under) (mapped-more derivation_of c.args.proofs.now c.loop-proof.proof-index c.proof-item.result c.loop-proof-test.true
-    c.proof-item.is) ∙ map-append under front (derivation_of c.proof-item.result ∷ []))
+    c.proof-item.is) ∙ map-append under prefix (derivation_of c.proof-item.result ∷ []))
     (ap (map derivation_of) c.in_ok-push.ensures.ok ∙ map-append derivation_of c.loop-proof.made.items (c.in_ok-new.new ∷ []))
     c.loop-proof.invariant c.in_ok-new.ensures
 

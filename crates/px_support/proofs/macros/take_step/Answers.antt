@@ -45,7 +45,7 @@ learned_row-requires-clause-proofs c =
 pub learned_row-requires-clause-findable : goal.learned_row-requires-clause-findable
 learned_row-requires-clause-findable c =
     subst (λ (formula : List Atom). IsFindable c.args.asked.now.problem.now
-    (record { formula = formula; vars = 0; facts = c.args.within.facts.atoms }))
+    (record { formula = formula; variable_count = 0; facts = c.args.within.facts.atoms }))
     (sym (c.deref-2.ensures.value ∙ c.in_ok-formula.ensures)) c.requires.findable
 
 pub left_of-requires-clause-inst : goal.left_of-requires-clause-inst

@@ -10,12 +10,12 @@ use Rattle.px_support.proofs.rows.first_row.Goals as goal
 pub sourced_row-requires-clause-leaves : goal.sourced_row-requires-clause-leaves
 sourced_row-requires-clause-leaves c =
     subst (λ (ps : List Proof). All HasFirstLeaves (map derivation_of ps)) (sym c.as_slice.ensures)
-    (first-leaves c.args.problem.now c.args.model.now.atoms c.args.formula.now c.args.vars c.in-Ok.answer.objects
+    (first-leaves c.args.problem.now c.args.model.now.atoms c.args.formula.now c.args.variable_count c.in-Ok.answer.objects
     (map derivation_of c.in-Ok.answer.proofs) c.requires.problem c.requires.formula c.in-Ok.ensures.first)
 
 pub returns-in-Ok : goal.returns-in-Ok
 returns-in-Ok c =
-    if_first_row c.args.problem.now c.args.steps.now c.args.model.now.atoms c.args.formula.now c.args.vars c.in-Ok.answer.objects
+    if_first_row c.args.problem.now c.args.steps.now c.args.model.now.atoms c.args.formula.now c.args.variable_count c.in-Ok.answer.objects
     c.in-Ok.answer.proofs c.as_slice.result.now c.sourced_row.result c.as_slice.ensures c.in-Ok.ensures.first c.sourced_row.ensures
 
 pub unreachable-requires : goal.unreachable-requires

@@ -19,5 +19,5 @@ returns-clause-rows c =
     subst (λ (rs : List (List Derivation)). MovesRows task (initial_node task) [] c.args.moves.now rs)
     (sym (rows-push c.args.walk.rows.items c.push.new.items.items c.in_ok-row.row c.in_ok-push.ensures.ok))
     (c.requires.taken.rows (map derivation_of c.in_ok-row.row)
-    (first_row-here task.problem c.args.walk.steps.items c.deref.result.now c.args.walk.model.atoms task.goal task.goal task.vars
+    (first_row-here task.problem c.args.walk.steps.items c.deref.result.now c.args.walk.model.atoms task.goal task.goal task.variable_count
     (map derivation_of c.in_ok-row.row) c.deref.ensures.value refl c.in_ok-row.ensures))

@@ -22,7 +22,7 @@ first_row-requires-clause-formula c =
 pub first_row-requires-clause-findable : goal.first_row-requires-clause-findable
 first_row-requires-clause-findable c =
     subst (λ (formula : List Atom). IsFindable c.args.asked.now.problem.now
-    (record { formula = formula; vars = 0; facts = c.args.walk.model.atoms }))
+    (record { formula = formula; variable_count = 0; facts = c.args.walk.model.atoms }))
     (sym (c.deref-2.ensures.value ∙ c.in_ok-formula.ensures)) c.requires.findable
 
 pub apply_to-requires-clause-inst : goal.apply_to-requires-clause-inst

@@ -7,7 +7,7 @@ apply-requires c = λ k d below.
     plain_variable _ _
     (plain_lits c.args.axioms.now c.args.clause c.args.theta.now c.lits-lits.result.now c.lits-lits.ensures.arena
     (omega (arith, c.if-clause-count.false, c.count.ensures.count))
-    (c.if-theta-vars.false ∙ c.vars.ensures.value no_clause)
+    (c.if-theta-variable_count.false ∙ c.variable_count.ensures.value no_clause)
     (c.lits-lits.ensures.value no_clause) c.args.place c.index-lits-place.result c.if-place-lits.false k d below)
 
 pub returns : goal.returns

@@ -18,7 +18,7 @@ returns-then-each_proves_some c =
     let partners = zip_partners over c.args.row.now (c.each_proves_some.ensures.0 c.if-each_proves_some.true) in (
       λ yes.
           let made =
-          made_by_choices p c.args.params c.args.goal_vars c.args.goal.now c.requires partners.0
+          made_by_choices p c.args.params c.args.goal_variable_count c.args.goal.now c.requires partners.0
           ((c.row_concludes.ensures partners.0 (concluded partners.0 c.args.row.now partners.1)).0 yes) in (
             made.0,
             made.1,
@@ -33,7 +33,7 @@ returns-then-each_proves_some c =
           let each =
           zip_from_map (IsProofOf (IsObjectOrParameter p.objects c.args.params) p.axioms) derivation_of given c.args.row.now proved.2 in
           (c.row_concludes.ensures given (concluded given c.args.row.now each)).1
-          (choices_give p c.args.params c.args.goal_vars c.args.goal.now c.requires proved.0),
+          (choices_give p c.args.params c.args.goal_variable_count c.args.goal.now c.requires proved.0),
     )
 
 pub returns-else-each_proves_some : goal.returns-else-each_proves_some

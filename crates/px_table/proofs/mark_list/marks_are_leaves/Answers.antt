@@ -6,9 +6,9 @@ use Rattle.px_proof.specs.declared.proof.Proof.{Proof}
 use Rattle.px_proof.specs.ProofTerm.{derivation_of}
 use Rattle.px_table.specs.declared.mark.Mark.{Mark}
 use Rattle.px_table.specs.Marks.{marks_from, row_marks}
-use Rattle.px_table.specs.Once.{IsFront}
+use Rattle.px_table.specs.Once.{IsPrefix}
 use Rattle.px_table.specs.Tables.{rows_of}
-use Rattle.px_table.proofs.Fronts.{rows-next, rows-fail}
+use Rattle.px_table.proofs.Prefixes.{rows-next, rows-fail}
 use Rattle.px_table.proofs.mark_list.marks_are_leaves.Goals as goal
 
 -- the rest of a list up to its end
@@ -27,12 +27,12 @@ returns-in-None c =
     let below : c.loop-k.k < length c.args.table.now.proofs = rw c.as_slice-row-items.ensures at c.loop-k-test.true in
     let below' : c.loop-k.k < length (rows_of c.args.table.now.proofs) =
     omega (arith, below, length-map c.args.table.now.proofs (map derivation_of)) in
-    let front : IsFront (drop c.loop-k.at marks) (row_marks (suc c.loop-k.k) (map derivation_of c.row-item.result)) None =
+    let prefix : IsPrefix (drop c.loop-k.at marks) (row_marks (suc c.loop-k.k) (map derivation_of c.row-item.result)) None =
     rw (to_end marks c.loop-k.at, c.proofs.ensures, add-one c.loop-k.k) at c.in-None.ensures in (
       λ yes. cc,
       λ whole.
           absurd (rows-fail marks (rows_of c.args.table.now.proofs) c.loop-k.k c.loop-k.at (map derivation_of c.row-item.result) below'
-          (row_at c.args.table.now.proofs c.loop-k.k c.row-item.result is below) front
+          (row_at c.args.table.now.proofs c.loop-k.k c.row-item.result is below) prefix
           (c.loop-k.invariant.rest.1 (c.as_slice-marks.ensures ∙ whole))),
     )
 
@@ -44,13 +44,13 @@ loop-k-preserved c =
     let below : c.loop-k.k < length c.args.table.now.proofs = rw c.as_slice-row-items.ensures at c.loop-k-test.true in
     let below' : c.loop-k.k < length (rows_of c.args.table.now.proofs) =
     omega (arith, below, length-map c.args.table.now.proofs (map derivation_of)) in
-    let front : IsFront (drop c.loop-k.at marks) (row_marks (suc c.loop-k.k) (map derivation_of c.row-item.result)) (Some c.in-Some.count) =
+    let prefix : IsPrefix (drop c.loop-k.at marks) (row_marks (suc c.loop-k.k) (map derivation_of c.row-item.result)) (Some c.in-Some.count) =
     rw (to_end marks c.loop-k.at, c.proofs.ensures, add-one c.loop-k.k) at c.in-Some.ensures in
     let next =
     rows-next marks (rows_of c.args.table.now.proofs) c.loop-k.k c.loop-k.at (map derivation_of c.row-item.result) below'
-    (row_at c.args.table.now.proofs c.loop-k.k c.row-item.result is below) c.in-Some.count front in
+    (row_at c.args.table.now.proofs c.loop-k.k c.row-item.result is below) c.in-Some.count prefix in
     record {
-      within = omega (arith, length-drop c.loop-k.at marks, c.loop-k.invariant.within, front.0);
+      within = omega (arith, length-drop c.loop-k.at marks, c.loop-k.invariant.within, prefix.0);
       rest =
           rw (add-one c.loop-k.k, ← drop-drop c.in-Some.count c.loop-k.at marks)
           (λ h. c.loop-k.invariant.rest.0 (next.0 h), λ whole. next.1 (c.loop-k.invariant.rest.1 whole));

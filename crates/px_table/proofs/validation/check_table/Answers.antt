@@ -13,7 +13,7 @@ marks_are_leaves-requires c =
     let t = c.args.table.now in
     let is = c.own_rows_make_table.ensures.0 c.if-own_rows_make_table.true in
     let long =
-    rows_length (IsObjectOrParameter c.args.problem.now.objects t.params) c.args.problem.now t.params t.goal t.goal_vars t.steps
+    rows_length (IsObjectOrParameter c.args.problem.now.objects t.params) c.args.problem.now t.params t.goal t.goal_variable_count t.steps
     (rows_of t.proofs) is.prove in
     omega (arith, long, is.in_range.short, length-map t.proofs (map derivation_of))
 

@@ -11,5 +11,5 @@ leaves_are_named-requires-clause-short c =
     let in_range = c.are_in_range.ensures.0 c.if-not-are_in_range.false in
     let long =
     rows_length (IsObjectOrParameter c.args.problem.now.objects c.args.params) c.args.problem.now c.args.params c.args.goal.now
-    c.args.goal_vars c.args.steps.now (rows_of c.args.rows.now) (c.rows_prove.ensures.0 c.if-rows_prove.true) in
+    c.args.goal_variable_count c.args.steps.now (rows_of c.args.rows.now) (c.rows_prove.ensures.0 c.if-rows_prove.true) in
     omega (arith, long, in_range.0, length-map c.args.rows.now (map derivation_of))

@@ -8,13 +8,13 @@ use Rattle.px_table.proofs.validation.rows_make_table.Goals as goal
 pub returns-clause-computes : goal.returns-clause-computes
 returns-clause-computes c =
     same_from_decides c.meets_each.result
-    (rows_are_table c.args.problem.now c.args.params c.args.param_sorts.now c.args.steps.now c.args.goal.now c.args.goal_vars
+    (rows_are_table c.args.problem.now c.args.params c.args.param_sorts.now c.args.steps.now c.args.goal.now c.args.goal_variable_count
     (rows_of c.args.rows.now)) c.meets_each.ensures
-    (rows_are_decided c.args.problem.now c.args.params c.args.param_sorts.now c.args.steps.now c.args.goal.now c.args.goal_vars
+    (rows_are_decided c.args.problem.now c.args.params c.args.param_sorts.now c.args.steps.now c.args.goal.now c.args.goal_variable_count
     c.args.rows.now)
 
 pub returns-clause-carries : goal.returns-clause-carries
 returns-clause-carries c =
     λ holds. kernels_carry c.args.problem.now
-    (table_of_rows c.args.params c.args.param_sorts.now c.args.steps.now c.args.goal.now c.args.goal_vars c.args.rows.now)
+    (table_of_rows c.args.params c.args.param_sorts.now c.args.steps.now c.args.goal.now c.args.goal_variable_count c.args.rows.now)
     (c.meets_each.ensures.0 holds)

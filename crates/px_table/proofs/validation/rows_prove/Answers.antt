@@ -11,7 +11,7 @@ returns-then-rows-count c = (
   λ yes. cc,
   λ proved.
       let long =
-      rows_length (IsObjectOrParameter c.args.problem.now.objects c.args.params) c.args.problem.now c.args.params c.args.goal.now c.args.goal_vars c.args.steps.now
+      rows_length (IsObjectOrParameter c.args.problem.now.objects c.args.params) c.args.problem.now c.args.params c.args.goal.now c.args.goal_variable_count c.args.steps.now
       (rows_of c.args.rows.now) proved in
       absurd (c.if-rows-count.true (omega (
         arith,
@@ -28,7 +28,7 @@ returns-then-not-row_proves c =
     let long : length c.args.rows.now ≡ suc (length c.args.steps.now) =
     omega (arith, c.if-rows-count.false) in
     let split =
-    rows_step (IsObjectOrParameter c.args.problem.now.objects c.args.params) c.args.problem.now c.args.params c.args.goal.now c.args.goal_vars c.args.steps.now c.args.rows.now
+    rows_step (IsObjectOrParameter c.args.problem.now.objects c.args.params) c.args.problem.now c.args.params c.args.goal.now c.args.goal_variable_count c.args.steps.now c.args.rows.now
     c.loop-k.k
     c.index-steps-k.result c.index-rows-k.result is is' below (omega (arith, below, long)) in
     let exact = rw c.proofs.ensures at c.row_proves.ensures in (
@@ -44,7 +44,7 @@ loop-k-preserved c =
     let long : length c.args.rows.now ≡ suc (length c.args.steps.now) =
     omega (arith, c.if-rows-count.false) in
     let split =
-    rows_step (IsObjectOrParameter c.args.problem.now.objects c.args.params) c.args.problem.now c.args.params c.args.goal.now c.args.goal_vars c.args.steps.now c.args.rows.now
+    rows_step (IsObjectOrParameter c.args.problem.now.objects c.args.params) c.args.problem.now c.args.params c.args.goal.now c.args.goal_variable_count c.args.steps.now c.args.rows.now
     c.loop-k.k
     c.index-steps-k.result c.index-rows-k.result is is' below (omega (arith, below, long)) in
     let exact = rw c.proofs.ensures at c.row_proves.ensures in (
@@ -62,7 +62,7 @@ returns c =
     let long : length c.args.rows.now ≡ suc c.loop-k.k =
     omega (arith, end, c.if-rows-count.false) in
     let last =
-    rows_last (IsObjectOrParameter c.args.problem.now.objects c.args.params) c.args.problem.now c.args.params c.args.goal.now c.args.goal_vars c.args.steps.now c.args.rows.now
+    rows_last (IsObjectOrParameter c.args.problem.now.objects c.args.params) c.args.problem.now c.args.params c.args.goal.now c.args.goal_variable_count c.args.steps.now c.args.rows.now
     c.loop-k.k
     c.index-rows-count.result is end long in
     let exact = rw c.proofs-2.ensures at c.goal_is_proved.ensures in (

@@ -8,7 +8,7 @@ use Rattle.px_table.proofs.validation.rows_prove.Given as goal
 abbrev pub invariant-loop-k : goal.invariant-loop-k
 invariant-loop-k l =
     RowsProve (IsObjectOrParameter l.problem.objects l.params) l.problem l.params
-    (drop l.k l.steps) l.goal l.goal_vars
+    (drop l.k l.steps) l.goal l.goal_variable_count
     (drop l.k (rows_of l.rows))
-    ↔ RowsProve (IsObjectOrParameter l.problem.objects l.params) l.problem l.params l.steps l.goal l.goal_vars
+    ↔ RowsProve (IsObjectOrParameter l.problem.objects l.params) l.problem l.params l.steps l.goal l.goal_variable_count
     (rows_of l.rows)

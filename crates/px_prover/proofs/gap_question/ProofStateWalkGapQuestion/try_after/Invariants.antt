@@ -7,10 +7,10 @@ use Rattle.px_prover.proofs.gap_question.ProofStateWalkGapQuestion.try_after.Giv
 
 abbrev pub invariant-loop-self : goal.invariant-loop-self
 invariant-loop-self l = record {
-  stands : IsStanding true (gap_setting l.question) l.question.formula.now l.question.vars l.self;
+  stands : IsStanding true (gap_setting l.question) l.question.formula.now l.question.variable_count l.self;
   there : ticks_in l.self.choices ≡ ticks_in l.fn.self.choices;
   small : AreSmall l.after;
-  passed : HasPassed (gap_setting l.question) l.question.formula.now l.question.vars (ticks_in l.fn.self.choices) l.fn.last l.after;
+  passed : HasPassed (gap_setting l.question) l.question.formula.now l.question.variable_count (ticks_in l.fn.self.choices) l.fn.last l.after;
 }
 
 abbrev pub decreases-loop-self : goal.decreases-loop-self

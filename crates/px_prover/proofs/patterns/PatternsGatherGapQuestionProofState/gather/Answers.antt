@@ -21,12 +21,12 @@ pub loop-self-preserved : goal.loop-self-preserved
 loop-self-preserved c =
     let s = gap_setting c.args.question.now in
     let formula = c.args.question.now.formula.now in
-    let vars = c.args.question.now.vars in
+    let variable_count = c.args.question.now.variable_count in
     let here = ticks_in c.args.walk.now.choices in
     let now = c.try_after.new.self in
     let was = ticks_in c.loop-self.walk.choices in
-    let tried : TriesAfter (IsPossible true s formula vars) was (ticks_in now.choices) c.loop-self.last true =
-    subst (λ (b : Bool). TriesAfter (IsPossible true s formula vars) was (ticks_in now.choices) c.loop-self.last b) c.if-branch.true
+    let tried : TriesAfter (IsPossible true s formula variable_count) was (ticks_in now.choices) c.loop-self.last true =
+    subst (λ (b : Bool). TriesAfter (IsPossible true s formula variable_count) was (ticks_in now.choices) c.loop-self.last b) c.if-branch.true
     (subst (λ (q : ProofQuestion). TriesAfter (IsPossibleIn q) was (ticks_in now.choices) c.loop-self.last c.in_ok-try_after.field-0)
     c.loose-loose.ensures c.in_ok-try_after.ensures.tried) in
     let h = tried.least refl in
@@ -34,8 +34,8 @@ loop-self-preserved c =
     next-tick here was (ticks_in now.choices) (ticks_in c.retract.new.self.choices) c.loop-self.last h.0 c.in-Some.tick
     c.loop-self.invariant.there h.1 h.2 c.in-Some.ensures.last in
     let kept = terms_in c.args.question.now in
-    let stands : IsStanding true s formula vars c.retract.new.self =
-    subst (λ (q : ProofQuestion). IsStanding q.loose (setting_in q) q.formula.now q.vars c.retract.new.self) c.loose-loose.ensures
+    let stands : IsStanding true s formula variable_count c.retract.new.self =
+    subst (λ (q : ProofQuestion). IsStanding q.loose (setting_in q) q.formula.now q.variable_count c.retract.new.self) c.loose-loose.ensures
     c.in-Some.ensures.still in
     record {
       stands = stands;
@@ -43,32 +43,32 @@ loop-self-preserved c =
       small = c.in_ok-next_after-in-Some.ensures.small;
       gathered =
           let has =
-          patterns-next kept s formula vars here c.args.self.now.found.items c.loop-self.self.found.items c.loop-self.last
+          patterns-next kept s formula variable_count here c.args.self.now.found.items c.loop-self.self.found.items c.loop-self.last
           c.loop-self.invariant.gathered was c.loop-self.invariant.there (ticks_in now.choices) tried c.gather_here.new.found.items
           c.in_ok-gather_here.ensures (ticks_in c.retract.new.self.choices) c.in-Some.tick c.in-Some.ensures.last in
-          patterns-passed kept s formula vars here c.args.self.now.found.items c.gather_here.new.found.items _ c.in-Some.tick
+          patterns-passed kept s formula variable_count here c.args.self.now.found.items c.gather_here.new.found.items _ c.in-Some.tick
           c.in_ok-next_after-in-Some.field-0 c.args.question.now c.retract.new.self has.2 c.in_ok-next_after-in-Some.ensures.passed c.deref.ensures.value
           (λ general of u upto objects gaps gives.
-          plain-described s formula vars c.retract.new.self stands kept (few-kept c.args.question.now.with_terms vars) general of u
+          plain-described s formula variable_count c.retract.new.self stands kept (few-kept c.args.question.now.with_terms variable_count) general of u
           (early-plain s u32_max u upto) objects gaps
-          (subst (λ (ts : List Tick). GivesFirst kept s formula vars (ts ++ u ∷ []) objects gaps) (sym next.0) gives));
+          (subst (λ (ts : List Tick). GivesFirst kept s formula variable_count (ts ++ u ∷ []) objects gaps) (sym next.0) gives));
     }
 
 pub next_after-requires : goal.next_after-requires
 next_after-requires c =
-    subst (λ (q : ProofQuestion). IsStanding q.loose (setting_in q) q.formula.now q.vars c.retract.new.self) c.loose-loose.ensures
+    subst (λ (q : ProofQuestion). IsStanding q.loose (setting_in q) q.formula.now q.variable_count c.retract.new.self) c.loose-loose.ensures
     c.in-Some.ensures.still
 
 pub loop-self-smaller : goal.loop-self-smaller
 loop-self-smaller c =
     let s = gap_setting c.args.question.now in
     let formula = c.args.question.now.formula.now in
-    let vars = c.args.question.now.vars in
+    let variable_count = c.args.question.now.variable_count in
     let here = ticks_in c.args.walk.now.choices in
     let now = c.try_after.new.self in
     let was = ticks_in c.loop-self.walk.choices in
-    let tried : TriesAfter (IsPossible true s formula vars) was (ticks_in now.choices) c.loop-self.last true =
-    subst (λ (b : Bool). TriesAfter (IsPossible true s formula vars) was (ticks_in now.choices) c.loop-self.last b) c.if-branch.true
+    let tried : TriesAfter (IsPossible true s formula variable_count) was (ticks_in now.choices) c.loop-self.last true =
+    subst (λ (b : Bool). TriesAfter (IsPossible true s formula variable_count) was (ticks_in now.choices) c.loop-self.last b) c.if-branch.true
     (subst (λ (q : ProofQuestion). TriesAfter (IsPossibleIn q) was (ticks_in now.choices) c.loop-self.last c.in_ok-try_after.field-0)
     c.loose-loose.ensures c.in_ok-try_after.ensures.tried) in
     let h = tried.least refl in
@@ -83,34 +83,34 @@ pub returns-clause-more : goal.returns-clause-more
 returns-clause-more c =
     let s = gap_setting c.args.question.now in
     let formula = c.args.question.now.formula.now in
-    let vars = c.args.question.now.vars in
+    let variable_count = c.args.question.now.variable_count in
     let here = ticks_in c.args.walk.now.choices in
     let now = c.try_after.new.self in
     let was = ticks_in c.loop-self.walk.choices in
-    let tried : TriesAfter (IsPossible true s formula vars) was (ticks_in now.choices) c.loop-self.last false =
-    subst (λ (b : Bool). TriesAfter (IsPossible true s formula vars) was (ticks_in now.choices) c.loop-self.last b) c.if-branch.false
+    let tried : TriesAfter (IsPossible true s formula variable_count) was (ticks_in now.choices) c.loop-self.last false =
+    subst (λ (b : Bool). TriesAfter (IsPossible true s formula variable_count) was (ticks_in now.choices) c.loop-self.last b) c.if-branch.false
     (subst (λ (q : ProofQuestion). TriesAfter (IsPossibleIn q) was (ticks_in now.choices) c.loop-self.last c.in_ok-try_after.field-0)
     c.loose-loose.ensures c.in_ok-try_after.ensures.tried) in
     let kept = terms_in c.args.question.now in
     λ seen before.
-    pruned-same c.loop-self.self.found.items c.prune-self.new.patterns.items c.prune-self.ensures kept s formula vars (seen ++ here ∷ [])
-    (patterns-more kept s formula vars seen here c.args.self.now.found.items c.loop-self.self.found.items before
-    (patterns-end kept s formula vars here c.args.self.now.found.items c.loop-self.self.found.items c.loop-self.last
+    pruned-same c.loop-self.self.found.items c.prune-self.new.patterns.items c.prune-self.ensures kept s formula variable_count (seen ++ here ∷ [])
+    (patterns-more kept s formula variable_count seen here c.args.self.now.found.items c.loop-self.self.found.items before
+    (patterns-end kept s formula variable_count here c.args.self.now.found.items c.loop-self.self.found.items c.loop-self.last
     c.loop-self.invariant.gathered was c.loop-self.invariant.there (ticks_in now.choices) tried))
 
 pub are_two_open-requires-clause-arena : goal.are_two_open-requires-clause-arena
 are_two_open-requires-clause-arena c =
-    (standing-sound true (gap_setting c.args.question.now) c.args.question.now.formula.now c.args.question.now.vars c.args.walk.now
+    (standing-sound true (gap_setting c.args.question.now) c.args.question.now.formula.now c.args.question.now.variable_count c.args.walk.now
     c.requires.stands).arena
 
 pub are_two_open-requires-clause-within : goal.are_two_open-requires-clause-within
 are_two_open-requires-clause-within c =
-    (standing-sound true (gap_setting c.args.question.now) c.args.question.now.formula.now c.args.question.now.vars c.args.walk.now
+    (standing-sound true (gap_setting c.args.question.now) c.args.question.now.formula.now c.args.question.now.variable_count c.args.walk.now
     c.requires.stands).within
 
 pub returns-then-are_two_open-clause-more : goal.returns-then-are_two_open-clause-more
 returns-then-are_two_open-clause-more c = λ seen before.
-    nothing-more (terms_in c.args.question.now) (gap_setting c.args.question.now) c.args.question.now.formula.now c.args.question.now.vars
+    nothing-more (terms_in c.args.question.now) (gap_setting c.args.question.now) c.args.question.now.formula.now c.args.question.now.variable_count
     c.args.walk.now c.requires.stands c.if-are_two_open.ensures seen c.args.self.now.found.items before
 
 pub loop-self-init : goal.loop-self-init
@@ -120,5 +120,5 @@ loop-self-init c = record {
   small = tt;
   gathered =
       patterns-start (terms_in c.args.question.now) (gap_setting c.args.question.now) c.args.question.now.formula.now
-      c.args.question.now.vars (ticks_in c.args.walk.now.choices) c.args.self.now.found.items;
+      c.args.question.now.variable_count (ticks_in c.args.walk.now.choices) c.args.self.now.found.items;
 }

@@ -9,10 +9,10 @@ use Rattle.px_prover.proofs.patterns.PatternsGatherGapQuestionProofState.gather.
 
 abbrev pub invariant-loop-self : goal.invariant-loop-self
 invariant-loop-self l = record {
-  stands : IsStanding true (gap_setting l.question) l.question.formula.now l.question.vars l.walk;
+  stands : IsStanding true (gap_setting l.question) l.question.formula.now l.question.variable_count l.walk;
   there : ticks_in l.walk.choices ≡ ticks_in l.fn.walk.choices;
   small : AreSmall l.last;
-  gathered : HasPatterns (terms_in l.question) (gap_setting l.question) l.question.formula.now l.question.vars
+  gathered : HasPatterns (terms_in l.question) (gap_setting l.question) l.question.formula.now l.question.variable_count
       (ticks_in l.fn.walk.choices) l.fn.self.found.items l.last l.self.found.items;
 }
 

@@ -13,7 +13,7 @@ zero-to n e = grind (arith, e)
 pub returns : goal.returns
 returns c =
     let both =
-    finished-is c.args._question.now.loose (setting_in c.args._question.now) c.args._question.now.formula.now c.args._question.now.vars
+    finished-is c.args._question.now.loose (setting_in c.args._question.now) c.args._question.now.formula.now c.args._question.now.variable_count
     c.args.self.now c.requires.stands in (
       λ is. both.0 (sym c.first.ensures ∙ zero-from c.first.result is),
       λ finished. zero-to c.first.result (c.first.ensures ∙ both.1 finished),

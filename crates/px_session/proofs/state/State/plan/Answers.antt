@@ -12,10 +12,10 @@ returns-in-Err-Exhausted-clause-told c =
     let told = rw c.in-Err-Exhausted.field-0-is at c.in-Err-Exhausted.ensures.exhausted in
     let ends = told refl in
     let of_tables = subst (λ (tables : List Table). IsExhausted
-    (task_of c.args.problem.now tables c.self.inside.facts.atoms c.args.goal.now c.args.vars) c.args.problem.now.weight) c.tables.ensures ends in (
+    (task_of c.args.problem.now tables c.self.inside.facts.atoms c.args.goal.now c.args.variable_count) c.args.problem.now.weight) c.tables.ensures ends in (
       refl,
       subst (λ (s : SessionState). IsExhausted
-          (task_of c.args.problem.now s.learned.tables s.atoms c.args.goal.now c.args.vars) c.args.problem.now.weight) c.self.view_is of_tables,
+          (task_of c.args.problem.now s.learned.tables s.atoms c.args.goal.now c.args.variable_count) c.args.problem.now.weight) c.self.view_is of_tables,
       refl,
     )
 
@@ -26,9 +26,9 @@ returns-in-Err-NodeLimit-clause-told c =
     let told = rw c.in-Err-NodeLimit.field-0-is at c.in-Err-NodeLimit.ensures.node_limit in
     let ends = told nodes moves refl in
     let of_tables = subst (λ (tables : List Table). IsNodeLimit
-    (task_of c.args.problem.now tables c.self.inside.facts.atoms c.args.goal.now c.args.vars) c.args.problem.now.weight nodes moves) c.tables.ensures ends in
+    (task_of c.args.problem.now tables c.self.inside.facts.atoms c.args.goal.now c.args.variable_count) c.args.problem.now.weight nodes moves) c.tables.ensures ends in
     let of_state = subst (λ (s : SessionState). IsNodeLimit
-    (task_of c.args.problem.now s.learned.tables s.atoms c.args.goal.now c.args.vars) c.args.problem.now.weight nodes moves) c.self.view_is of_tables in
+    (task_of c.args.problem.now s.learned.tables s.atoms c.args.goal.now c.args.variable_count) c.args.problem.now.weight nodes moves) c.self.view_is of_tables in
     (refl, rw c.in-Err-NodeLimit.field-0-is of_state, refl)
 
 pub search-requires-clause-tables : goal.search-requires-clause-tables

@@ -32,7 +32,7 @@ pub returns-in-Ok-clause-told : goal.returns-in-Ok-clause-told
 returns-in-Ok-clause-told c =
     let made = c.in-Ok.field-0 in
     let pursues = λ (tables : List Table) (recorded : List (Recorded Edit)) (atoms : List Atom).
-    IsPursuit leaves_edit c.args.problem.now tables c.args.goal.now c.args.vars recorded atoms made.searches (map turn_told made.turns)
+    IsPursuit leaves_edit c.args.problem.now tables c.args.goal.now c.args.variable_count recorded atoms made.searches (map turn_told made.turns)
     made.end made.facts.atoms in
     let of_tables = subst (λ (tables : List Table). pursues tables c.deref.result.now c.self.inside.facts.atoms) c.tables.ensures
     c.in-Ok.ensures.pursues in

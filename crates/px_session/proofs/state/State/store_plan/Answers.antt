@@ -19,9 +19,9 @@ overflow_cast-result c =
 
 pub returns-clause-told : goal.returns-clause-told
 returns-clause-told c =
-    let task = task_of c.args.problem.now c.args.self.now.learned.tables c.args.self.now.atoms c.args.goal.now c.args.vars in
+    let task = task_of c.args.problem.now c.args.self.now.learned.tables c.args.self.now.atoms c.args.goal.now c.args.variable_count in
     let value = c.in_ok-table.ensures.value
-    ∙ ap (λ (steps : List OpInst). built steps c.args.goal.now c.args.vars c.args.found.support.items) c.as_slice.ensures in
+    ∙ ap (λ (steps : List OpInst). built steps c.args.goal.now c.args.variable_count c.args.found.support.items) c.as_slice.ensures in
     let put = ap (λ (plans : LibraryValue). record (held.the_view c.self.inside) { plans = plans }) c.in_ok-store.ensures.stored in
     let whole = ap (λ (s : SessionState). record s { plans = with_table s.plans c.args.name c.in_ok-table.table }) c.self.view_is in (
       refl,

@@ -17,7 +17,7 @@ search_tree-requires-clause-tables c =
 pub returns : goal.returns
 returns c =
     let grown = λ (tables : List Table) (atoms : List Atom).
-    IsTree (task_with c.args.problem.now c.args.nodes tables atoms c.args.goal.now c.args.vars) c.args.problem.now.weight c.in_ok-tree.tree in
+    IsTree (task_with c.args.problem.now c.args.nodes tables atoms c.args.goal.now c.args.variable_count) c.args.problem.now.weight c.in_ok-tree.tree in
     let of_tables = subst (λ (tables : List Table). grown tables c.self.inside.facts.atoms) c.tables.ensures c.in_ok-tree.ensures in
     let of_state = subst (λ (s : SessionState). grown s.learned.tables s.atoms) c.self.view_is of_tables in
     let names = c.in_ok-tables.ensures ∙ c.names.ensures ∙ ap (λ (s : SessionState). s.learned.names) c.self.view_is in

@@ -8,34 +8,34 @@ ghost use Rattle.px_terms.specs.Language.{IsVariableBelow};
 ghost use Rattle.px_terms.specs.Operators.{IsDeleted, schema_of as spec_schema_of};
 ghost use Rattle.px_terms.specs.Sorts.{IsWellSorted};
 ghost use Rattle.px_terms.specs.Validity.{IsInstanceOf, IsValid};
-ghost use Rattle.px_diff.specs.Macros.{IsMacroFront};
+ghost use Rattle.px_diff.specs.Macros.{IsMacroPrefix};
 
-use crate::front::Front;
+use crate::prefix::Prefix;
 use px_ops::schema_of;
 use px_table::{Mark, Table, instance_with, proper_prefix};
 use px_terms::{OpInst, Problem, Term, fits};
 
 /// Returns whether the parameter may have this number.
-fn is_allowed(front: &Front, parameter: usize, number: u32) -> bool
-    requires front { IsMacroFront front.now }
-    requires parameter { parameter < front.now.table.now.params }
-    ensures { IsTrue result ↔ IsAllowedNumber front.now.request.problem.now front.now.table.now front.now.count parameter number }
+fn is_allowed(prefix: &Prefix, parameter: usize, number: u32) -> bool
+    requires prefix { IsMacroPrefix prefix.now }
+    requires parameter { parameter < prefix.now.table.now.params }
+    ensures { IsTrue result ↔ IsAllowedNumber prefix.now.request.problem.now prefix.now.table.now prefix.now.count parameter number }
 {
-    match front.start[parameter] {
+    match prefix.start[parameter] {
         Term::Obj(object) => number == object,
-        Term::Var(_) | Term::Any => number < front.request.problem.objects,
+        Term::Var(_) | Term::Any => number < prefix.request.problem.objects,
     }
 }
 
 /// Returns whether each parameter has a number that it may have.
-fn are_allowed(front: &Front, sigma: &[u32]) -> bool
-    requires front { IsMacroFront front.now }
-    requires sigma { length sigma.now ≡ front.now.table.now.params }
-    ensures { IsTrue result ↔ EachIndex sigma.now (λ v. IsAllowedNumber front.now.request.problem.now front.now.table.now front.now.count v
+fn are_allowed(prefix: &Prefix, sigma: &[u32]) -> bool
+    requires prefix { IsMacroPrefix prefix.now }
+    requires sigma { length sigma.now ≡ prefix.now.table.now.params }
+    ensures { IsTrue result ↔ EachIndex sigma.now (λ v. IsAllowedNumber prefix.now.request.problem.now prefix.now.table.now prefix.now.count v
         (slice_index sigma.now v)) }
 {
     for (parameter, number) in sigma.iter().enumerate() {
-        if !is_allowed(front, parameter, *number) {
+        if !is_allowed(prefix, parameter, *number) {
             return false;
         }
     }
@@ -57,42 +57,46 @@ fn all_fit(problem: &Problem, sigma: &[u32], steps: &[OpInst]) -> bool
 }
 
 /// Returns whether each of the first steps fits, with the objects for the parameters.
-fn steps_fit(front: &Front, sigma: &[u32]) -> bool
-    requires front { IsMacroFront front.now }
-    requires count { length sigma.now ≡ front.now.table.now.params }
-    requires used { (v : ℕ) → v < front.now.table.now.params → IsUsed front.now.table.now front.now.count v → slice_index sigma.now v
-        < front.now.request.problem.now.objects }
-    ensures { IsTrue result ↔ All (IsWellSorted front.now.request.problem.now) (take front.now.count (steps_under front.now.table.now
+fn steps_fit(prefix: &Prefix, sigma: &[u32]) -> bool
+    requires prefix { IsMacroPrefix prefix.now }
+    requires count { length sigma.now ≡ prefix.now.table.now.params }
+    requires used { (v : ℕ) → v < prefix.now.table.now.params → IsUsed prefix.now.table.now prefix.now.count v → slice_index sigma.now v
+        < prefix.now.request.problem.now.objects }
+    ensures { IsTrue result ↔ All (IsWellSorted prefix.now.request.problem.now) (take prefix.now.count (steps_under prefix.now.table.now
         sigma.now)) }
 {
-    let steps = front.table.steps.as_slice();
-    all_fit(front.request.problem, sigma, &steps[..front.count as usize])
+    let steps = prefix.table.steps.as_slice();
+    all_fit(
+        prefix.request.problem,
+        sigma,
+        &steps[..prefix.count as usize],
+    )
 }
 
 /// Returns whether none of the first steps deletes a mark of their rows that it stands between, with the objects for the parameters.
-fn is_proper(front: &Front, sigma: &[u32]) -> bool
-    requires front { IsMacroFront front.now }
-    requires sigma { length sigma.now ≡ front.now.table.now.params }
-    ensures { IsTrue result ↔ IsProperPrefix front.now.request.problem.now front.now.table.now front.now.count sigma.now }
+fn is_proper(prefix: &Prefix, sigma: &[u32]) -> bool
+    requires prefix { IsMacroPrefix prefix.now }
+    requires sigma { length sigma.now ≡ prefix.now.table.now.params }
+    ensures { IsTrue result ↔ IsProperPrefix prefix.now.request.problem.now prefix.now.table.now prefix.now.count sigma.now }
 {
-    if front.keeps_marks {
+    if prefix.keeps_marks {
         return true;
     }
-    proper_prefix(front.request.problem, front.table, front.count, sigma)
+    proper_prefix(prefix.request.problem, prefix.table, prefix.count, sigma)
 }
 
 /// Returns whether the first steps with these objects are a MACROP.
-pub fn is_macro_of(front: &Front, sigma: &[u32]) -> bool
-    requires { IsMacroFront front.now }
-    ensures { IsTrue result ↔ IsMacro front.now.request.problem.now front.now.table.now front.now.count sigma.now }
+pub fn is_macro_of(prefix: &Prefix, sigma: &[u32]) -> bool
+    requires { IsMacroPrefix prefix.now }
+    ensures { IsTrue result ↔ IsMacro prefix.now.request.problem.now prefix.now.table.now prefix.now.count sigma.now }
 {
-    if sigma.len() != front.table.params as usize {
+    if sigma.len() != prefix.table.params as usize {
         return false;
     }
-    if !are_allowed(front, sigma) {
+    if !are_allowed(prefix, sigma) {
         return false;
     }
-    steps_fit(front, sigma) && is_proper(front, sigma)
+    steps_fit(prefix, sigma) && is_proper(prefix, sigma)
 }
 
 /// Returns whether one of the step's delete patterns is about the predicate.

@@ -6,7 +6,7 @@ use std::alloc::Global;
 
 /// The first steps of a learned table, of which a request wants MACROPs.
 #[derive(Clone, Copy)]
-pub struct Front<'a> {
+pub struct Prefix<'a> {
     /// Where memory is taken from.
     pub alloc: Global,
     pub request: Request<'a>,

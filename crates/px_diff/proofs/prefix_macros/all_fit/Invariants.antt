@@ -2,7 +2,7 @@ use Rattle.std.proofs.Common.{ℕ, ◌<◌, get_or}
 use Rattle.px_terms.specs.declared.instance.OpInst.{OpInst}
 use Rattle.px_terms.specs.Sorts.{IsWellSorted}
 use Rattle.px_table.specs.Kernels.{instance_under}
-use Rattle.px_diff.proofs.front_macros.all_fit.Given as goal
+use Rattle.px_diff.proofs.prefix_macros.all_fit.Given as goal
 
 abbrev pub invariant-loop-step : goal.invariant-loop-step
 invariant-loop-step l =

@@ -3,7 +3,7 @@ use Rattle.px_base.proofs.Loops.{AllBefore}
 use Rattle.px_table.specs.declared.mark.Mark.{Mark}
 use Rattle.px_table.specs.Kernels.{mark_under, steps_under}
 use Rattle.px_table.specs.Marks.{IsKept}
-use Rattle.px_diff.proofs.front_macros.keep_marks.Given as goal
+use Rattle.px_diff.proofs.prefix_macros.keep_marks.Given as goal
 
 abbrev pub invariant-loop-mark : goal.invariant-loop-mark
 invariant-loop-mark l =

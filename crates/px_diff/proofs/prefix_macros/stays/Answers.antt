@@ -4,7 +4,7 @@ use Rattle.px_base.proofs.Loops.{contains_here}
 use Rattle.px_terms.specs.declared.instance.OpInst.{OpInst}
 use Rattle.std.specs.Prelude.{length}
 use Rattle.px_table.proofs.KeptSteps.{kept-all, kept-next, kept-start}
-use Rattle.px_diff.proofs.front_macros.stays.Goals as goal
+use Rattle.px_diff.proofs.prefix_macros.stays.Goals as goal
 
 pub may_spoil-requires-clause-op : goal.may_spoil-requires-clause-op
 may_spoil-requires-clause-op c =

@@ -10,8 +10,8 @@ use Rattle.px_proof.specs.ProofTerm.{derivation_of}
 use Rattle.px_table.specs.declared.mark.Mark.{Mark}
 use Rattle.px_table.specs.MarkLaws.{mark_eq-decides, all_leaves-row, row_leaves-append}
 use Rattle.px_table.specs.Marks.{mark_eq, mark_of, marks_from, row_leaves, row_marks}
-use Rattle.px_table.specs.Once.{IsFront, put_each, put_once}
-use Rattle.px_table.specs.OnceLaws.{put_each-append, put_each-front}
+use Rattle.px_table.specs.Once.{IsPrefix, put_each, put_once}
+use Rattle.px_table.specs.OnceLaws.{put_each-append, put_each-prefix}
 
 pub put_once-new : {A : Type 0} (same : A → A → Bool) (xs : List A) (x : A) → list_any (λ y. same y x) xs ≡ false
     → put_once same xs x ≡ xs ++ x ∷ []
@@ -34,14 +34,14 @@ item_behind (y ∷ ys) (suc k) x rest d e h =
 -- ---- one leaf
 
 module _ (marks : List Mark) (count : ℕ) (mark : Mark) (within : count ≤ length marks) where
-  pub front-there : list_any (λ other. mark_eq other mark) (take count marks) ≡ true
-      → IsFront marks (put_once mark_eq (take count marks) mark) (Some count)
-  front-there is = (within, sym (put_once-there mark_eq (take count marks) mark is))
+  pub prefix-there : list_any (λ other. mark_eq other mark) (take count marks) ≡ true
+      → IsPrefix marks (put_once mark_eq (take count marks) mark) (Some count)
+  prefix-there is = (within, sym (put_once-there mark_eq (take count marks) mark is))
 
-  pub front-more : (item : Mark) → list_any (λ other. mark_eq other mark) (take count marks) ≡ false → count < length marks
+  pub prefix-more : (item : Mark) → list_any (λ other. mark_eq other mark) (take count marks) ≡ false → count < length marks
       → item ≡ get_or marks count item → mark_eq item mark ≡ true
-      → IsFront marks (put_once mark_eq (take count marks) mark) (Some (count + 1))
-  front-more item new below is same = (
+      → IsPrefix marks (put_once mark_eq (take count marks) mark) (Some (count + 1))
+  prefix-more item new below is same = (
     omega arith,
     take_more marks count item below ∙ ap (λ m. take count marks ++ m ∷ []) (sym is ∙ (mark_eq-decides item mark).0 same)
         ∙ sym (put_once-new mark_eq (take count marks) mark new),
@@ -54,15 +54,15 @@ module _ (marks : List Mark) (count : ℕ) (mark : Mark) (within : count ≤ len
       item_behind marks count mark rest d (e ∙ ap (λ l. l ++ rest) (put_once-new mark_eq (take count marks) mark new)
       ∙ append_assoc (take count marks) (mark ∷ []) rest) within
 
-  pub front-other : (item : Mark) → list_any (λ other. mark_eq other mark) (take count marks) ≡ false → item ≡ get_or marks count item
+  pub prefix-other : (item : Mark) → list_any (λ other. mark_eq other mark) (take count marks) ≡ false → item ≡ get_or marks count item
       → mark_eq item mark ≡ false
-      → IsFront marks (put_once mark_eq (take count marks) mark) None
-  front-other item new is other rest e =
+      → IsPrefix marks (put_once mark_eq (take count marks) mark) None
+  prefix-other item new is other rest e =
       both_answers (mark_eq item mark) other ((mark_eq-decides item mark).1 (is ∙ (behind rest new e item).1))
 
-  pub front-end : list_any (λ other. mark_eq other mark) (take count marks) ≡ false → length marks ≤ count
-      → IsFront marks (put_once mark_eq (take count marks) mark) None
-  front-end new end rest e = omega (arith, (behind rest new e mark).0)
+  pub prefix-end : list_any (λ other. mark_eq other mark) (take count marks) ≡ false → length marks ≤ count
+      → IsPrefix marks (put_once mark_eq (take count marks) mark) None
+  prefix-end new end rest e = omega (arith, (behind rest new e mark).0)
 
 -- ---- the leaves of several proofs
 
@@ -90,7 +90,7 @@ one-mark row proof = ap (map (mark_of row)) (all_leaves-row (derivation_of proof
 
 module _ (marks : List Mark) (count row : ℕ) (proofs : List Proof) (k : ℕ) (proof : Proof) (is : proof ≡ get_or proofs k proof)
     (below : k < length proofs)
-    (at : ℕ) (front : take at marks ≡ put_each mark_eq (take count marks) (first_marks row proofs k)) where
+    (at : ℕ) (prefix : take at marks ≡ put_each mark_eq (take count marks) (first_marks row proofs k)) where
   marks-more : first_marks row proofs (k + 1) ≡ first_marks row proofs k ++ map (mark_of row) (leaves_of (derivation_of proof))
   marks-more =
       ap (all_marks row) (take_more proofs k proof below ∙ ap (λ p. take k proofs ++ p ∷ []) (sym is))
@@ -100,17 +100,17 @@ module _ (marks : List Mark) (count row : ℕ) (proofs : List Proof) (k : ℕ) (
   put-more : put_each mark_eq (take at marks) (map (mark_of row) (leaves_of (derivation_of proof)))
       ≡ put_each mark_eq (take count marks) (first_marks row proofs (k + 1))
   put-more =
-      ap (λ l. put_each mark_eq l (map (mark_of row) (leaves_of (derivation_of proof)))) front
+      ap (λ l. put_each mark_eq l (map (mark_of row) (leaves_of (derivation_of proof)))) prefix
       ∙ sym (put_each-append mark_eq (take count marks) (first_marks row proofs k) (map (mark_of row) (leaves_of (derivation_of proof))))
       ∙ ap (put_each mark_eq (take count marks)) (sym marks-more)
 
-  pub walk-next : (next : ℕ) → IsFront marks (put_each mark_eq (take at marks) (map (mark_of row) (leaves_of (derivation_of proof))))
+  pub walk-next : (next : ℕ) → IsPrefix marks (put_each mark_eq (take at marks) (map (mark_of row) (leaves_of (derivation_of proof))))
       (Some next)
       → (next ≤ length marks) × (take next marks ≡ put_each mark_eq (take count marks) (first_marks row proofs (k + 1)))
   walk-next next h = (h.0, h.1 ∙ put-more)
 
-  pub walk-fails : IsFront marks (put_each mark_eq (take at marks) (map (mark_of row) (leaves_of (derivation_of proof)))) None
-      → IsFront marks (put_each mark_eq (take count marks) (all_marks row proofs)) None
+  pub walk-fails : IsPrefix marks (put_each mark_eq (take at marks) (map (mark_of row) (leaves_of (derivation_of proof)))) None
+      → IsPrefix marks (put_each mark_eq (take count marks) (all_marks row proofs)) None
   walk-fails h rest e =
       let split : all_marks row proofs ≡ first_marks row proofs (k + 1) ++ all_marks row (drop (k + 1) proofs) =
       ap (all_marks row) (sym (take-append-drop (k + 1) proofs)) ∙ marks-append row (take (k + 1) proofs) (drop (k + 1) proofs) in
@@ -118,7 +118,7 @@ module _ (marks : List Mark) (count row : ℕ) (proofs : List Proof) (k : ℕ) (
       ap (put_each mark_eq (take count marks)) split
       ∙ put_each-append mark_eq (take count marks) (first_marks row proofs (k + 1)) (all_marks row (drop (k + 1) proofs)) in
       let later =
-      put_each-front mark_eq (put_each mark_eq (take count marks) (first_marks row proofs (k + 1)))
+      put_each-prefix mark_eq (put_each mark_eq (take count marks) (first_marks row proofs (k + 1)))
       (all_marks row (drop (k + 1) proofs)) in
       h (later.0 ++ rest)
       (e ∙ ap (λ l. l ++ rest) (whole ∙ later.1 ∙ ap (λ l. l ++ later.0) (sym put-more))
@@ -131,14 +131,14 @@ module _ (marks : List Mark) (rows : List (List Derivation)) (k at : ℕ) (row :
   here : marks_from (suc k) (drop k rows) ≡ row_marks (suc k) row ++ marks_from (suc (suc k)) (drop (suc k) rows)
   here = ap (marks_from (suc k)) (drop-cons rows k row below ∙ ap (λ r. r ∷ drop (suc k) rows) is)
 
-  pub rows-next : (count : ℕ) → IsFront (drop at marks) (row_marks (suc k) row) (Some count)
+  pub rows-next : (count : ℕ) → IsPrefix (drop at marks) (row_marks (suc k) row) (Some count)
       → (drop count (drop at marks) ≡ marks_from (suc (suc k)) (drop (suc k) rows)) ↔ (drop at marks ≡ marks_from (suc k) (drop k rows))
-  rows-next count front =
+  rows-next count prefix =
       let split : drop at marks ≡ row_marks (suc k) row ++ drop count (drop at marks) =
-      sym (take-append-drop count (drop at marks)) ∙ ap (λ l. l ++ drop count (drop at marks)) front.1 in (
+      sym (take-append-drop count (drop at marks)) ∙ ap (λ l. l ++ drop count (drop at marks)) prefix.1 in (
         λ rest. split ∙ ap (λ l. row_marks (suc k) row ++ l) rest ∙ sym here,
         λ whole. append_cancel_left (row_marks (suc k) row) _ _ (sym split ∙ whole ∙ here),
       )
 
-  pub rows-fail : IsFront (drop at marks) (row_marks (suc k) row) None → ¬ (drop at marks ≡ marks_from (suc k) (drop k rows))
-  rows-fail front whole = front (marks_from (suc (suc k)) (drop (suc k) rows)) (whole ∙ here)
+  pub rows-fail : IsPrefix (drop at marks) (row_marks (suc k) row) None → ¬ (drop at marks ≡ marks_from (suc k) (drop k rows))
+  rows-fail prefix whole = prefix (marks_from (suc (suc k)) (drop (suc k) rows)) (whole ∙ here)

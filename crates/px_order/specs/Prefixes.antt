@@ -2,13 +2,13 @@
 use Rattle.std.proofs.Common.{◌≡◌, ℕ, zero, suc, ◌<◌, ◌≤◌, List, [], ◌∷◌, ◌++◌, length, refl, sym, ◌∙◌, ap, subst, inl, inr, arith, Some, slice_get, Contains, append_assoc}
 use Rattle.px_order.specs.AtZero.{push-parts, no_end}
 use Rattle.px_order.specs.Ends.{Aim, IsStop, IsGoneThrough}
-use Rattle.px_order.specs.Places.{order_of, place_of, contains_place, place-within-list, push-cases, still_there, at_end, get-front}
+use Rattle.px_order.specs.Places.{order_of, place_of, contains_place, place-within-list, push-cases, still_there, at_end, get-prefix}
 use Rattle.px_order.specs.RunLaws.{behind, once}
 use Rattle.px_order.specs.RunOrigins.{From, PickedAt, origins, picked-at}
 use Rattle.px_order.specs.Spaces.{Space, Order, at}
 
 -- a list with items has a last one
-split-last : {A : Type 0} (m : A) (rest : List A) → (front : List A) × (last : A) × (m ∷ rest ≡ front ++ last ∷ [])
+split-last : {A : Type 0} (m : A) (rest : List A) → (prefix : List A) × (last : A) × (m ∷ rest ≡ prefix ++ last ∷ [])
 split-last m [] = ([], m, refl)
 split-last {A = A} m (k ∷ rest) = let r = split-last k rest in (m ∷ r.0, r.1, ap (λ (l : List A). m ∷ l) r.2)
 
@@ -32,12 +32,12 @@ module _ {N M Q : Type 0} (space : Space N M) (order : Order N M) (aim : Aim N Q
     below : from.place < length s.lists
     below = (behind space order s.comes.0 s.lists (from.place ∷ s.earlier) s.comes.1).within from.place (0, omega arith, refl)
 
-    -- the list wasn't found yet when its front was picked
+    -- the list wasn't found yet when its prefix was picked
     fewer : length s.lists ≤ k
     fewer = elim (order_of k (length s.lists)) [
       | inl more ↦
           let here : slice_get s.lists k ≡ Some moves =
-          get-front s.lists s.rest k moves more (ap (λ (l : List (List M)). slice_get l k) (sym s.found_is) ∙ stands) in
+          get-prefix s.lists s.rest k moves more (ap (λ (l : List (List M)). slice_get l k) (sym s.found_is) ∙ stands) in
           elim (origins space order s.before.0 s.lists s.earlier s.before.1 k moves here) [
             | inl first ↦ absurd (no_end from.parent from.m (first.1 ∙ from.moves_are))
             | inr h ↦
@@ -71,16 +71,16 @@ module _ {N M Q : Type 0} (space : Space N M) (order : Order N M) (aim : Aim N Q
       place = from.place;
       picked = s.earlier;
       comes = s.comes;
-      stands = get-front s.lists s.rest from.place from.parent below
+      stands = get-prefix s.lists s.rest from.place from.parent below
           (ap (λ (l : List (List M)). slice_get l from.place) (sym s.found_is) ∙ from.stands);
       unsolved = λ l has. stop.unsolved l (among l has);
       room = omega (arith, fewer, low, stop.room);
     }
 
-  fronts : (bound k : ℕ) → k < bound → k ≤ length earlier → (moves p : List M) (m : M) (rest : List M) → slice_get all k ≡ Some moves
+  prefixes : (bound k : ℕ) → k < bound → k ≤ length earlier → (moves p : List M) (m : M) (rest : List M) → slice_get all k ≡ Some moves
       → moves ≡ p ++ m ∷ rest → Gone p
-  fronts zero k less low moves p m rest stands is = absurd (omega (arith, less))
-  fronts (suc bound) k less low moves p m rest stands is =
+  prefixes zero k less low moves p m rest stands is = absurd (omega (arith, less))
+  prefixes (suc bound) k less low moves p m rest stands is =
       let s = split-last m rest in
       let whole : moves ≡ (p ++ s.0) ++ s.1 ∷ [] = is ∙ ap (λ (l : List M). p ++ l) s.2 ∙ sym (append_assoc p s.0 (s.1 ∷ [])) in
       elim (origins space order steps all picked stop.begins.1.1 k moves stands) [
@@ -89,7 +89,7 @@ module _ {N M Q : Type 0} (space : Space N M) (order : Order N M) (aim : Aim N Q
             by from.parent s.0 (push-parts from.parent (p ++ s.0) from.m s.1 (sym from.moves_are ∙ whole))
             (parent-gone k moves stands low from
             (picked-at space order steps all picked stop.begins.1.1 from.place from.is_picked))
-            (λ n others e. fronts bound from.place (omega (arith, less, from.earlier)) (omega (arith, low, from.earlier)) from.parent p n
+            (λ n others e. prefixes bound from.place (omega (arith, less, from.earlier)) (omega (arith, low, from.earlier)) from.parent p n
             others from.stands e)
       ]
     where
@@ -97,7 +97,7 @@ module _ {N M Q : Type 0} (space : Space N M) (order : Order N M) (aim : Aim N Q
       none-behind [] = refl
       none-behind {A = A} (x ∷ xs) = ap (λ (l : List A). x ∷ l) (none-behind xs)
 
-      by : (parent front : List M) → parent ≡ p ++ front → Gone parent
+      by : (parent prefix : List M) → parent ≡ p ++ prefix → Gone parent
           → ((n : M) (others : List M) → parent ≡ p ++ n ∷ others → Gone p) → Gone p
       by parent [] e gone onward = again parent (e ∙ none-behind p) gone
         where
@@ -114,6 +114,6 @@ module _ {N M Q : Type 0} (space : Space N M) (order : Order N M) (aim : Aim N Q
       by parent (n ∷ others) e gone onward = onward n others e
 
   -- each list on the way to the stop was gone through
-  pub front-gone : (p : List M) (m : M) (rest : List M) → last ≡ p ++ m ∷ rest → Gone p
-  front-gone p m rest is =
-      fronts (suc (length earlier)) (length earlier) (omega arith) (omega arith) last p m rest (at_end earlier last) is
+  pub prefix-gone : (p : List M) (m : M) (rest : List M) → last ≡ p ++ m ∷ rest → Gone p
+  prefix-gone p m rest is =
+      prefixes (suc (length earlier)) (length earlier) (omega arith) (omega arith) last p m rest (at_end earlier last) is

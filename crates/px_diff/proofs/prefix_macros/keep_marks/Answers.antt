@@ -3,7 +3,7 @@ use Rattle.std.specs.Prelude.{All}
 use Rattle.px_base.specs.ListLaws.{All-each, All-at}
 use Rattle.px_table.specs.Tables.{IsStepOf}
 use Rattle.px_terms.specs.declared.instance.OpInst.{OpInst}
-use Rattle.px_diff.proofs.front_macros.keep_marks.Goals as goal
+use Rattle.px_diff.proofs.prefix_macros.keep_marks.Goals as goal
 
 pub stays-requires-clause-steps : goal.stays-requires-clause-steps
 stays-requires-clause-steps c =
