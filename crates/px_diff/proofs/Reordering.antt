@@ -43,7 +43,7 @@ module _ (atoms : List Atom) (i : ℕ) (x : Atom) (narrow wide : List Atom) (bel
       (parted-first (take i atoms) narrow wide x was)))
 
   pub next-second : (firsts seconds : List Atom) → firsts ≡ narrow → seconds ≡ wide ++ x ∷ [] → AreParted (take (i + 1) atoms) firsts
-  seconds
+      seconds
   next-second firsts seconds same put =
       subst (λ (l : List Atom). AreParted l firsts seconds) (sym (take_next atoms i x below at))
       (subst (λ (l : List Atom). AreParted (take i atoms ++ x ∷ []) l seconds) (sym same)
