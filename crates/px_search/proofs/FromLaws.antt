@@ -10,7 +10,7 @@ use Rattle.px_table.specs.declared.entry.Move.{Move}
 use Rattle.px_table.specs.declared.entry.Move.TheVariants as move
 use Rattle.px_table.specs.declared.node.Node.{Node}
 use Rattle.px_table.specs.EntryOrder.{order_of_entries}
-use Rattle.px_entries.specs.Entries.{obligations_of}
+use Rattle.px_entries.specs.Entries.{IsEntry, obligations_of}
 use Rattle.px_gaps.specs.Needs.{HasAnswer}
 use Rattle.px_diff.specs.Outcomes.{AtStop, IfStopped}
 use Rattle.px_diff.specs.Pushes.{IsPushable, IsRelevant}

@@ -5,8 +5,8 @@ use Rattle.px_numbers.specs.NumberLaws.{model_at-grows, one_at}
 use Rattle.px_ops.specs.KeepLaws.{place_within}
 use Rattle.px_search.proofs.results.result_anew.Goals as goal
 
-pub model_for-model-requires-clause-model : goal.model_for-model-requires-clause-model
-model_for-model-requires-clause-model c = (c.requires.place.0, c.requires.place.2)
+pub model_for-requires-clause-model : goal.model_for-requires-clause-model
+model_for-requires-clause-model c = (c.requires.place.0, c.requires.place.2)
 
 pub entry-requires : goal.entry-requires
 entry-requires c = place_within c.args.numbers.now.entries c.args.place.entry c.requires.place.1 c.requires.place.3
