@@ -19,9 +19,9 @@ use Rattle.px_duo.specs.declared.event.Who.{Who}
 use Rattle.px_printer.specs.declared.duo_line.DuoEnd.{DuoEnd}
 use Rattle.px_printer.specs.declared.duo_line.DuoEnd.TheVariants as told
 use Rattle.px_printer.specs.declared.duo_line.DuoLine.{DuoLine}
-use Rattle.px_session.specs.declared.place.Place.{Place}
+use Rattle.px_session.specs.declared.run_world.RunWorld.{RunWorld}
 use Rattle.px_session.specs.DuoRuns.{AreDuoLines, IsDuoLine, event_of, next_event, outcome_told, step_told, who_of}
-use Rattle.px_session.specs.Places.{TakeSame, building_of, place_atoms}
+use Rattle.px_session.specs.RunWorlds.{TakeSame, building_of, run_world_atoms}
 use Rattle.px_turns.specs.Turning.{adds_most}
 use Rattle.px_session.specs.Running.{HasDuoPlaces, TookPlaces}
 use Rattle.px_session.specs.Sessions.{Edit, leaves_edit}
@@ -95,14 +95,14 @@ module _ (duo : DuoValue) (numbers : List ℕ) where
   places_left made = (length numbers - made) * adds_most duo.problem.schemas
 
   -- so many lines have led here
-  pub record AreUnderway (start : Place) (made : ℕ) (lines : List DuoLine) (now : DuoValue) (world : Place) : Type 0 where
+  pub record AreUnderway (start : RunWorld) (made : ℕ) (lines : List DuoLine) (now : DuoValue) (world : RunWorld) : Type 0 where
     pub same : now ≡ record duo { memories = now.memories }
-    pub lines_are : AreDuoLines leaves_edit duo.problem duo.tables (take made numbers) (duo_running (place_atoms start) duo.memories) lines
-        (duo_running (place_atoms world) now.memories)
+    pub lines_are : AreDuoLines leaves_edit duo.problem duo.tables (take made numbers) (duo_running (run_world_atoms start) duo.memories) lines
+        (duo_running (run_world_atoms world) now.memories)
     pub places : HasDuoPlaces duo (places_left made) world
     pub takes : TakeSame (building_of start) (building_of world)
 
-  pub duos-first : (world : Place) → HasDuoPlaces duo (length numbers * adds_most duo.problem.schemas) world → AreUnderway world 0 [] duo world
+  pub duos-first : (world : RunWorld) → HasDuoPlaces duo (length numbers * adds_most duo.problem.schemas) world → AreUnderway world 0 [] duo world
   duos-first world places =
       let all : length numbers ≡ length numbers - 0 = omega arith in
       record {
@@ -123,7 +123,7 @@ module _ (duo : DuoValue) (numbers : List ℕ) where
   one-of left m = omega arith
 
   -- the places of a line
-  pub duos-here : (start : Place) (made : ℕ) (lines : List DuoLine) (now : DuoValue) (world : Place) → made < length numbers
+  pub duos-here : (start : RunWorld) (made : ℕ) (lines : List DuoLine) (now : DuoValue) (world : RunWorld) → made < length numbers
       → AreUnderway start made lines now world → HasDuoPlaces now (adds_most now.problem.schemas) world
   duos-here start made lines now world below is =
       let m = adds_most duo.problem.schemas in
@@ -136,24 +136,24 @@ module _ (duo : DuoValue) (numbers : List ℕ) where
         room = omega (arith, is.places.room, here, one);
       })
 
-  pub duos-next : (start : Place) (made : ℕ) (lines : List DuoLine) (now next : DuoValue) (world new : Place) (number : ℕ) (line : DuoLine)
+  pub duos-next : (start : RunWorld) (made : ℕ) (lines : List DuoLine) (now next : DuoValue) (world new : RunWorld) (number : ℕ) (line : DuoLine)
       → made < length numbers → number ≡ get_or numbers made number → AreUnderway start made lines now world
-      → IsDuoLine leaves_edit now.problem now.tables number (duo_running (place_atoms world) now.memories) line
-      (duo_running (place_atoms new) next.memories)
+      → IsDuoLine leaves_edit now.problem now.tables number (duo_running (run_world_atoms world) now.memories) line
+      (duo_running (run_world_atoms new) next.memories)
       → next ≡ record now { memories = next.memories } → TookPlaces (adds_most now.problem.schemas) world new
       → AreUnderway start (made + 1) (lines ++ line ∷ []) next new
   duos-next start made lines now next world new number line below at is here frame taken =
       let m = adds_most duo.problem.schemas in
       let left = left-more made below in
       let used = subst (λ (d : DuoValue). TookPlaces (adds_most d.problem.schemas) world new) is.same taken in
-      let leads = subst (λ (d : DuoValue). IsDuoLine leaves_edit d.problem d.tables number (duo_running (place_atoms world) now.memories) line
-      (duo_running (place_atoms new) next.memories)) is.same here in
+      let leads = subst (λ (d : DuoValue). IsDuoLine leaves_edit d.problem d.tables number (duo_running (run_world_atoms world) now.memories) line
+      (duo_running (run_world_atoms new) next.memories)) is.same here in
       record {
         same = frame ∙ ap (λ (d : DuoValue). record d { memories = next.memories }) is.same;
-        lines_are = subst (λ (ns : List ℕ). AreDuoLines leaves_edit duo.problem duo.tables ns (duo_running (place_atoms start) duo.memories)
-            (lines ++ line ∷ []) (duo_running (place_atoms new) next.memories)) (sym (take_next numbers made number below at))
-            (lines-more leaves_edit duo.problem duo.tables (take made numbers) number (duo_running (place_atoms start) duo.memories)
-            (duo_running (place_atoms world) now.memories) (duo_running (place_atoms new) next.memories) lines line is.lines_are leads);
+        lines_are = subst (λ (ns : List ℕ). AreDuoLines leaves_edit duo.problem duo.tables ns (duo_running (run_world_atoms start) duo.memories)
+            (lines ++ line ∷ []) (duo_running (run_world_atoms new) next.memories)) (sym (take_next numbers made number below at))
+            (lines-more leaves_edit duo.problem duo.tables (take made numbers) number (duo_running (run_world_atoms start) duo.memories)
+            (duo_running (run_world_atoms world) now.memories) (duo_running (run_world_atoms new) next.memories) lines line is.lines_are leads);
         places = record {
           rules = subst (λ (p : Problem). HaveSameRules p duo.problem) (sym used.rules) is.places.rules;
           spare = omega (arith, is.places.spare, left, used.spare);
@@ -162,10 +162,10 @@ module _ (duo : DuoValue) (numbers : List ℕ) where
         takes = same-both (building_of start) (building_of world) (building_of new) is.takes used.edits;
       }
 
-  pub duos-last : (start : Place) (made : ℕ) (lines : List DuoLine) (now : DuoValue) (world : Place) → length numbers ≤ made
+  pub duos-last : (start : RunWorld) (made : ℕ) (lines : List DuoLine) (now : DuoValue) (world : RunWorld) → length numbers ≤ made
       → AreUnderway start made lines now world
-      → AreDuoLines leaves_edit duo.problem duo.tables numbers (duo_running (place_atoms start) duo.memories) lines
-      (duo_running (place_atoms world) now.memories)
+      → AreDuoLines leaves_edit duo.problem duo.tables numbers (duo_running (run_world_atoms start) duo.memories) lines
+      (duo_running (run_world_atoms world) now.memories)
   duos-last start made lines now world past is =
-      subst (λ (ns : List ℕ). AreDuoLines leaves_edit duo.problem duo.tables ns (duo_running (place_atoms start) duo.memories) lines
-      (duo_running (place_atoms world) now.memories)) (take_all made numbers past) is.lines_are
+      subst (λ (ns : List ℕ). AreDuoLines leaves_edit duo.problem duo.tables ns (duo_running (run_world_atoms start) duo.memories) lines
+      (duo_running (run_world_atoms world) now.memories)) (take_all made numbers past) is.lines_are

@@ -25,7 +25,7 @@ use Rattle.px_session.specs.Lawful.{Lawful, recorded_for}
 use Rattle.px_session.specs.Named.{HasTableNames, IsTellable, TellsOfNamed}
 use Rattle.px_session.specs.Opened.{SessionValue, opened_session, tables_of}
 use Rattle.px_session.specs.OwnStates.{IsOwnEdit, IsOwnGoal, IsOwnPursuit, edits_given}
-use Rattle.px_session.specs.Places.{IsPlaced, TakeSame, Takes}
+use Rattle.px_session.specs.RunWorlds.{IsPlaced, TakeSame, Takes}
 use Rattle.px_session.specs.Sessions.{SessionState}
 use Rattle.px_session.specs.Writable.{AsksWritable}
 use Rattle.px_session.proofs.GivenNames.{commands-apart, names-next, saved-given}

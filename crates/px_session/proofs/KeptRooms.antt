@@ -17,7 +17,7 @@ use Rattle.px_script.specs.Content.{ScriptValue}
 use Rattle.px_script.specs.Ranges.{IsBuildingOf, IsInRange}
 use Rattle.px_session.specs.Lawful.{Lawful, TellsDuo, TellsPursuit, TellsRun, turn_told}
 use Rattle.px_session.specs.OwnStates.{IsOwnGoal, IsOwnPursuit, edits_given}
-use Rattle.px_session.specs.Places.{IsPlaced, Takes}
+use Rattle.px_session.specs.RunWorlds.{IsPlaced, Takes}
 use Rattle.px_session.specs.RoomRuns.{AreAnswersIn, HasTakenEdits, IsAnsweredInBuilding, IsInBuilding, LeavesRooms, RoomsAreKept}
 use Rattle.px_session.specs.Sessions.{Edit, IsSession, SessionState, opening}
 use Rattle.px_session.specs.Transcripts.{AreAnswers}

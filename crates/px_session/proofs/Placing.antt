@@ -11,11 +11,11 @@ use Rattle.px_printer.specs.declared.reply.Reply.{Reply}
 use Rattle.px_printer.specs.declared.reply.Reply.TheVariants as reply
 use Rattle.px_script.specs.declared.command.Command.{Command}
 use Rattle.px_script.specs.declared.command.Command.TheVariants as command
-use Rattle.px_session.specs.declared.place.Place.{Place}
-use Rattle.px_session.specs.declared.place.Place.TheVariants.{Atoms, Rooms}
+use Rattle.px_session.specs.declared.run_world.RunWorld.{RunWorld}
+use Rattle.px_session.specs.declared.run_world.RunWorld.TheVariants.{Atoms, Rooms}
 use Rattle.px_session.specs.Lawful.{Lawful, Notes, recorded_for}
 use Rattle.px_session.specs.OwnStates.{edits_given}
-use Rattle.px_session.specs.Places.{IsPlaceInBuilding, IsPlaced, TakeSame, Takes, TakesAll, building_of, place_atoms, place_rules}
+use Rattle.px_session.specs.RunWorlds.{IsWorldInBuilding, IsPlaced, TakeSame, Takes, TakesAll, building_of, run_world_atoms, run_world_rules}
 use Rattle.px_session.specs.RoomRuns.{HasTakenEdits}
 use Rattle.px_session.specs.Sessions.{Edit, SessionState}
 use Rattle.px_turns.proofs.Admitting.{admit-both, admit-same, admitted-later, all-later}
@@ -39,8 +39,8 @@ takes-all-later old new recorded same all = all-later (Takes old) (Takes new) re
 -- ---- the building
 
 -- a world with the rules of the problem is a place of it
-pub place-left : (problem : Problem) (place : Place) → HaveSameRules (place_rules place) problem
-    → IsPlaceInBuilding problem (place_atoms place) (building_of place)
+pub place-left : (problem : Problem) (place : RunWorld) → HaveSameRules (run_world_rules place) problem
+    → IsWorldInBuilding problem (run_world_atoms place) (building_of place)
 place-left problem (Atoms world) same = tt
 place-left problem (Rooms building) same = (refl, same)
 
@@ -91,15 +91,15 @@ placed-note problem building old new turn between edits (Err e) placed taken tol
 
 pub placed-run : (problem : Problem) (building : Option RoomState) (new : SessionState) (atoms : List Atom) → new.atoms ≡ atoms
     → new.recorded ≡ []
-    → IsPlaceInBuilding problem atoms building → IsPlaced problem building new
+    → IsWorldInBuilding problem atoms building → IsPlaced problem building new
 placed-run problem building new atoms atoms_are none place = record {
-  place = subst (λ (a : List Atom). IsPlaceInBuilding problem a building) (sym atoms_are) place;
+  place = subst (λ (a : List Atom). IsWorldInBuilding problem a building) (sym atoms_are) place;
   edits = subst (TakesAll building) (sym none) (All-nil (λ (r : Recorded Edit). All (Takes building) r.edits));
 }
 
 -- what two executors leave, where what is recorded stays
 pub placed-duo : (problem : Problem) (building left : Option RoomState) (old new : SessionState) (atoms : List Atom)
     → new ≡ record old { atoms = atoms } → TakesAll building old.recorded → TakeSame building left
-    → IsPlaceInBuilding problem atoms left → IsPlaced problem left new
+    → IsWorldInBuilding problem atoms left → IsPlaced problem left new
 placed-duo problem building left old new atoms is edits same place =
     subst (IsPlaced problem left) (sym is) (record { place = place; edits = takes-all-later building left old.recorded same edits })

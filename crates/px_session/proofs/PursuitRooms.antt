@@ -13,7 +13,7 @@ use Rattle.px_planex.specs.Turns.{Recorded, TurnValue}
 use Rattle.px_printer.specs.declared.pursue_end.PursueEnd.{PursueEnd}
 use Rattle.px_printer.specs.declared.pursue_end.PursueEnd.TheVariants.{Goal, Exhausted, NodeLimit, ShapeLimit}
 use Rattle.px_pursue.specs.Pursuits.{EndsBy, IsPursuit, RunsInVain, RunsPlan}
-use Rattle.px_session.specs.Places.{TakesAll}
+use Rattle.px_session.specs.RunWorlds.{TakesAll}
 use Rattle.px_session.specs.RoomRuns.{AreTurnsInRooms}
 use Rattle.px_session.specs.Sessions.{Edit, leaves_edit}
 use Rattle.px_session.proofs.Placing.{takes-all-later}

@@ -32,7 +32,7 @@ use Rattle.px_script.specs.Limits.{greatest}
 use Rattle.px_script.specs.Ranges.{AreRoomEditsOf, IsBuildingOf, IsEditOf}
 use Rattle.px_session.specs.KeptSessions.{AreEditsToNote}
 use Rattle.px_session.specs.OwnStates.{IsOwnEdit}
-use Rattle.px_session.specs.Places.{IsPlaceInBuilding, Takes}
+use Rattle.px_session.specs.RunWorlds.{IsWorldInBuilding, Takes}
 use Rattle.px_session.specs.Sessions.{of_atoms, of_rooms}
 
 -- the number of a thing is that of an object
@@ -120,7 +120,7 @@ note-rooms problem (Some things) edits owns of = record {
 -- the facts are the building's, and the problem has its rules
 pub placed-first : (names : NameLists) (problem : Problem) (facts : List Atom) (building : Option (List Thing))
     → IfSome building (IsBuildingOf names problem facts)
-    → IsPlaceInBuilding problem facts (at_first building)
+    → IsWorldInBuilding problem facts (at_first building)
 placed-first names problem facts None is = tt
 placed-first names problem facts (Some things) is = (
   is.rendered,

@@ -27,7 +27,7 @@ use Rattle.px_planex.specs.Executors.{IsActable}
 use Rattle.px_planex.specs.Turns.{EndsTurn, Recorded, RunsTable, TakesTurn, TakesTurns, TurnValue, after_edits, disturbed_by, edits_at}
 use Rattle.px_planex.proofs.Guarding.{guard_never}
 use Rattle.px_planex.proofs.Taking.{same_instance, same_result}
-use Rattle.px_session.specs.Places.{TakeSame, Takes, TakesAll}
+use Rattle.px_session.specs.RunWorlds.{TakeSame, Takes, TakesAll}
 use Rattle.px_session.specs.RoomRuns.{AreMade, AreTurnsInRooms, EndsInRooms, IsDone}
 use Rattle.px_session.specs.Sessions.{Edit, leaves_edit, of_atoms, of_rooms}
 use Rattle.px_session.proofs.OwnRuns.{kernel-own, sense-can}

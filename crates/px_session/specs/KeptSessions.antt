@@ -16,7 +16,7 @@ use Rattle.px_session.specs.CertifiedReplies.{IsCertifiableProblem}
 use Rattle.px_session.specs.Named.{AreNamesOfProblem, HasTableNames, IsTellable}
 use Rattle.px_session.specs.Opened.{SessionValue}
 use Rattle.px_session.specs.OwnStates.{IsOwnEdit, IsOwnState, edits_given}
-use Rattle.px_session.specs.Places.{IsPlaced, Takes}
+use Rattle.px_session.specs.RunWorlds.{IsPlaced, Takes}
 use Rattle.px_session.specs.Sessions.{Edit, IsSession}
 use Rattle.px_session.specs.Writable.{AsksWritable, HasWritableTables}
 

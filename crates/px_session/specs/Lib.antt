@@ -15,7 +15,7 @@ pub mod Planning
 pub mod Learning
 pub mod Writable
 pub mod CertifiedReplies
-pub mod Places
+pub mod RunWorlds
 pub mod Running
 pub mod Opened
 pub mod OwnStates

@@ -21,7 +21,7 @@ use Rattle.px_script.specs.Ranges.{IsInRange}
 use Rattle.px_session.specs.DuoRuns.{who_of}
 use Rattle.px_session.specs.Lawful.{Lawful, turn_told}
 use Rattle.px_session.specs.OwnStates.{IsOwnPursuit, edits_given}
-use Rattle.px_session.specs.Places.{IsPlaced, TakeSame, Takes}
+use Rattle.px_session.specs.RunWorlds.{IsPlaced, TakeSame, Takes}
 use Rattle.px_session.specs.Sessions.{Edit, IsSession, SessionState, of_atoms, of_rooms, opening}
 use Rattle.px_session.specs.Transcripts.{AreAnswers}
 

@@ -5,7 +5,7 @@ ghost use Rattle.px_terms.specs.Validity.{IsValid};
 ghost use Rattle.px_script.specs.Ranges.{result_given};
 ghost use Rattle.px_session.specs.KeptSessions.{IsRunnable};
 ghost use Rattle.px_session.specs.Lawful.{Lawful};
-ghost use Rattle.px_session.specs.Places.{IsPlaced, TakeSame};
+ghost use Rattle.px_session.specs.RunWorlds.{IsPlaced, TakeSame};
 ghost use Rattle.px_session.specs.Sessions.{IsSession, of_atoms, of_rooms};
 
 use crate::edit::Edit;

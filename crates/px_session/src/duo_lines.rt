@@ -4,11 +4,11 @@ ghost use Rattle.px_world.specs.Worlds.{HaveSameRules};
 ghost use Rattle.px_duo.specs.Duos.{duo_running, own};
 ghost use Rattle.px_turns.specs.Turning.{adds_most};
 ghost use Rattle.px_session.specs.DuoRuns.{AreDuoLines, IsDuoLine, who_of};
-ghost use Rattle.px_session.specs.Places.{TakeSame, building_of, place_atoms, place_rules};
+ghost use Rattle.px_session.specs.RunWorlds.{TakeSame, building_of, run_world_atoms, run_world_rules};
 ghost use Rattle.px_session.specs.Running.{HasDuoPlaces, TookPlaces};
 ghost use Rattle.px_session.specs.Sessions.{leaves_edit};
 
-use crate::place::Place;
+use crate::run_world::RunWorld;
 use px_base::push_within;
 use px_duo::{Duo, DuoEvent, Who};
 use px_planex::Outcome;
@@ -22,11 +22,11 @@ fn who_of(number: u32) -> Who
 }
 
 /// Lets the executor of that number sense, and returns its line.
-fn sense_line(duo: &mut Duo<'_>, world: &mut Place<'_>, number: u32) -> DuoLine
+fn sense_line(duo: &mut Duo<'_>, world: &mut RunWorld<'_>, number: u32) -> DuoLine
     requires forgets { (own (who_of number) duo.old.memories).remembered ≡ None }
     requires places { HasDuoPlaces duo.old (adds_most duo.old.problem.schemas) world.old }
-    ensures line { IsDuoLine leaves_edit duo.old.problem duo.old.tables number (duo_running (place_atoms world.old) duo.old.memories)
-        result (duo_running (place_atoms world.new) duo.new.memories) }
+    ensures line { IsDuoLine leaves_edit duo.old.problem duo.old.tables number (duo_running (run_world_atoms world.old) duo.old.memories)
+        result (duo_running (run_world_atoms world.new) duo.new.memories) }
     ensures frame { duo.new ≡ record duo.old { memories = duo.new.memories } }
     ensures taken { TookPlaces (adds_most duo.old.problem.schemas) world.old world.new }
 {
@@ -52,11 +52,11 @@ fn sense_line(duo: &mut Duo<'_>, world: &mut Place<'_>, number: u32) -> DuoLine
 }
 
 /// Lets the executor of that number act, and returns its line.
-fn act_line(duo: &mut Duo<'_>, world: &mut Place<'_>, number: u32) -> DuoLine
+fn act_line(duo: &mut Duo<'_>, world: &mut RunWorld<'_>, number: u32) -> DuoLine
     requires remembers { (own (who_of number) duo.old.memories).remembered ≢ None }
     requires places { HasDuoPlaces duo.old (adds_most duo.old.problem.schemas) world.old }
-    ensures line { IsDuoLine leaves_edit duo.old.problem duo.old.tables number (duo_running (place_atoms world.old) duo.old.memories)
-        result (duo_running (place_atoms world.new) duo.new.memories) }
+    ensures line { IsDuoLine leaves_edit duo.old.problem duo.old.tables number (duo_running (run_world_atoms world.old) duo.old.memories)
+        result (duo_running (run_world_atoms world.new) duo.new.memories) }
     ensures frame { duo.new ≡ record duo.old { memories = duo.new.memories } }
     ensures taken { TookPlaces (adds_most duo.old.problem.schemas) world.old world.new }
 {
@@ -73,10 +73,10 @@ fn act_line(duo: &mut Duo<'_>, world: &mut Place<'_>, number: u32) -> DuoLine
 }
 
 /// Lets the executor of that number act where it remembers a step, and sense where it remembers none. Returns its line.
-fn take_line(duo: &mut Duo<'_>, world: &mut Place<'_>, number: u32) -> DuoLine
+fn take_line(duo: &mut Duo<'_>, world: &mut RunWorld<'_>, number: u32) -> DuoLine
     requires places { HasDuoPlaces duo.old (adds_most duo.old.problem.schemas) world.old }
-    ensures line { IsDuoLine leaves_edit duo.old.problem duo.old.tables number (duo_running (place_atoms world.old) duo.old.memories)
-        result (duo_running (place_atoms world.new) duo.new.memories) }
+    ensures line { IsDuoLine leaves_edit duo.old.problem duo.old.tables number (duo_running (run_world_atoms world.old) duo.old.memories)
+        result (duo_running (run_world_atoms world.new) duo.new.memories) }
     ensures frame { duo.new ≡ record duo.old { memories = duo.new.memories } }
     ensures taken { TookPlaces (adds_most duo.old.problem.schemas) world.old world.new }
 {
@@ -90,7 +90,7 @@ fn take_line(duo: &mut Duo<'_>, world: &mut Place<'_>, number: u32) -> DuoLine
 /// Does not allocate.
 pub(crate) fn take_lines(
     duo: &mut Duo<'_>,
-    world: &mut Place<'_>,
+    world: &mut RunWorld<'_>,
     numbers: &[u32],
     lines: Vec<DuoLine>,
 ) -> Vec<DuoLine>
@@ -98,9 +98,9 @@ pub(crate) fn take_lines(
     requires room { length numbers.now ≤ vec_capacity lines }
     requires places { HasDuoPlaces duo.old (length numbers.now * adds_most duo.old.problem.schemas) world.old }
     ensures lines { AreDuoLines leaves_edit duo.old.problem duo.old.tables numbers.now
-        (duo_running (place_atoms world.old) duo.old.memories) result.items (duo_running (place_atoms world.new) duo.new.memories) }
-    ensures room { length (place_atoms world.new) ≤ duo.old.room }
-    ensures rules { HaveSameRules (place_rules world.new) duo.old.problem }
+        (duo_running (run_world_atoms world.old) duo.old.memories) result.items (duo_running (run_world_atoms world.new) duo.new.memories) }
+    ensures room { length (run_world_atoms world.new) ≤ duo.old.room }
+    ensures rules { HaveSameRules (run_world_rules world.new) duo.old.problem }
     ensures takes { TakeSame (building_of world.old) (building_of world.new) }
 {
     let mut taken = lines;

@@ -6,11 +6,11 @@ ghost use Rattle.px_duo.specs.Duos.{both};
 ghost use Rattle.px_turns.specs.Turning.{adds_most};
 ghost use Rattle.px_session.specs.DuoRuns.{RunsDuo};
 ghost use Rattle.px_session.specs.Lawful.{TellsDuo};
-ghost use Rattle.px_session.specs.Places.{IsPlaceInBuilding, IsPlaced, TakeSame};
+ghost use Rattle.px_session.specs.RunWorlds.{IsWorldInBuilding, IsPlaced, TakeSame};
 ghost use Rattle.px_session.specs.Sessions.{IsSession, leaves_edit};
 
 use crate::duo_lines::take_lines;
-use crate::place::{enter, leave};
+use crate::run_world::{enter, leave};
 use crate::state::State;
 use px_base::{NoMemory, Sequence};
 use px_duo::Duo;
@@ -67,10 +67,10 @@ pub(crate) fn run_duo(
     requires problem { IsValid problem.now }
     requires first { IsTable problem.now first.now }
     requires second { IsTable problem.now second.now }
-    requires place { IsPlaceInBuilding problem.now facts.now.atoms building.old }
+    requires place { IsWorldInBuilding problem.now facts.now.atoms building.old }
     ensures runs { IfOk result (λ run. RunsDuo leaves_edit problem.now (both first.now second.now) facts.now.atoms numbers.now
         run.lines run.facts.atoms) }
-    ensures place { IfOk result (λ run. IsPlaceInBuilding problem.now run.facts.atoms building.new) }
+    ensures place { IfOk result (λ run. IsWorldInBuilding problem.now run.facts.atoms building.new) }
     ensures takes { TakeSame building.old building.new }
     ensures kept { OnErr result (building.new ≡ building.old) }
 {

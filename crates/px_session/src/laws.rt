@@ -15,7 +15,7 @@ ghost use Rattle.px_session.specs.WorkedDemo.{WorkedDemoLine};
 ghost use Rattle.px_session.specs.WorkedRooms.{WorkedRooms};
 ghost use Rattle.px_session.specs.WorkedSession.{WorkedSession};
 
-use crate::place::Place;
+use crate::run_world::RunWorld;
 use px_duo::{duo_traces_exist, duos_stay_ready};
 use px_planex::traces_exist;
 
@@ -47,18 +47,18 @@ pub fn certificates_are_accepted()
 pub fn replies_exist()
     ensures { RepliesExist }
 {
-    traces_exist::<Place<'_>>();
-    duo_traces_exist::<Place<'_>>();
-    duos_stay_ready::<Place<'_>>();
+    traces_exist::<RunWorld<'_>>();
+    duo_traces_exist::<RunWorld<'_>>();
+    duos_stay_ready::<RunWorld<'_>>();
 }
 
 /// It can't be that bytes which are a script have no transcript.
 pub fn transcripts_exist()
     ensures { TranscriptsExist }
 {
-    traces_exist::<Place<'_>>();
-    duo_traces_exist::<Place<'_>>();
-    duos_stay_ready::<Place<'_>>();
+    traces_exist::<RunWorld<'_>>();
+    duo_traces_exist::<RunWorld<'_>>();
+    duos_stay_ready::<RunWorld<'_>>();
 }
 
 /// Each lawful reply to a command that is built has a name for each number that it prints; and learned tables stay named.

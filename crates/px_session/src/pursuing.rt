@@ -7,11 +7,11 @@ ghost use Rattle.px_entries.specs.Learned.{AreLearned};
 ghost use Rattle.px_pursue.specs.Pursuits.{IsPursuit};
 ghost use Rattle.px_turns.specs.Told.{turn_told};
 ghost use Rattle.px_session.specs.Lawful.{TellsPursuit};
-ghost use Rattle.px_session.specs.Places.{IsPlaceInBuilding, IsPlaced, TakeSame, TakesAll};
+ghost use Rattle.px_session.specs.RunWorlds.{IsWorldInBuilding, IsPlaced, TakeSame, TakesAll};
 ghost use Rattle.px_session.specs.Sessions.{IsSession, leaves_edit};
 
 use crate::edit::Edit;
-use crate::place::{enter, leave};
+use crate::run_world::{enter, leave};
 use crate::state::State;
 use px_base::NoMemory;
 use px_ops::Model;
@@ -57,12 +57,12 @@ fn pursue_in_copy(
     requires few_variables { variable_count ≤ most_formula_variables }
     requires some_object { 0 < variable_count → 0 < problem.now.objects }
     requires tables { AreLearned problem.now tables.now }
-    requires place { IsPlaceInBuilding problem.now facts.now.atoms building.old }
+    requires place { IsWorldInBuilding problem.now facts.now.atoms building.old }
     requires taken { TakesAll building.old recorded.now }
     requires short { length recorded.now < u32_max }
     ensures pursues { IfOk result (λ made. IsPursuit leaves_edit problem.now tables.now goal.now variable_count recorded.now facts.now.atoms
         made.searches (map turn_told made.turns) made.end made.facts.atoms) }
-    ensures place { IfOk result (λ made. IsPlaceInBuilding problem.now made.facts.atoms building.new) }
+    ensures place { IfOk result (λ made. IsWorldInBuilding problem.now made.facts.atoms building.new) }
     ensures takes { TakeSame building.old building.new }
     ensures kept { OnErr result (building.new ≡ building.old) }
 {

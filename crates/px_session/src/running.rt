@@ -5,11 +5,11 @@ ghost use Rattle.px_table.specs.Tables.{IsTable};
 ghost use Rattle.px_match.specs.Matching.{first_bad};
 ghost use Rattle.px_planex.specs.Turns.{RunsTable};
 ghost use Rattle.px_turns.specs.Told.{turn_told};
-ghost use Rattle.px_session.specs.Places.{IsPlaceInBuilding, TakeSame, TakesAll};
+ghost use Rattle.px_session.specs.RunWorlds.{IsWorldInBuilding, TakeSame, TakesAll};
 ghost use Rattle.px_session.specs.Sessions.{leaves_edit};
 
 use crate::edit::Edit;
-use crate::place::{enter, leave};
+use crate::run_world::{enter, leave};
 use px_base::Sequence;
 use px_match::MatchErr;
 use px_ops::Model;
@@ -48,13 +48,13 @@ pub(crate) fn run_table(
     requires table { IsTable problem.now table.now }
     requires objects { All (λ pair. pair.1 < problem.now.objects) bound.now }
     requires once { AllPairs (λ one other. one.0 ≢ other.0) bound.now }
-    requires place { IsPlaceInBuilding problem.now facts.now.atoms building.old }
+    requires place { IsWorldInBuilding problem.now facts.now.atoms building.old }
     requires taken { TakesAll building.old recorded.now }
     ensures runs { IfOk result (λ run. RunsTable leaves_edit problem.now table.now bound.now recorded.now facts.now.atoms
         (map turn_told run.turns) run.facts.atoms) }
     ensures known { OnOk result (first_bad table.now bound.now ≡ None) }
     ensures unknown { (n : ℕ) → IsErrOf result (MatchErr.BadParam n) → first_bad table.now bound.now ≡ Some n }
-    ensures place { IfOk result (λ run. IsPlaceInBuilding problem.now run.facts.atoms building.new) }
+    ensures place { IfOk result (λ run. IsWorldInBuilding problem.now run.facts.atoms building.new) }
     ensures takes { TakeSame building.old building.new }
     ensures kept { OnErr result (building.new ≡ building.old) }
 {

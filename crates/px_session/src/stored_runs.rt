@@ -4,7 +4,7 @@ ghost use Rattle.px_terms.specs.Validity.{IsValid};
 ghost use Rattle.px_session.specs.Lawful.{TellsRun};
 ghost use Rattle.px_session.specs.Sessions.{IsSession};
 ghost use Rattle.px_session.specs.KeptSessions.{IsBindingToRun};
-ghost use Rattle.px_session.specs.Places.{IsPlaced, TakeSame};
+ghost use Rattle.px_session.specs.RunWorlds.{IsPlaced, TakeSame};
 
 use crate::running::{Run, run_table};
 use crate::state::State;

@@ -6,7 +6,7 @@ use Rattle.px_world.specs.declared.edits.RoomEdit.{RoomEdit}
 use Rattle.px_script.specs.declared.command.Command.{Command}
 use Rattle.px_script.specs.Ranges.{result_given}
 use Rattle.px_session.specs.OwnStates.{edits_given}
-use Rattle.px_session.specs.Places.{Takes}
+use Rattle.px_session.specs.RunWorlds.{Takes}
 use Rattle.px_session.specs.Sessions.{of_atoms, of_rooms}
 use Rattle.px_session.proofs.Placing.{placed-note}
 use Rattle.px_session.proofs.commands.run_command.Goals as goal

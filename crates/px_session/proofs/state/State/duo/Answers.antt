@@ -2,7 +2,7 @@ use Rattle.std.proofs.Common.{List, refl, sym, ap, subst}
 use Rattle.px_terms.specs.declared.atom.Atom.{Atom}
 use Rattle.px_duo.specs.Duos.{both}
 use Rattle.px_session.specs.DuoRuns.{RunsDuo}
-use Rattle.px_session.specs.Places.{IsPlaceInBuilding}
+use Rattle.px_session.specs.RunWorlds.{IsWorldInBuilding}
 use Rattle.px_session.specs.Sessions.{SessionState, leaves_edit}
 use Rattle.px_session.proofs.OneDuo.{first-unnamed, second-unnamed}
 use Rattle.px_session.proofs.OneLearning.{any-right}
@@ -30,7 +30,7 @@ run_duo-requires-clause-second c =
 
 pub run_duo-requires-clause-place : goal.run_duo-requires-clause-place
 run_duo-requires-clause-place c =
-    subst (λ (s : SessionState). IsPlaceInBuilding c.args.problem.now s.atoms c.args.building.now) (sym c.self.view_is)
+    subst (λ (s : SessionState). IsWorldInBuilding c.args.problem.now s.atoms c.args.building.now) (sym c.self.view_is)
     c.requires.placed.place
 
 pub returns-in-Ok-clause-told : goal.returns-in-Ok-clause-told

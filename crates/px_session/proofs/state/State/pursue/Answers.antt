@@ -5,7 +5,7 @@ use Rattle.px_entries.specs.Learned.{AreLearned}
 use Rattle.px_planex.specs.Turns.{Recorded}
 use Rattle.px_pursue.specs.Pursuits.{IsPursuit}
 use Rattle.px_turns.specs.Told.{turn_told}
-use Rattle.px_session.specs.Places.{IsPlaceInBuilding, TakesAll}
+use Rattle.px_session.specs.RunWorlds.{IsWorldInBuilding, TakesAll}
 use Rattle.px_session.specs.Sessions.{Edit, SessionState, leaves_edit}
 use Rattle.px_session.specs.contracts.state.State as held
 use Rattle.px_session.proofs.Learned.{are-learned}
@@ -20,7 +20,7 @@ pursue_in_copy-requires-clause-tables c =
 
 pub pursue_in_copy-requires-clause-place : goal.pursue_in_copy-requires-clause-place
 pursue_in_copy-requires-clause-place c =
-    subst (λ (s : SessionState). IsPlaceInBuilding c.args.problem.now s.atoms c.args.building.now) (sym c.self.view_is)
+    subst (λ (s : SessionState). IsWorldInBuilding c.args.problem.now s.atoms c.args.building.now) (sym c.self.view_is)
     c.requires.placed.place
 
 pub pursue_in_copy-requires-clause-taken : goal.pursue_in_copy-requires-clause-taken

@@ -1,7 +1,7 @@
 use Rattle.std.proofs.Common.{List, [], map, refl, sym, ap, ◌∙◌, subst}
 use Rattle.px_terms.specs.declared.atom.Atom.{Atom}
 use Rattle.px_planex.specs.Turns.{Recorded, RunsTable}
-use Rattle.px_session.specs.Places.{IsPlaceInBuilding, TakesAll}
+use Rattle.px_session.specs.RunWorlds.{IsWorldInBuilding, TakesAll}
 use Rattle.px_turns.specs.Told.{turn_told}
 use Rattle.px_session.specs.Sessions.{Edit, SessionState, leaves_edit}
 use Rattle.px_session.specs.contracts.state.State as held
@@ -17,7 +17,7 @@ run_table-requires-clause-table c =
 
 pub run_table-requires-clause-place : goal.run_table-requires-clause-place
 run_table-requires-clause-place c =
-    subst (λ (s : SessionState). IsPlaceInBuilding c.args.problem.now s.atoms c.args.building.now)
+    subst (λ (s : SessionState). IsWorldInBuilding c.args.problem.now s.atoms c.args.building.now)
     (sym c.self.view_is) c.requires.placed.place
 
 pub run_table-requires-clause-taken : goal.run_table-requires-clause-taken

@@ -8,8 +8,8 @@ use Rattle.px_rooms.specs.Changes.{IsAdmitted}
 use Rattle.px_rooms.specs.States.{RoomState, building_rules, rendering}
 use Rattle.px_planex.specs.Turns.{Recorded}
 use Rattle.px_turns.specs.Told.{AdmitSame, AdmitsAll}
-use Rattle.px_session.specs.declared.place.Place.{Place}
-use Rattle.px_session.specs.declared.place.Place.TheVariants.{Atoms, Rooms}
+use Rattle.px_session.specs.declared.run_world.RunWorld.{RunWorld}
+use Rattle.px_session.specs.declared.run_world.RunWorld.TheVariants.{Atoms, Rooms}
 use Rattle.px_session.specs.Sessions.{Edit, SessionState, of_atoms, of_rooms}
 
 -- ---- edits
@@ -31,33 +31,33 @@ TakeSame old new = AdmitSame (Takes old) (Takes new)
 
 -- ---- the world of a run
 
-abbrev pub place_atoms : Place → List Atom
-place_atoms (Atoms world) = world.atoms
-place_atoms (Rooms building) = rendering building
+abbrev pub run_world_atoms : RunWorld → List Atom
+run_world_atoms (Atoms world) = world.atoms
+run_world_atoms (Rooms building) = rendering building
 
-abbrev pub place_rules : Place → Problem
-place_rules (Atoms world) = world.rules
-place_rules (Rooms building) = building_rules building
+abbrev pub run_world_rules : RunWorld → Problem
+run_world_rules (Atoms world) = world.rules
+run_world_rules (Rooms building) = building_rules building
 
-abbrev pub place_spare : Place → ℕ
-place_spare (Atoms world) = world.spare
-place_spare (Rooms building) = u64_max
+abbrev pub run_world_spare : RunWorld → ℕ
+run_world_spare (Atoms world) = world.spare
+run_world_spare (Rooms building) = u64_max
 
-abbrev pub building_of : Place → Option RoomState
+abbrev pub building_of : RunWorld → Option RoomState
 building_of (Atoms world) = None
 building_of (Rooms building) = Some building
 
-abbrev pub PlaceTakes : Place → Edit → Type 0
-PlaceTakes place edit = Takes (building_of place) edit
+abbrev pub RunWorldTakes : RunWorld → Edit → Type 0
+RunWorldTakes place edit = Takes (building_of place) edit
 
 -- ---- a session's building
 
 -- with a building the atoms are its facts, and the problem has its rules
-abbrev pub IsPlaceInBuilding : Problem → List Atom → Option RoomState → Type 0
-IsPlaceInBuilding problem atoms None = Unit {0}
-IsPlaceInBuilding problem atoms (Some building) = (atoms ≡ rendering building) × HaveSameRules (building_rules building) problem
+abbrev pub IsWorldInBuilding : Problem → List Atom → Option RoomState → Type 0
+IsWorldInBuilding problem atoms None = Unit {0}
+IsWorldInBuilding problem atoms (Some building) = (atoms ≡ rendering building) × HaveSameRules (building_rules building) problem
 
 -- with a building the state's atoms are its facts, and the problem has its rules; and all edits that are recorded are taken
 pub record IsPlaced (problem : Problem) (building : Option RoomState) (state : SessionState) : Type 0 where
-  pub place : IsPlaceInBuilding problem state.atoms building
+  pub place : IsWorldInBuilding problem state.atoms building
   pub edits : TakesAll building state.recorded

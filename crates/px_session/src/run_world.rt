@@ -2,7 +2,7 @@
 ghost use Rattle.std.specs.Prelude.{◌≡◌, ◌↔◌, ◌≤◌, Option, IfOk, OnErr};
 ghost use Rattle.px_terms.specs.Validity.{IsValid};
 ghost use Rattle.px_world.specs.Worlds.{HaveSameRules};
-ghost use Rattle.px_session.specs.Places.{IsPlaceInBuilding, PlaceTakes, TakeSame, building_of, place_atoms, place_rules, place_spare};
+ghost use Rattle.px_session.specs.RunWorlds.{IsWorldInBuilding, RunWorldTakes, TakeSame, building_of, run_world_atoms, run_world_rules, run_world_spare};
 ghost use Rattle.px_session.specs.Sessions.{leaves_edit};
 
 use crate::edit::Edit;
@@ -15,7 +15,7 @@ use std::alloc::Global;
 
 /// The world of a run: a copy of the session's atoms, or its building.
 #[derive(Drop)]
-pub(crate) enum Place<'a> {
+pub(crate) enum RunWorld<'a> {
     /// A world of atoms.
     Atoms(AtomWorld<'a>),
     /// A building.
@@ -32,86 +32,86 @@ pub(crate) fn enter<'a>(
     facts: &Model,
     spare: usize,
     building: &mut Option<RoomWorld>,
-) -> Result<Place<'a>, NoMemory>
+) -> Result<RunWorld<'a>, NoMemory>
     requires problem { IsValid problem.now }
-    requires place { IsPlaceInBuilding problem.now facts.now.atoms building.old }
+    requires place { IsWorldInBuilding problem.now facts.now.atoms building.old }
     ensures building { IfOk result (λ place. building_of place ≡ building.old) }
-    ensures atoms { IfOk result (λ place. place_atoms place ≡ facts.now.atoms) }
-    ensures rules { IfOk result (λ place. HaveSameRules (place_rules place) problem.now) }
-    ensures spare { IfOk result (λ place. spare ≤ place_spare place) }
+    ensures atoms { IfOk result (λ place. run_world_atoms place ≡ facts.now.atoms) }
+    ensures rules { IfOk result (λ place. HaveSameRules (run_world_rules place) problem.now) }
+    ensures spare { IfOk result (λ place. spare ≤ run_world_spare place) }
     ensures kept { OnErr result (building.new ≡ building.old) }
 {
     match building.take() {
-        Some(world) => Ok(Place::Rooms(world)),
-        None => Ok(Place::Atoms(AtomWorld::new(alloc, problem, facts, spare)?)),
+        Some(world) => Ok(RunWorld::Rooms(world)),
+        None => Ok(RunWorld::Atoms(AtomWorld::new(alloc, problem, facts, spare)?)),
     }
 }
 
 /// Returns the building, if the world is one.
-pub(crate) fn leave(place: Place<'_>) -> Option<RoomWorld>
+pub(crate) fn leave(place: RunWorld<'_>) -> Option<RoomWorld>
     ensures { result ≡ building_of place.entry }
 {
     match place {
-        Place::Atoms(_) => None,
-        Place::Rooms(world) => Some(world),
+        RunWorld::Atoms(_) => None,
+        RunWorld::Rooms(world) => Some(world),
     }
 }
 
-impl<'a> World for Place<'a> {
+impl<'a> World for RunWorld<'a> {
     type Edit = Edit;
 
-    ghost atoms = { place_atoms };
+    ghost atoms = { run_world_atoms };
 
-    ghost rules = { place_rules };
+    ghost rules = { run_world_rules };
 
-    ghost admits = { PlaceTakes };
+    ghost admits = { RunWorldTakes };
 
     ghost leaves = { leaves_edit };
 
-    ghost spare = { place_spare };
+    ghost spare = { run_world_spare };
 
     fn holds(&self, atom: &Atom) -> bool {
         match self {
-            Place::Atoms(world) => world.holds(atom),
-            Place::Rooms(world) => world.holds(atom),
+            RunWorld::Atoms(world) => world.holds(atom),
+            RunWorld::Rooms(world) => world.holds(atom),
         }
     }
 
     fn sense(&self, into: &mut Model) {
         match self {
-            Place::Atoms(world) => world.sense(into),
-            Place::Rooms(world) => world.sense(into),
+            RunWorld::Atoms(world) => world.sense(into),
+            RunWorld::Rooms(world) => world.sense(into),
         }
     }
 
     fn act(&mut self, inst: &OpInst) -> Result<(), Guard> {
         match self {
-            Place::Atoms(world) => world.act(inst),
-            Place::Rooms(world) => world.act(inst),
+            RunWorld::Atoms(world) => world.act(inst),
+            RunWorld::Rooms(world) => world.act(inst),
         }
     }
 
     fn disturb(&mut self, edit: &Edit) {
         match (self, edit) {
-            (Place::Atoms(world), Edit::OfAtoms(edit)) => world.disturb(edit),
-            (Place::Rooms(world), Edit::OfRooms(edit)) => world.disturb(edit),
+            (RunWorld::Atoms(world), Edit::OfAtoms(edit)) => world.disturb(edit),
+            (RunWorld::Rooms(world), Edit::OfRooms(edit)) => world.disturb(edit),
             _ => unreachable!(),
         }
     }
 }
 
-impl<'a> Regrow for Place<'a> {
+impl<'a> Regrow for RunWorld<'a> {
     fn regrow(&mut self, spare: usize) -> Result<(), NoMemory> {
         match self {
-            Place::Atoms(world) => world.regrow(spare),
-            Place::Rooms(world) => world.regrow(spare),
+            RunWorld::Atoms(world) => world.regrow(spare),
+            RunWorld::Rooms(world) => world.regrow(spare),
         }
     }
 
     fn atom_count(&self) -> usize {
         match self {
-            Place::Atoms(world) => world.atom_count(),
-            Place::Rooms(world) => world.atom_count(),
+            RunWorld::Atoms(world) => world.atom_count(),
+            RunWorld::Rooms(world) => world.atom_count(),
         }
     }
 }
