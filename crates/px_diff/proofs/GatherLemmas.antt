@@ -31,7 +31,7 @@ use Rattle.px_entries.specs.Parameters.{AreFirstTerms, Matches}
 use Rattle.px_diff.specs.Pushes.{IsPushable, IsRelevant}
 use Rattle.px_gaps.specs.Questions.{AreUnlimited}
 use Rattle.px_diff.specs.RowQuestions.{AreRowsKnown, FitsEach, FitsOne, IsInstanceKnown}
-use Rattle.px_diff.specs.declared.front.Prefix.{Prefix}
+use Rattle.px_diff.specs.declared.prefix.Prefix.{Prefix}
 use Rattle.px_diff.proofs.EntryLemmas.{entries_less, entries_none, entries_part, entries_relevant, needs_are, relevant_macro}
 use Rattle.px_gaps.proofs.Grows.{one_next, one_none}
 use Rattle.px_base.proofs.Loops.{level_or_below}

@@ -19,7 +19,7 @@ use Rattle.px_entries.specs.Parameters.{AreFirstTerms}
 use Rattle.px_diff.specs.RowQuestions.{FitsEach}
 use Rattle.px_diff.specs.Pushes.{IsPushable, IsRelevant}
 use Rattle.px_gaps.specs.Questions.{AreUnlimited}
-use Rattle.px_diff.specs.declared.front.Prefix.{Prefix}
+use Rattle.px_diff.specs.declared.prefix.Prefix.{Prefix}
 use Rattle.px_diff.specs.declared.request.Request.{Request}
 
 -- The new list has what the old one had, and besides only what may be pushed, including all such entries of the part. No question about a
