@@ -26,7 +26,7 @@ use Rattle.px_proof_walk.proofs.Lifting.{variables_grow, length-objects, objects
 use Rattle.px_proof_walk.proofs.Lists.{solves-list, list-solved}
 use Rattle.px_proof_walk.proofs.Partial.{padded, padded-unfinished, opens-after, opens-count, opens-solve, open_after-split, open_after-joined, solves-joined, closed-proves-each}
 use Rattle.px_proof_walk.proofs.Pushing.{solves-prefix}
-use Rattle.px_proof_walk.proofs.Scoping.{solves-prefix, goals-over}
+use Rattle.px_proof_walk.proofs.Scoping.{solves-extended, goals-over}
 use Rattle.px_proof_walk.proofs.Trees.{objects-below}
 
 -- a derivation without open places closes each place
@@ -97,7 +97,7 @@ module _ (loose : Bool) (s : Setting) (valid : IsSetting s) (formula : List Atom
       subst (λ (tau : List Term). Solves loose s tau variable_count (goals_of s formula) ticks)
       (ap object_terms whole ∙ objects-append prefix (drop p.variables objects)) solves in
       let prefix_solves : Solves loose s (object_terms prefix) variable_count (goals_of s formula) ticks =
-      solves-prefix loose s valid (object_terms prefix) (object_terms (drop p.variables objects)) ticks variable_count
+      solves-extended loose s valid (object_terms prefix) (object_terms (drop p.variables objects)) ticks variable_count
       (goals_of s formula) p over now long split_solves in
       let ends : open_after loose s variable_count (goals_of s formula) (ticks ++ replicate k Open)
       ≡ Some (record { variables = p.variables; goals = [] }) =

@@ -93,10 +93,10 @@ lit-prefix xs ys n long l over = rw (args-prefix xs ys n long l.atom.args over) 
 
 module _ (loose : Bool) (s : Setting) (valid : IsSetting s) (xs ys : List Term) where
   -- a solution's front solves, as far as there are variables
-  pub solves-prefix : (ticks : List Tick) (n : ℕ) (goals : List Goal) (p : Pending) → AllByRecursion (IsGoalOver n) goals
+  pub solves-extended : (ticks : List Tick) (n : ℕ) (goals : List Goal) (p : Pending) → AllByRecursion (IsGoalOver n) goals
       → open_after loose s n goals ticks ≡ Some p → p.variables ≤ length xs
       → Solves loose s (xs ++ ys) n goals ticks → Solves loose s xs n goals ticks
-  solves-prefix ticks n goals p over =
+  solves-extended ticks n goals p over =
       solves-moved loose s valid IsPlainBelow (plain-terms s.objects) (xs ++ ys) xs (length xs)
       (λ m long a b a_over b_over same. sym (lit-prefix xs ys m long a a_over) ∙ same ∙ lit-prefix xs ys m long b b_over)
       ticks n goals p (all-plain s valid ticks) over
