@@ -8,7 +8,7 @@ use Rattle.px_cert.specs.CertificateClaims.{ClaimsAreTexts, ReadsOneWay, TablesA
 use Rattle.px_cert.specs.Certificates.{Claim, IsCertificate, IsFirstBadLine, claim_of}
 use Rattle.px_cert.specs.Drafts.{Follow, after_line, no_lines}
 use Rattle.px_cert.specs.Lines.{Line}
-use Rattle.px_cert.specs.Reading.{Prefix, line_at}
+use Rattle.px_cert.specs.Reading.{Parsed, line_at}
 use Rattle.px_cert.specs.Sound.{IsSound, lines_left}
 use Rattle.px_cert.proofs.Certifying.{claim_in_range, written}
 use Rattle.px_cert.proofs.Claiming.{claimed}
@@ -63,7 +63,7 @@ one_way : (most : ℕ) (bytes : List ℕ) (d : Draft) (rest : List ℕ) (number 
 one_way zero bytes d rest number at few = absurd (omega (arith, few))
 one_way (suc most) bytes d rest number at few = elim (whole_or d.due) [
   | inl whole ↦ at_end bytes d rest number at whole
-  | inr more ↦ elim (line_at d rest) as (λ (read : Prefix Line). line_at d rest ≡ read → IsOneOf bytes) [
+  | inr more ↦ elim (line_at d rest) as (λ (read : Parsed Line). line_at d rest ≡ read → IsOneOf bytes) [
     | Some q ↦ λ e.
         let t = reads_lines.takes d rest q.0 q.1 at.sound e in
         let fall = reads_lines.falls d q.0 t.1 in

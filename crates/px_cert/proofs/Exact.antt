@@ -5,7 +5,7 @@ use Rattle.std.specs.Char.{is_ascii_digit}
 use Rattle.std.specs.List.{flat_map, AllByRecursion}
 use Rattle.std.proofs.lemmas.Bool.{eqb-true, cond-true}
 use Rattle.std.proofs.lemmas.Option.{cond_some, same_Some}
-use Rattle.px_cert.specs.Reading.{◌>>=◌, Prefix, Reader, after_text, as_at, behind, many_at, pair_at, passing_at}
+use Rattle.px_cert.specs.Reading.{◌>>=◌, Parsed, Reader, after_text, as_at, behind, many_at, pair_at, passing_at}
 
 -- nothing, or a byte that is no digit: a number ends before it
 abbrev pub stops : List ℕ → Bool
@@ -81,7 +81,7 @@ module _ {A : Type 0} (item : Reader A) (text : A → List ℕ) (Is : A → Type
         let t = exact.takes bytes a.0.0 a.0.1 a.1 in
         subst (λ (q : A × List ℕ). (bytes ≡ text q.0 ++ q.1) × (Is q.0 × (test q.0 ≡ true))) g.1 (t.0, (t.1, g.0));
     again = λ x rest is stop.
-        ap (λ (o : Prefix A). o >>= λ y. cond (test y.0) (Some y) None) (exact.again x rest is.0 stop)
+        ap (λ (o : Parsed A). o >>= λ y. cond (test y.0) (Some y) None) (exact.again x rest is.0 stop)
         ∙ cond-true (test x) (Some (x, rest)) None is.1;
   }
 
@@ -97,7 +97,7 @@ module _ {A : Type 0} (item : Reader A) (text : A → List ℕ) (Is : A → Type
           subst (λ (x : A). (bytes ≡ text x ++ a.0.1) × Is x) same t in
           subst (λ (q : B × List ℕ). (bytes ≡ text (back q.0) ++ q.1) × Is (back q.0)) (same_Some (make a.0.0, a.0.1) (y, rest) a.2) made;
       again = λ y rest is stop.
-          ap (λ (o : Prefix A). o >>= λ x. Some (make x.0, x.1)) (exact.again (back y) rest is stop)
+          ap (λ (o : Parsed A). o >>= λ x. Some (make x.0, x.1)) (exact.again (back y) rest is stop)
           ∙ ap (λ (z : B). Some (z, rest)) (here y);
     }
 
@@ -120,8 +120,8 @@ module _ {A : Type 0} (item : Reader A) (text : A → List ℕ) (Is : A → Type
           let one = exact.again p.0 (text2 p.0 p.1 ++ rest) is.0 ((starts p.0).starts p.1 rest stop) in
           let two = (second p.0 is.0).again p.1 rest is.1 stop in
           ap (pair_at item next) (append_assoc (text p.0) (text2 p.0 p.1) rest)
-          ∙ ap (λ (o : Prefix A). o >>= λ x. (next x.0 x.1 >>= λ y. Some ((x.0, y.0), y.1))) one
-          ∙ ap (λ (o : Prefix B). o >>= λ y. Some ((p.0, y.0), y.1)) two;
+          ∙ ap (λ (o : Parsed A). o >>= λ x. (next x.0 x.1 >>= λ y. Some ((x.0, y.0), y.1))) one
+          ∙ ap (λ (o : Parsed B). o >>= λ y. Some ((p.0, y.0), y.1)) two;
     }
 
   -- ---- so many
@@ -158,8 +158,8 @@ module _ {A : Type 0} (item : Reader A) (text : A → List ℕ) (Is : A → Type
     many_again (x ∷ xs) rest is stop =
         let one = exact.again x (flat_map text xs ++ rest) is.0 (many_start.starts xs rest stop) in
         ap (many_at item (suc (length xs))) (append_assoc (text x) (flat_map text xs) rest)
-        ∙ ap (λ (o : Prefix A). o >>= λ first. (many_at item (length xs) first.1 >>= λ others. Some (first.0 ∷ others.0, others.1))) one
-        ∙ ap (λ (o : Prefix (List A)). o >>= λ others. Some (x ∷ others.0, others.1)) (many_again xs rest is.1 stop)
+        ∙ ap (λ (o : Parsed A). o >>= λ first. (many_at item (length xs) first.1 >>= λ others. Some (first.0 ∷ others.0, others.1))) one
+        ∙ ap (λ (o : Parsed (List A)). o >>= λ others. Some (x ∷ others.0, others.1)) (many_again xs rest is.1 stop)
 
     pub many_exact : (n : ℕ) → IsExact (many_at item n) (flat_map text) (λ xs. (length xs ≡ n) × AllByRecursion Is xs)
     many_exact n = record {

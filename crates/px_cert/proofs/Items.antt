@@ -16,7 +16,7 @@ use Rattle.px_table.specs.Deciding.{clause_at}
 use Rattle.px_cert.specs.ClaimRanges.{AreAtMost}
 use Rattle.px_cert.specs.Drafts.{language}
 use Rattle.px_cert.specs.Lines.{atom_item, list_item, literal_item, number_item, sign_item, term_item}
-use Rattle.px_cert.specs.Reading.{◌>>=◌, Prefix, Reader, after_text, atom_at, atom_of_parts, chosen, list_at, literal_at, literal_of_parts, many_at, number_at, object_at, sign_at, term_at, variable_at, wild_card_at}
+use Rattle.px_cert.specs.Reading.{◌>>=◌, Parsed, Reader, after_text, atom_at, atom_of_parts, chosen, list_at, literal_at, literal_of_parts, many_at, number_at, object_at, sign_at, term_at, variable_at, wild_card_at}
 use Rattle.px_cert.specs.Reading.{digits_at}
 use Rattle.px_cert.proofs.Digits.{digits_exact, number_exact}
 use Rattle.px_cert.proofs.Exact.{IsExact, StartsWell, after_takes, as_exact, bind_some, exact_as, exact_text, many_exact, many_start, pair_exact, stops}
@@ -84,8 +84,8 @@ module _ (limit variable_count : ℕ) (wild : Bool) (low : limit ≤ 2 ^ 64) (fe
 
       read_again : (t : Term) (rest : List ℕ) → IsTermFor limit variable_count wild t → stops rest ≡ true
           → term_at limit variable_count wild (term_item t ++ rest) ≡ Some (t, rest)
-      read_again (Obj n) rest is stop = ap (λ (o : Prefix ℕ). o >>= λ x. Some (Obj x.0, x.1)) ((digits_exact limit low).again n rest is stop)
-      read_again (Var v) rest is stop = ap (λ (o : Prefix ℕ). o >>= λ x. Some (Var x.0, x.1)) ((digits_exact variable_count few).again v rest is stop)
+      read_again (Obj n) rest is stop = ap (λ (o : Parsed ℕ). o >>= λ x. Some (Obj x.0, x.1)) ((digits_exact limit low).again n rest is stop)
+      read_again (Var v) rest is stop = ap (λ (o : Parsed ℕ). o >>= λ x. Some (Var x.0, x.1)) ((digits_exact variable_count few).again v rest is stop)
       read_again Any rest is stop = cond-true wild (Some (Any, rest)) None is
 
 -- ---- lists

@@ -3,7 +3,7 @@ use Rattle.std.proofs.Common.{◌≡◌, ℕ, List, ◌++◌, Some, None, refl, 
 use Rattle.std.specs.Prelude.{codes}
 use Rattle.std.proofs.lemmas.Option.{same_Some}
 use Rattle.px_cert.specs.Lines.{Line, line_bytes, line_of_items}
-use Rattle.px_cert.specs.Reading.{◌>>=◌, Prefix, Reader, after_text, as_line, behind, ended, line_of}
+use Rattle.px_cert.specs.Reading.{◌>>=◌, Parsed, Reader, after_text, as_line, behind, ended, line_of}
 use Rattle.px_cert.proofs.Exact.{IsExact, after_takes, behind_exact, bind_some}
 
 -- the same as IsExact, whatever follows: a line ends with its line feed
@@ -33,12 +33,12 @@ module _ {A : Type 0} (items : Reader A) (text : A → List ℕ) (Is : A → Typ
             (whole, t.1);
         again = λ x rest is.
             ap (line_of word items) (regrouped word (text x) rest)
-            ∙ ap (λ (o : Prefix A). o >>= ended) (both.again x (codes "\n" ++ rest) is refl);
+            ∙ ap (λ (o : Parsed A). o >>= ended) (both.again x (codes "\n" ++ rest) is refl);
       }
 
 -- ---- what was read, as a line
 
-as_line_is : {A : Type 0} (form : A → Line) (read : Prefix A) (line : Line) (rest : List ℕ) → as_line form read ≡ Some (line, rest)
+as_line_is : {A : Type 0} (form : A → Line) (read : Parsed A) (line : Line) (rest : List ℕ) → as_line form read ≡ Some (line, rest)
     → (x : A) × (read ≡ Some (x, rest)) × (form x ≡ line)
 as_line_is form (Some q) line rest e =
     let same = same_Some (form q.0, q.1) (line, rest) e in

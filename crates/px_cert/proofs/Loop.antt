@@ -5,7 +5,7 @@ use Rattle.std.specs.Result.{IsErrAnd}
 use Rattle.std.proofs.lemmas.List.{append-nil}
 use Rattle.px_cert.specs.declared.refused.Refused.{Refused}
 use Rattle.px_cert.specs.declared.refused.Refused.TheVariants as refused
-use Rattle.px_cert.specs.Reading.{◌>>=◌, Prefix, IsRefusal, Reader, Reads, ReadsWhole, many_at}
+use Rattle.px_cert.specs.Reading.{◌>>=◌, Parsed, IsRefusal, Reader, Reads, ReadsWhole, many_at}
 
 -- what reads the same
 pub reads_by : {X Y : Type 0} (view : X → Y) (r : Result X Refused) (read other : Option Y) → read ≡ other → Reads view r other
@@ -25,16 +25,16 @@ carried_whole made (Ok x) e total is fails = absurd is
 carried_whole made (Err f) e total is fails = subst (λ (g : Refused). IsRefusal g total) (sym is) fails
 
 -- what was read before, and what is still read
-abbrev pub with_prefix : {A : Type 0} → List A → Prefix (List A) → Prefix (List A)
+abbrev pub with_prefix : {A : Type 0} → List A → Parsed (List A) → Parsed (List A)
 with_prefix prefix read = read >>= λ x. Some (prefix ++ x.0, x.1)
 
 module _ {A : Type 0} (item : Reader A) where
-  regroup : (prefix : List A) (x : A) (read : Prefix (List A)) → with_prefix prefix (read >>= λ y. Some (x ∷ y.0, y.1))
+  regroup : (prefix : List A) (x : A) (read : Parsed (List A)) → with_prefix prefix (read >>= λ y. Some (x ∷ y.0, y.1))
       ≡ with_prefix (prefix ++ x ∷ []) read
   regroup prefix x (Some y) = ap (λ (xs : List A). Some (xs, y.1)) (sym (append_assoc prefix (x ∷ []) y.0))
   regroup prefix x None = refl
 
-  pub goes_on : (prefix : List A) (count i : ℕ) (bytes : List ℕ) (x : A) (left : List ℕ) (total : Prefix (List A)) → i < count
+  pub goes_on : (prefix : List A) (count i : ℕ) (bytes : List ℕ) (x : A) (left : List ℕ) (total : Parsed (List A)) → i < count
       → item bytes ≡ Some (x, left) → with_prefix prefix (many_at item (count - i) bytes) ≡ total
       → with_prefix (prefix ++ x ∷ []) (many_at item (count - (i + 1)) left) ≡ total
   unfolding many_at
@@ -45,14 +45,14 @@ module _ {A : Type 0} (item : Reader A) where
       sym next ∙ so_far
 
   -- the same where the item was put at the end of the list
-  pub keeps_on : (made prefix : List A) (count i : ℕ) (bytes : List ℕ) (x : A) (left : List ℕ) (total : Prefix (List A)) → made ≡ prefix ++ x ∷ []
+  pub keeps_on : (made prefix : List A) (count i : ℕ) (bytes : List ℕ) (x : A) (left : List ℕ) (total : Parsed (List A)) → made ≡ prefix ++ x ∷ []
       → i < count → item bytes ≡ Some (x, left) → with_prefix prefix (many_at item (count - i) bytes) ≡ total
       → with_prefix made (many_at item (count - (i + 1)) left) ≡ total
   keeps_on made prefix count i bytes x left total made_is below one so_far =
       ap (λ (xs : List A). with_prefix xs (many_at item (count - (i + 1)) left)) made_is
       ∙ goes_on prefix count i bytes x left total below one so_far
 
-  pub ends : (e : Refused) (prefix : List A) (count i : ℕ) (bytes : List ℕ) (total : Prefix (List A)) → i < count → IsRefusal e (item bytes)
+  pub ends : (e : Refused) (prefix : List A) (count i : ℕ) (bytes : List ℕ) (total : Parsed (List A)) → i < count → IsRefusal e (item bytes)
       → with_prefix prefix (many_at item (count - i) bytes) ≡ total → IsRefusal e total
   unfolding many_at
   ends refused.NoMemory prefix count i bytes total below fails so_far = tt
@@ -61,7 +61,7 @@ module _ {A : Type 0} (item : Reader A) where
       let one : with_prefix prefix (many_at item (count - i) bytes) ≡ None = rw (k, fails) refl in
       sym so_far ∙ one
 
-  pub is_done : (prefix : List A) (count i : ℕ) (bytes : List ℕ) (total : Prefix (List A)) → count ≤ i
+  pub is_done : (prefix : List A) (count i : ℕ) (bytes : List ℕ) (total : Parsed (List A)) → count ≤ i
       → with_prefix prefix (many_at item (count - i) bytes) ≡ total → total ≡ Some (prefix, bytes)
   unfolding many_at
   is_done prefix count i bytes total le so_far =

@@ -10,7 +10,7 @@ use Rattle.px_cert.specs.declared.draft.Due.TheVariants as due
 use Rattle.px_cert.specs.Drafts.{after_line}
 use Rattle.px_cert.specs.Limits.{most_objects, most_operators, most_predicates, most_table_parameters}
 use Rattle.px_cert.specs.Lines.{Line, heading, objects, predicates, axioms, clause, operators, operator, pre, delete, add, table, goal, steps, action, row}
-use Rattle.px_cert.specs.Reading.{Prefix, as_line, atoms_at, clause_items, due_line_at, goal_items, heading_items, line_at, line_of, list_at, next_at, number_at, operator_items, row_items, sorts_at, step_items, then_at}
+use Rattle.px_cert.specs.Reading.{Parsed, as_line, atoms_at, clause_items, due_line_at, goal_items, heading_items, line_at, line_of, list_at, next_at, number_at, operator_items, row_items, sorts_at, step_items, then_at}
 use Rattle.px_cert.specs.Sound.{lines_left}
 use Rattle.px_cert.proofs.ClaimLaws.{reads_lines}
 use Rattle.px_cert.proofs.Reaching.{Reached, read_more}
@@ -18,15 +18,15 @@ use Rattle.px_cert.proofs.Reaching.{Reached, read_more}
 -- ---- what each due reads
 
 module _ {A : Type 0} (form : A → Line) where
-  then_as : (read : Prefix A) (f : Line → Draft) → then_at (as_line form read) f ≡ then_at read (λ x. f (form x))
+  then_as : (read : Parsed A) (f : Line → Draft) → then_at (as_line form read) f ≡ then_at read (λ x. f (form x))
   then_as (Some q) f = refl
   then_as None f = refl
 
-  next_is : (d : Draft) (what : Due) (bytes : List ℕ) (read : Prefix A) → d.due ≡ what → due_line_at d what bytes ≡ as_line form read
+  next_is : (d : Draft) (what : Due) (bytes : List ℕ) (read : Parsed A) → d.due ≡ what → due_line_at d what bytes ≡ as_line form read
       → next_at d bytes ≡ then_at read (λ x. after_line d (form x))
   next_is d what bytes read e reads =
       ap (λ (w : Due). then_at (due_line_at d w bytes) (after_line d)) e
-      ∙ ap (λ (r : Prefix Line). then_at r (after_line d)) reads ∙ then_as read (after_line d)
+      ∙ ap (λ (r : Parsed Line). then_at r (after_line d)) reads ∙ then_as read (after_line d)
 
 module _ (d : Draft) (bytes : List ℕ) where
   pub next-heading : d.due ≡ due.Heading
@@ -113,14 +113,14 @@ module _ (d : Draft) (bytes : List ℕ) where
 
 -- ---- from line to line
 
-then_some : (read : Prefix Line) (f : Line → Draft) (new : Draft) (rest : List ℕ) → then_at read f ≡ Some (new, rest)
+then_some : (read : Parsed Line) (f : Line → Draft) (new : Draft) (rest : List ℕ) → then_at read f ≡ Some (new, rest)
     → (line : Line) × (read ≡ Some (line, rest)) × (f line ≡ new)
 then_some (Some q) f new rest e =
     let same = same_Some (f q.0, q.1) (new, rest) e in
     (q.0, ap (λ (p : Draft × List ℕ). Some (q.0, p.1)) same, ap (λ (p : Draft × List ℕ). p.0) same)
 then_some None f new rest e = absurd (cc)
 
-then_none : (read : Prefix Line) (f : Line → Draft) → then_at read f ≡ None → read ≡ None
+then_none : (read : Parsed Line) (f : Line → Draft) → then_at read f ≡ None → read ≡ None
 then_none (Some q) f e = absurd (cc)
 then_none None f e = refl
 

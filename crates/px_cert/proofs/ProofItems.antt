@@ -19,7 +19,7 @@ use Rattle.px_cert.specs.ClaimRanges.{AreAtMost, AreProofsInRange, AreTableTerms
 use Rattle.px_cert.specs.Drafts.{language}
 use Rattle.px_cert.specs.Limits.{greatest_written_height, most_atoms, most_places, table_variables}
 use Rattle.px_cert.specs.Lines.{atom_item, derivation_item, derivation_items, list_item, number_item, proof_item, term_item}
-use Rattle.px_cert.specs.Reading.{◌>>=◌, Prefix, Reader, after_text, ancestor_at, atom_at, fact_at, leaf_of_parts, many_at, number_at, pair_at, place_at, proof_at, row_items, step_at, step_of_parts, term_at, terms_at}
+use Rattle.px_cert.specs.Reading.{◌>>=◌, Parsed, Reader, after_text, ancestor_at, atom_at, fact_at, leaf_of_parts, many_at, number_at, pair_at, place_at, proof_at, row_items, step_at, step_of_parts, term_at, terms_at}
 use Rattle.px_cert.proofs.Digits.{count_exact, number_exact}
 use Rattle.px_cert.proofs.Exact.{IsExact, StartsWell, after_takes, bind_some, many_exact, many_start, pair_exact, stops}
 use Rattle.px_cert.proofs.Items.{IsAtomFor, IsSmall, IsTermFor, atom_exact, atom_starts, chosen_is, each_there, list_exact, pattern_atom_back, pattern_atom_there, pattern_back, pattern_there, term_exact, term_starts}
@@ -276,11 +276,11 @@ module _ (d : Draft) (small : IsSmall d) where
         → proof_at d (suc levels) (derivation_item f ++ rest) ≡ Some (proof_of f, rest)
     unfolding proof_at fact_at ancestor_at step_at
     form_again (fact leaf) rest low is stop =
-        ap (λ (o : Prefix (ℕ × (ℕ × Atom))). o >>= λ x. Some (leaf_of_parts x.0, x.1))
+        ap (λ (o : Parsed (ℕ × (ℕ × Atom))). o >>= λ x. Some (leaf_of_parts x.0, x.1))
         (fact_parts.again (leaf.column, (leaf.index, leaf.atom)) rest
         (is.0, (is.1, pattern_atom_back d table_variables leaf.atom is.2)) stop)
     form_again (ancestor i) rest low is stop =
-        ap (λ (o : Prefix ℕ). o >>= λ x. Some (Anc x.0, x.1)) ((count_exact most_places (omega arith)).again i rest is stop)
+        ap (λ (o : Parsed ℕ). o >>= λ x. Some (Anc x.0, x.1)) ((count_exact most_places (omega arith)).again i rest is stop)
     form_again (step number theta place parts) rest low is stop =
         let same = derivations-proofs_of parts (parts_whole d parts is.5) in
         let text : derivation_items parts ≡ flat_map proof_item (proofs_of parts) =
@@ -292,7 +292,7 @@ module _ (d : Draft) (small : IsSmall d) where
         let count : length (proofs_of parts) ≡ parts_count number = omega (arith, counted, whole) in
         ap (λ (r : List ℕ). step_at d (proof_at d levels)
         ((number_item number ++ (number_item place ++ (flat_map term_item theta ++ r))) ++ rest)) text
-        ∙ ap (λ (o : Prefix (ℕ × (ℕ × (List Term × List Proof)))). o >>= λ x. Some (step_of_parts x.0, x.1))
+        ∙ ap (λ (o : Parsed (ℕ × (ℕ × (List Term × List Proof)))). o >>= λ x. Some (step_of_parts x.0, x.1))
         (step_parts.again (number, (place, (theta, proofs_of parts))) rest
         (is.0, (is.1, ((is.2, terms_back theta is.3), (count, parts_split (proofs_of parts) ranged.0 ranged.1)))) stop)
     form_again (gap atom) rest low is stop = absurd is

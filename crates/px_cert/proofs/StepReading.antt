@@ -10,7 +10,7 @@ use Rattle.px_cert.specs.declared.refused.Refused.TheVariants as refused
 use Rattle.px_table.specs.Deciding.{clause_at}
 use Rattle.px_cert.specs.Limits.{table_variables}
 use Rattle.px_cert.specs.Sound.{IsSound}
-use Rattle.px_cert.specs.Reading.{◌>>=◌, Prefix, IsRefusal, Reader, many_at, number_at, place_at, proof_at, step_at, step_of_parts, term_at, terms_at}
+use Rattle.px_cert.specs.Reading.{◌>>=◌, Parsed, IsRefusal, Reader, many_at, number_at, place_at, proof_at, step_at, step_of_parts, term_at, terms_at}
 
 -- a refusal of the first is one of the whole
 pub refused_first : {A B : Type 0} (e : Refused) (o : Option A) (f : A → Option B) → IsRefusal e o → IsRefusal e (o >>= f)
@@ -27,14 +27,14 @@ module _ (d : Draft) (levels : ℕ) (bytes : List ℕ) where
   abbrev parts_at : ℕ → List Term → Reader (List Proof)
   parts_at number theta = many_at (proof_at d levels) (length (clause_at d.axioms number).lits - 1)
 
-  abbrev choices_after : ℕ → List Term × List ℕ → Prefix (List Term × List Proof)
+  abbrev choices_after : ℕ → List Term × List ℕ → Parsed (List Term × List Proof)
   choices_after number x = parts_at number x.0 x.1 >>= λ y. Some ((x.0, y.0), y.1)
 
-  abbrev placed_after : ℕ → ℕ × List ℕ → Prefix (ℕ × (List Term × List Proof))
+  abbrev placed_after : ℕ → ℕ × List ℕ → Parsed (ℕ × (List Term × List Proof))
   placed_after number x =
       (terms_at d (clause_at d.axioms number).variable_count x.1 >>= choices_after number) >>= λ y. Some ((x.0, y.0), y.1)
 
-  abbrev numbered_after : ℕ × List ℕ → Prefix (ℕ × (ℕ × (List Term × List Proof)))
+  abbrev numbered_after : ℕ × List ℕ → Parsed (ℕ × (ℕ × (List Term × List Proof)))
   numbered_after x = (place_at x.1 >>= placed_after x.0) >>= λ y. Some ((x.0, y.0), y.1)
 
   step_is : step_at d (proof_at d levels) bytes
@@ -45,7 +45,7 @@ module _ (d : Draft) (levels : ℕ) (bytes : List ℕ) where
   module _ (e : Refused) where
     whole_fails : IsRefusal e (number_at (length d.axioms) bytes >>= numbered_after) → IsRefusal e (step_at d (proof_at d levels) bytes)
     whole_fails fails =
-        subst (λ (r : Prefix Proof). IsRefusal e r) (sym step_is) (refused_first e (number_at (length d.axioms) bytes >>= numbered_after) _ fails)
+        subst (λ (r : Parsed Proof). IsRefusal e r) (sym step_is) (refused_first e (number_at (length d.axioms) bytes >>= numbered_after) _ fails)
 
     pub number_fails : (count : ℕ) → count ≡ length d.axioms → IsRefusal e (number_at count bytes)
         → IsRefusal e (step_at d (proof_at d levels) bytes)
@@ -83,16 +83,16 @@ module _ (d : Draft) (levels : ℕ) (bytes : List ℕ) where
             (refused_first e (many_at (proof_at d levels) (length (clause_at d.axioms number).lits - 1) last) _ fails))
 
   -- what is made of the parts
-  abbrev then_terms : List Term → Prefix (List Proof) → Prefix (List Term × List Proof)
+  abbrev then_terms : List Term → Parsed (List Proof) → Parsed (List Term × List Proof)
   then_terms theta r = r >>= λ y. Some ((theta, y.0), y.1)
 
-  abbrev then_place : ℕ → Prefix (List Term × List Proof) → Prefix (ℕ × (List Term × List Proof))
+  abbrev then_place : ℕ → Parsed (List Term × List Proof) → Parsed (ℕ × (List Term × List Proof))
   then_place place r = r >>= λ y. Some ((place, y.0), y.1)
 
-  abbrev then_number : ℕ → Prefix (ℕ × (List Term × List Proof)) → Prefix (ℕ × (ℕ × (List Term × List Proof)))
+  abbrev then_number : ℕ → Parsed (ℕ × (List Term × List Proof)) → Parsed (ℕ × (ℕ × (List Term × List Proof)))
   then_number number r = r >>= λ y. Some ((number, y.0), y.1)
 
-  abbrev then_step : Prefix (ℕ × (ℕ × (List Term × List Proof))) → Prefix Proof
+  abbrev then_step : Parsed (ℕ × (ℕ × (List Term × List Proof))) → Parsed Proof
   then_step r = r >>= λ x. Some (step_of_parts x.0, x.1)
 
   pub step_read : (count number place : ℕ) (left later last rest : List ℕ) (theta : List Term) (parts : List Proof) → count ≡ length d.axioms
@@ -103,10 +103,10 @@ module _ (d : Draft) (levels : ℕ) (bytes : List ℕ) where
   step_read count number place left later last rest theta parts count_is read placed terms whole =
       let first = subst (λ (k : ℕ). number_at k bytes ≡ Some (number, left)) count_is read in
       step_is
-      ∙ ap (λ (r : Prefix ℕ). then_step (r >>= numbered_after)) first
-      ∙ ap (λ (r : Prefix ℕ). then_step (then_number number (r >>= placed_after number))) placed
-      ∙ ap (λ (r : Prefix (List Term)). then_step (then_number number (then_place place (r >>= choices_after number)))) terms
-      ∙ ap (λ (r : Prefix (List Proof)). then_step (then_number number (then_place place (then_terms theta r)))) whole
+      ∙ ap (λ (r : Parsed ℕ). then_step (r >>= numbered_after)) first
+      ∙ ap (λ (r : Parsed ℕ). then_step (then_number number (r >>= placed_after number))) placed
+      ∙ ap (λ (r : Parsed (List Term)). then_step (then_number number (then_place place (r >>= choices_after number)))) terms
+      ∙ ap (λ (r : Parsed (List Proof)). then_step (then_number number (then_place place (then_terms theta r)))) whole
 
 -- ---- what the code has of the axiom
 

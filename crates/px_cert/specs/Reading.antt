@@ -46,11 +46,11 @@ ReadsWhole made (Ok rest) read = read ≡ Some (made, rest.now)
 ReadsWhole made (Err e) read = IsRefusal e read
 
 -- a reader finds what was read, and what is left
-abbrev pub Prefix : Type 0 → Type 0
-Prefix A = Option (A × List ℕ)
+abbrev pub Parsed : Type 0 → Type 0
+Parsed A = Option (A × List ℕ)
 
 abbrev pub Reader : Type 0 → Type 0
-Reader A = List ℕ → Prefix A
+Reader A = List ℕ → Parsed A
 
 -- ---- readers of readers
 
@@ -186,7 +186,7 @@ proof_at d (suc levels) bytes =
 -- ---- lines
 
 -- the end of a line, after what was read
-abbrev pub ended : {A : Type 0} → A × List ℕ → Prefix A
+abbrev pub ended : {A : Type 0} → A × List ℕ → Parsed A
 ended read = after_text (codes "\n") read.1 >>= λ rest. Some (read.0, rest)
 
 -- a line of this first word and these items
@@ -230,12 +230,12 @@ abbrev pub row_items : Draft → Reader (List Proof)
 row_items d = list_at (proof_at d greatest_written_height) most_atoms
 
 -- what was read, as a line
-abbrev pub as_line : {A : Type 0} → (A → Line) → Prefix A → Prefix Line
+abbrev pub as_line : {A : Type 0} → (A → Line) → Parsed A → Parsed Line
 as_line form (Some read) = Some (form read.0, read.1)
 as_line form None = None
 
 -- the line that is due
-unfoldable pub due_line_at : Draft → Due → List ℕ → Prefix Line
+unfoldable pub due_line_at : Draft → Due → List ℕ → Parsed Line
 due_line_at d due.Heading bytes = as_line (λ read. heading) (line_of (codes "planex") heading_items bytes)
 due_line_at d due.Objects bytes = as_line objects (line_of (codes "objects") (sorts_at most_objects) bytes)
 due_line_at d due.Predicates bytes =
@@ -254,19 +254,19 @@ due_line_at d (due.Step more rows) bytes = as_line action (line_of (codes "step"
 due_line_at d (due.Row more) bytes = as_line row (line_of (codes "row") (row_items d) bytes)
 due_line_at d due.Nothing bytes = None
 
-abbrev pub line_at : Draft → List ℕ → Prefix Line
+abbrev pub line_at : Draft → List ℕ → Parsed Line
 line_at d bytes = due_line_at d d.due bytes
 
 -- what is left by the one that was read
-abbrev pub then_at : {A : Type 0} → Prefix A → (A → Draft) → Prefix Draft
+abbrev pub then_at : {A : Type 0} → Parsed A → (A → Draft) → Parsed Draft
 then_at (Some read) f = Some (f read.0, read.1)
 then_at None f = None
 
 -- what the lines say with the one at the front
-abbrev pub next_at : Draft → List ℕ → Prefix Draft
+abbrev pub next_at : Draft → List ℕ → Parsed Draft
 next_at d bytes = then_at (line_at d bytes) (after_line d)
 
 -- What a function left and returned is what reading gives, unless memory ran out.
-abbrev pub Leaves : Draft → Result (Bor (List ℕ)) Refused → Prefix Draft → Type 0
+abbrev pub Leaves : Draft → Result (Bor (List ℕ)) Refused → Parsed Draft → Type 0
 Leaves new (Ok rest) read = read ≡ Some (new, rest.now)
 Leaves new (Err e) read = IsRefusal e read

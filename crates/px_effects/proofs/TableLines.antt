@@ -83,7 +83,7 @@ pub goal-set : (so_far : SoFar) (b : code.OpenBlock) (t : table.OpenTable) (aim 
     → ◌≡◌ {A = Declared} (record (declared_of so_far) {
       block = Some (record { line = b.line; kind = of_table_rows (record (table_view t) { goal = aim; goal_variable_count = variable_count }) });
     }) (leaves 0 (declared_of so_far) (goal xs))
-goal-set so_far b t aim variable_count xs is kind aim_is variable_count_are =
+goal-set so_far b t aim variable_count xs is kind aim_is variable_count_is =
     let d = declared_of so_far in
     let n = length so_far.schemas.items in
     let f : WrittenTable → WrittenTable
@@ -91,7 +91,7 @@ goal-set so_far b t aim variable_count xs is kind aim_is variable_count_are =
     let here : d.block ≡ Some (record { line = b.line; kind = table_kind t.has_goal (table_view t) })
     = ap (option_map (open_block_view n)) is ∙ ap (λ k. Some (record { line = b.line; kind = kind_view n k })) kind in
     let new : record (table_view t) { goal = aim; goal_variable_count = variable_count } ≡ f (table_view t)
-    = λ i. record (table_view t) { goal = aim_is i; goal_variable_count = variable_count_are i } in
+    = λ i. record (table_view t) { goal = aim_is i; goal_variable_count = variable_count_is i } in
     ap (λ (w : WrittenTable). record d { block = Some (record { line = b.line; kind = of_table_rows w }) }) new
     ∙ ap (λ (k : BlockKind). record d { block = Some (record { line = b.line; kind = k }) }) (sym (aimed f t.has_goal (table_view t)))
     ∙ ap (λ (o : Option OpenBlock). record d {

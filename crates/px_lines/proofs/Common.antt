@@ -14,7 +14,7 @@ unfoldable pub use Rattle.std.specs.Str.{chars}
 pub use Rattle.std.specs.Str.Parse.{ParsesUnsigned}
 pub use Rattle.px_lines.specs.declared.token.Token.{Token}
 unfoldable pub use Rattle.px_lines.specs.Tokens.{scan, scan_within}
-pub use Rattle.px_lines.specs.Tokens.{Follow, Follows, Prefixes, IsLexed, IsNext, ItemPrefixes, if_whole, is_end, is_none, is_whole, lexemes_in, name_in, number_in, ones_front, rest_after, sign_in, with_first}
+pub use Rattle.px_lines.specs.Tokens.{Follow, Follows, ReadsFirst, IsLexed, IsNext, ReadsItemFirst, if_whole, is_end, is_none, is_whole, lexemes_in, name_in, number_in, ones_front, rest_after, sign_in, with_first}
 pub use Rattle.px_script.proofs.Forms.{ReadsBack, ReadsSpelled, atom-sound, atoms-back, binding-sound, bindings-back, pair-sound, pairs-back, room-edit-sound, room-edits-back, parts-back, part-sound}
 pub use Rattle.px_script.proofs.Lexing.{found-begins, Begins-not-ignored, Begins-same, Begins-shorter, after-is, begins-found, digit-range, digits-all, prefix-all, prefix-is, ignored-scanned, scanned-ignored, starts-continues}
 pub use Rattle.px_script.proofs.Lists.{by_test}

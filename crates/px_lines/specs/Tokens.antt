@@ -100,14 +100,14 @@ IsNext text None = lexemes_in text ≡ []
 IsNext text (Some p) = (lexemes_in text ≡ lexeme_of p.0 ∷ lexemes_in p.1.now) × Follows text p.1.now
 
 -- this is read of a text, and that follows
-abbrev pub Prefixes : {X Y : Type 0} → (X → Y) → List ℕ → Option (Y × List Lexeme) → Option (X × Bor (List ℕ)) → Type 0
-Prefixes view text wanted None = None ≡ wanted
-Prefixes view text wanted (Some p) = (Some (view p.0, lexemes_in p.1.now) ≡ wanted) × Follows text p.1.now
+abbrev pub ReadsFirst : {X Y : Type 0} → (X → Y) → List ℕ → Option (Y × List Lexeme) → Option (X × Bor (List ℕ)) → Type 0
+ReadsFirst view text wanted None = None ≡ wanted
+ReadsFirst view text wanted (Some p) = (Some (view p.0, lexemes_in p.1.now) ≡ wanted) × Follows text p.1.now
 
 -- the same of an item and the sign after it
-abbrev pub ItemPrefixes : {X Y : Type 0} → (X → Y) → List ℕ → Option (Y × ℕ × List Lexeme) → Option (X × ℕ × Bor (List ℕ)) → Type 0
-ItemPrefixes view text wanted None = None ≡ wanted
-ItemPrefixes view text wanted (Some p) = (Some (view p.0, p.1, lexemes_in p.2.now) ≡ wanted) × Follows text p.2.now
+abbrev pub ReadsItemFirst : {X Y : Type 0} → (X → Y) → List ℕ → Option (Y × ℕ × List Lexeme) → Option (X × ℕ × Bor (List ℕ)) → Type 0
+ReadsItemFirst view text wanted None = None ≡ wanted
+ReadsItemFirst view text wanted (Some p) = (Some (view p.0, p.1, lexemes_in p.2.now) ≡ wanted) × Follows text p.2.now
 
 -- the same of nothing but what follows
 abbrev pub Follow : List ℕ → Option (List Lexeme) → Option (Bor (List ℕ)) → Type 0

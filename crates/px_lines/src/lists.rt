@@ -1,7 +1,7 @@
 //! Lists: names or numbers to the end of a line, and items between parentheses.
 ghost use Rattle.std.specs.Prelude.{◌≡◌, IfOk, map};
 ghost use Rattle.px_script.proofs.Parsing.{names_of, numbers_of};
-ghost use Rattle.px_lines.specs.Common.{at_end, option_and_then, option_map, argument_of, names_among, names_at, item_at, items_after, items_at, lexeme_of, lexemes_in, if_whole, Prefixes, ItemPrefixes, argument_view, text_of, list_view, items_view};
+ghost use Rattle.px_lines.specs.Common.{at_end, option_and_then, option_map, argument_of, names_among, names_at, item_at, items_after, items_at, lexeme_of, lexemes_in, if_whole, ReadsFirst, ReadsItemFirst, argument_view, text_of, list_view, items_view};
 
 use crate::items::Argument;
 use crate::token::{Token, after_sign, ends, name, next, number, sign};
@@ -57,7 +57,7 @@ pub fn numbers(alloc: Global, text: &str) -> Result<Option<Vec<u32>>, NoMemory>
 
 /// Returns an argument in front, the sign after it, and what follows.
 fn argument_and_sign(text: &str) -> Option<(Argument<'_>, char, &str)>
-    ensures { ItemPrefixes argument_view text.now (item_at argument_of (lexemes_in text.now)) result }
+    ensures { ReadsItemFirst argument_view text.now (item_at argument_of (lexemes_in text.now)) result }
 {
     let (token, rest) = next(text)?;
     let argument = argument_of(token)?;
@@ -70,7 +70,7 @@ pub fn arguments_after<'a>(
     alloc: Global,
     text: &'a str,
 ) -> Result<Option<(Vec<Argument<'a>>, &'a str)>, NoMemory>
-    ensures { IfOk result (Prefixes (items_view argument_view) text.now (items_after argument_of (lexemes_in text.now))) }
+    ensures { IfOk result (ReadsFirst (items_view argument_view) text.now (items_after argument_of (lexemes_in text.now))) }
 {
     let mut arguments = Vec::new(alloc);
     let mut rest = text;
@@ -92,7 +92,7 @@ pub fn arguments<'a>(
     alloc: Global,
     text: &'a str,
 ) -> Result<Option<(Vec<Argument<'a>>, &'a str)>, NoMemory>
-    ensures { IfOk result (Prefixes (items_view argument_view) text.now (items_at argument_of (lexemes_in text.now))) }
+    ensures { IfOk result (ReadsFirst (items_view argument_view) text.now (items_at argument_of (lexemes_in text.now))) }
 {
     match after_sign(text, '(') {
         Some(rest) => arguments_after(alloc, rest),

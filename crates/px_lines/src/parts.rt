@@ -2,7 +2,7 @@
 ghost use Rattle.std.specs.Prelude.{◌≡◌, ◌<◌, ◌^◌, map, IfOk};
 ghost use Rattle.px_script.specs.Items.{are_proofs, atoms_of_part, owed, terms_of_part};
 ghost use Rattle.px_script.proofs.Parsing.{ancestor_at, axiom_at, fact_at, part_at, part_for, terms_after, terms_at};
-ghost use Rattle.px_lines.specs.Common.{Prefixes, all_of, argument_view, if_whole, items_view, lexemes_in, list_view, part_view, signed_view};
+ghost use Rattle.px_lines.specs.Common.{ReadsFirst, all_of, argument_view, if_whole, items_view, lexemes_in, list_view, part_view, signed_view};
 
 use crate::items::{Argument, SignedAtom};
 use crate::lists::arguments_after;
@@ -52,7 +52,7 @@ pub fn are_whole(parts: &[Part<'_>]) -> bool
 
 /// Returns the terms in parentheses in front, and what follows them.
 fn terms<'a>(alloc: Global, text: &'a str) -> Result<Option<(Vec<Argument<'a>>, &'a str)>, NoMemory>
-    ensures { IfOk result (Prefixes (items_view argument_view) text.now (terms_at (lexemes_in text.now))) }
+    ensures { IfOk result (ReadsFirst (items_view argument_view) text.now (terms_at (lexemes_in text.now))) }
 {
     let Some(rest) = after_sign(text, '(') else {
         return Ok(None);
@@ -65,7 +65,7 @@ fn terms<'a>(alloc: Global, text: &'a str) -> Result<Option<(Vec<Argument<'a>>, 
 
 /// Returns the fact after `f`, and what follows it.
 fn fact<'a>(alloc: Global, text: &'a str) -> Result<Option<(Part<'a>, &'a str)>, NoMemory>
-    ensures { IfOk result (Prefixes part_view text.now (fact_at (lexemes_in text.now))) }
+    ensures { IfOk result (ReadsFirst part_view text.now (fact_at (lexemes_in text.now))) }
 {
     let Some((column, rest)) = number(text) else {
         return Ok(None);
@@ -81,7 +81,7 @@ fn fact<'a>(alloc: Global, text: &'a str) -> Result<Option<(Part<'a>, &'a str)>,
 
 /// Returns the ancestor after `a`, and what follows it.
 fn ancestor(text: &str) -> Option<(Part<'_>, &str)>
-    ensures { Prefixes part_view text.now (ancestor_at (lexemes_in text.now)) result }
+    ensures { ReadsFirst part_view text.now (ancestor_at (lexemes_in text.now)) result }
 {
     let (number, rest) = number(text)?;
     Some((Part::Ancestor(number), rest))
@@ -89,7 +89,7 @@ fn ancestor(text: &str) -> Option<(Part<'_>, &str)>
 
 /// Returns the step of an axiom after `s`, and what follows it.
 fn axiom<'a>(alloc: Global, text: &'a str) -> Result<Option<(Part<'a>, &'a str)>, NoMemory>
-    ensures { IfOk result (Prefixes part_view text.now (axiom_at (lexemes_in text.now))) }
+    ensures { IfOk result (ReadsFirst part_view text.now (axiom_at (lexemes_in text.now))) }
 {
     let Some((axiom, rest)) = number(text) else {
         return Ok(None);
@@ -112,7 +112,7 @@ fn part_for<'a>(
     word: &str,
     text: &'a str,
 ) -> Result<Option<(Part<'a>, &'a str)>, NoMemory>
-    ensures { IfOk result (Prefixes part_view text.now (part_for word.now (lexemes_in text.now))) }
+    ensures { IfOk result (ReadsFirst part_view text.now (part_for word.now (lexemes_in text.now))) }
 {
     match word {
         "f" => fact(alloc, text),
@@ -124,7 +124,7 @@ fn part_for<'a>(
 
 /// Returns the part in front, and what follows it.
 fn next_part<'a>(alloc: Global, text: &'a str) -> Result<Option<(Part<'a>, &'a str)>, NoMemory>
-    ensures { IfOk result (Prefixes part_view text.now (part_at (lexemes_in text.now))) }
+    ensures { IfOk result (ReadsFirst part_view text.now (part_at (lexemes_in text.now))) }
 {
     match name(text) {
         Some((word, rest)) => part_for(alloc, word, rest),

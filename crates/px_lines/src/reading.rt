@@ -8,7 +8,7 @@ ghost use Rattle.px_script.specs.Forms.{Forms, is_formed, is_signed, line_atoms}
 ghost use Rattle.px_script.specs.Items.{atoms_of_part, has_parameter, is_filled};
 ghost use Rattle.px_script.specs.Limits.{is_word};
 ghost use Rattle.px_script.specs.Statements.{Statement};
-ghost use Rattle.px_lines.specs.Common.{Prefixes, IsLexed, argument_view, chars, if_whole, items_view, lexeme_of, lexemes_in, ones_front, option_map, part_view, parts_view, rest_arguments, rest_atoms, rest_parts, rest_view, said_view, signed_view};
+ghost use Rattle.px_lines.specs.Common.{ReadsFirst, IsLexed, argument_view, chars, if_whole, items_view, lexeme_of, lexemes_in, ones_front, option_map, part_view, parts_view, rest_arguments, rest_atoms, rest_parts, rest_view, said_view, signed_view};
 ghost use Rattle.px_lines.specs.LineViews.{IsShaped, IsStatementLine, line_view, row_view};
 
 use crate::items::{Argument, Rest, Said, SignedAtom};
@@ -67,7 +67,7 @@ fn one_items<'a>(
     ones: &[One],
     text: &'a str,
 ) -> Result<Option<(Vec<Said<'a>>, &'a str)>, NoMemory>
-    ensures found { IfOk result (Prefixes (items_view said_view) text.now (ones_front ones.now (lexemes_in text.now))) }
+    ensures found { IfOk result (ReadsFirst (items_view said_view) text.now (ones_front ones.now (lexemes_in text.now))) }
     ensures as_many { IfOk result (λ found. IfSome found (λ prefix. length prefix.0.items ≡ length ones.now)) }
 {
     let mut items = Vec::new(alloc);

@@ -1,6 +1,6 @@
 //! What is written one after another to the end of a line: atoms, edits and bindings.
 ghost use Rattle.std.specs.Prelude.{◌≡◌, ◌∷◌, IfOk};
-ghost use Rattle.px_lines.specs.Common.{option_map, all_of, atom_at, atom_after, sign_of, room_edit_at, room_edit_for, binding_at, open_of, pair_at, parameter_of, lexemes_in, if_whole, Prefixes, signed_view, room_edit_view, binding_view, list_view};
+ghost use Rattle.px_lines.specs.Common.{option_map, all_of, atom_at, atom_after, sign_of, room_edit_at, room_edit_for, binding_at, open_of, pair_at, parameter_of, lexemes_in, if_whole, ReadsFirst, signed_view, room_edit_view, binding_view, list_view};
 ghost use Rattle.px_script.specs.Lexemes.{name as name_lexeme, sign as sign_lexeme};
 
 use crate::items::{SignedAtom, WrittenBinding, WrittenRoomEdit};
@@ -29,7 +29,7 @@ fn atom_of<'a>(
     predicate: &'a str,
     text: &'a str,
 ) -> Result<Option<(SignedAtom<'a>, &'a str)>, NoMemory>
-    ensures { IfOk result (Prefixes signed_view text.now (atom_after sign (name_lexeme predicate.now ∷ lexemes_in text.now))) }
+    ensures { IfOk result (ReadsFirst signed_view text.now (atom_after sign (name_lexeme predicate.now ∷ lexemes_in text.now))) }
 {
     let Some((arguments, rest)) = arguments(alloc, text)? else {
         return Ok(None);
@@ -44,7 +44,7 @@ fn atom_of<'a>(
 
 /// Returns the atom in front, with a sign or without, and what follows it.
 pub fn atom<'a>(alloc: Global, text: &'a str) -> Result<Option<(SignedAtom<'a>, &'a str)>, NoMemory>
-    ensures { IfOk result (Prefixes signed_view text.now (atom_at (lexemes_in text.now))) }
+    ensures { IfOk result (ReadsFirst signed_view text.now (atom_at (lexemes_in text.now))) }
 {
     match next(text) {
         Some((Token::Name(predicate), rest)) => atom_of(alloc, Sign::Bare, predicate, rest),
@@ -59,7 +59,7 @@ fn signed_atom<'a>(
     character: char,
     text: &'a str,
 ) -> Result<Option<(SignedAtom<'a>, &'a str)>, NoMemory>
-    ensures { IfOk result (Prefixes signed_view text.now (atom_at (sign_lexeme character ∷ lexemes_in text.now))) }
+    ensures { IfOk result (ReadsFirst signed_view text.now (atom_at (sign_lexeme character ∷ lexemes_in text.now))) }
 {
     let Some(sign) = sign_of(character) else {
         return Ok(None);
@@ -87,7 +87,7 @@ fn room_edit_for<'a>(
     thing: &'a str,
     text: &'a str,
 ) -> Option<(WrittenRoomEdit<'a>, &'a str)>
-    ensures { Prefixes room_edit_view text.now (room_edit_for word.now thing.now (lexemes_in text.now)) result }
+    ensures { ReadsFirst room_edit_view text.now (room_edit_for word.now thing.now (lexemes_in text.now)) result }
 {
     match word {
         "robot" => Some((WrittenRoomEdit::RobotTo(thing), text)),
@@ -105,7 +105,7 @@ fn room_edit_for<'a>(
 
 /// Returns the edit of a building in front, and what follows it.
 fn room_edit(text: &str) -> Option<(WrittenRoomEdit<'_>, &str)>
-    ensures { Prefixes room_edit_view text.now (room_edit_at (lexemes_in text.now)) result }
+    ensures { ReadsFirst room_edit_view text.now (room_edit_at (lexemes_in text.now)) result }
 {
     let (word, rest) = name(text)?;
     let (thing, rest) = name(rest)?;
@@ -128,7 +128,7 @@ fn parameter_of(name: &str) -> Option<u32>
 
 /// Returns the binding in front, and what follows it.
 fn binding(text: &str) -> Option<(WrittenBinding<'_>, &str)>
-    ensures { Prefixes binding_view text.now (binding_at (lexemes_in text.now)) result }
+    ensures { ReadsFirst binding_view text.now (binding_at (lexemes_in text.now)) result }
 {
     let (parameter, rest) = name(text)?;
     let (object, rest) = name(after_sign(rest, '=')?)?;
@@ -138,7 +138,7 @@ fn binding(text: &str) -> Option<(WrittenBinding<'_>, &str)>
 
 /// Returns the pair of numbers in front, and what follows it.
 fn pair(text: &str) -> Option<((u32, u32), &str)>
-    ensures { Prefixes (λ pair. pair) text.now (pair_at (lexemes_in text.now)) result }
+    ensures { ReadsFirst (λ pair. pair) text.now (pair_at (lexemes_in text.now)) result }
 {
     let (one, rest) = number(text)?;
     let (other, rest) = number(after_sign(rest, '=')?)?;

@@ -3,7 +3,7 @@ ghost use Rattle.std.specs.Prelude.{◌≡◌, ◌<◌, ◌++◌, ℕ, List, tru
 ghost use Rattle.std.specs.Char.{is_ascii_digit};
 ghost use Rattle.px_script.specs.Lexemes.{Lexeme, Lexes, Begins, IsIgnored, is_sign, number_value, goes_on};
 ghost use Rattle.px_script.proofs.Scanning.{prefix_while, after_while, first_at, first_number, first_variable};
-ghost use Rattle.px_lines.specs.Common.{IsUtf8, chars, all_ascii_digits, is_of, text_of, Skips, Scans, NameAt, IsLexed, IsNext, Prefixes, Follow, is_end, lexeme_of, lexemes_in, name_in, number_in, sign_in, rest_after};
+ghost use Rattle.px_lines.specs.Common.{IsUtf8, chars, all_ascii_digits, is_of, text_of, Skips, Scans, NameAt, IsLexed, IsNext, ReadsFirst, Follow, is_end, lexeme_of, lexemes_in, name_in, number_in, sign_in, rest_after};
 
 use px_names::{split_first, starts_name};
 
@@ -43,8 +43,8 @@ pub fn are_tokens(text: &str) -> bool
 /// # Errors
 /// `BadToken` where the first character after blanks begins no token.
 pub fn first_token(text: &str) -> Result<Option<(Token<'_>, &str)>, BadToken>
-    ensures token { IfOk result (λ found. IfSome found (λ prefix. Begins (chars text.now) (lexeme_of prefix.0) (chars prefix.1.now))) }
-    ensures rest { IfOk result (λ found. IfSome found (λ prefix. IsUtf8 prefix.1.now)) }
+    ensures token { IfOk result (λ found. IfSome found (λ both. Begins (chars text.now) (lexeme_of both.0) (chars both.1.now))) }
+    ensures rest { IfOk result (λ found. IfSome found (λ both. IsUtf8 both.1.now)) }
     ensures ignored { IfOk result (λ found. IfNone found (IsIgnored (chars text.now))) }
     ensures no_token { OnErr result ((lexeme : Lexeme) (rest : List ℕ) → ¬ Begins (chars text.now) lexeme rest) }
     ensures not_lexed { OnErr result ((all : List Lexeme) → ¬ Lexes (chars text.now) all) }
@@ -58,14 +58,14 @@ pub fn next(text: &str) -> Option<(Token<'_>, &str)>
     ensures { IsNext text.now result }
 {
     match first_token(text) {
-        Ok(prefix) => prefix,
+        Ok(found) => found,
         Err(_) => None,
     }
 }
 
 /// Returns the name in front, and what follows it.
 pub fn name(text: &str) -> Option<(&str, &str)>
-    ensures { Prefixes text_of text.now (name_in (lexemes_in text.now)) result }
+    ensures { ReadsFirst text_of text.now (name_in (lexemes_in text.now)) result }
 {
     let (token, rest) = next(text)?;
     match token {
@@ -76,7 +76,7 @@ pub fn name(text: &str) -> Option<(&str, &str)>
 
 /// Returns the number in front, and what follows it.
 pub fn number(text: &str) -> Option<(u32, &str)>
-    ensures { Prefixes (λ number. number) text.now (number_in (lexemes_in text.now)) result }
+    ensures { ReadsFirst (λ number. number) text.now (number_in (lexemes_in text.now)) result }
 {
     let (token, rest) = next(text)?;
     match token {
@@ -87,7 +87,7 @@ pub fn number(text: &str) -> Option<(u32, &str)>
 
 /// Returns the sign in front, and what follows it.
 pub fn sign(text: &str) -> Option<(char, &str)>
-    ensures { Prefixes (λ sign. sign) text.now (sign_in (lexemes_in text.now)) result }
+    ensures { ReadsFirst (λ sign. sign) text.now (sign_in (lexemes_in text.now)) result }
 {
     let (token, rest) = next(text)?;
     match token {

@@ -51,10 +51,10 @@ pub fn read_line(
     requires { AreInRange (declared_of so_far.old) }
     ensures { IfOk result (LineEnds (stage_view stage.now) number (declared_of so_far.old) (chars line.now) (declared_of so_far.new)) }
 {
-    let Ok(prefix) = first_token(line) else {
+    let Ok(found) = first_token(line) else {
         return Ok(Some(LineFault::BadToken));
     };
-    let Some((first, rest)) = prefix else {
+    let Some((first, rest)) = found else {
         return Ok(None);
     };
     let Some(word) = word_of(so_far, first) else {

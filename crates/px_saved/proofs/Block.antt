@@ -198,7 +198,7 @@ module _ (stage : Stage) (words : HasBlocks stage) (d : Declared) (rs : List (Li
           ) refl,
         ),
         clean-line stage at_goal (written_goal names params one.goal) goal-clean,
-        sym (λ i. record (inside d name n (of_table_rows (record (written d one []) { goal = goal-is i; goal_variable_count = variable_count-are i })))
+        sym (λ i. record (inside d name n (of_table_rows (record (written d one []) { goal = goal-is i; goal_variable_count = variable_count-is i })))
             { own_domain = or-false d.own_domain i }),
       ),
     )
@@ -207,8 +207,8 @@ module _ (stage : Stage) (words : HasBlocks stage) (d : Declared) (rs : List (Li
         goal-is = before.goal-read d rs name params g few n (of_steps d one one.steps) (refl, refl)
             (params + one.goal_variable_count) (omega (arith, few_variables)) one.goal fits
 
-        variable_count-are : goal_variables at_goal atoms ≡ one.goal_variable_count
-        variable_count-are = before.variables-read d rs name params g few n (of_steps d one one.steps) (refl, refl)
+        variable_count-is : goal_variables at_goal atoms ≡ one.goal_variable_count
+        variable_count-is = before.variables-read d rs name params g few n (of_steps d one one.steps) (refl, refl)
             (params + one.goal_variable_count) (omega (arith, few_variables)) one.goal fits ∙ sym last
 
   -- ---- rows

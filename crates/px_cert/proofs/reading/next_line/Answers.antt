@@ -1,13 +1,13 @@
 use Rattle.std.proofs.Common.{◌≡◌, List, ℕ, Bor, Result, sym, subst}
 use Rattle.px_cert.specs.declared.draft.Draft.{Draft}
 use Rattle.px_cert.specs.declared.refused.Refused.{Refused}
-use Rattle.px_cert.specs.Reading.{Prefix, Leaves, next_at}
+use Rattle.px_cert.specs.Reading.{Parsed, Leaves, next_at}
 use Rattle.px_cert.proofs.NextLine.{next-heading, next-objects, next-predicates, next-axioms, next-axiom, next-operators, next-operator, next-pre, next-delete, next-add, next-table, next-goal, next-steps, next-step, next-row, next-nothing}
 use Rattle.px_cert.proofs.reading.next_line.Goals as goal
 
 -- what was left is what the next line leaves
-left_by : (new : Draft) (r : Result (Bor (List ℕ)) Refused) (read other : Prefix Draft) → read ≡ other → Leaves new r other → Leaves new r read
-left_by new r read other same left = subst (λ (x : Prefix Draft). Leaves new r x) (sym same) left
+left_by : (new : Draft) (r : Result (Bor (List ℕ)) Refused) (read other : Parsed Draft) → read ≡ other → Leaves new r other → Leaves new r read
+left_by new r read other same left = subst (λ (x : Parsed Draft). Leaves new r x) (sym same) left
 
 pub returns-in-Heading : goal.returns-in-Heading
 returns-in-Heading c =

@@ -9,9 +9,9 @@ use Rattle.px_reader.proofs.lines.read_line.Goals as goal
 pub returns-in_default : goal.returns-in_default
 returns-in_default c = inl (rw c.in_default.is at c.first_token.ensures.not_lexed, refl)
 
-pub returns-in_default-prefix : goal.returns-in_default-prefix
-returns-in_default-prefix c =
-    ([], rw c.in_default-prefix.is at (rw c.in-Ok.is at c.first_token.ensures.ignored), refl)
+pub returns-in_default-found : goal.returns-in_default-found
+returns-in_default-found c =
+    ([], rw c.in_default-found.is at (rw c.in-Ok.is at c.first_token.ensures.ignored), refl)
 
 pub returns-then-are_tokens : goal.returns-then-are_tokens
 returns-then-are_tokens c =
