@@ -19,7 +19,8 @@
 //!   adds an atom's predicate, or the atom is provable.
 //! - Matching, for `px_diff`: [`matches_of`] gives the instances of operators, with variables for what isn't known yet
 //!   ([`PartialInstance`]), that add a wanted atom, and [`macro_matches`] terms for a table's parameters under which some first
-//!   steps of it may add one. [`steps_with`] and [`add_wanted`] are about these steps under objects.
+//!   steps of it may add one. [`steps_with`] and [`add_wanted`] are about these steps under objects. [`merged`] and [`merged_with_each`] join
+//!   the terms that parameters have with those of choices, and [`clash`] finds that some have no object in common.
 //! - All calls answer `NoMemory` if there isn't enough memory, of which nothing more is said.
 //!
 //! The definitions are in `specs/`: `Entries` (which entries there are, what they do and what they need), `Learned` (which tables they may

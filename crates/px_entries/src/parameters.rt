@@ -86,11 +86,12 @@ fn clashes_at(limit: u32, terms: &[Term], others: &[Term], place: usize) -> bool
     merged_term(limit, terms[place], others[place]).is_none()
 }
 
-/// Returns a place at which no object of the problem fits both the terms and the others, if there is one. It looks at the place `first`
-/// before all others. `None` alone doesn't say that some objects fit both. Does not allocate.
+/// Returns a place at which the terms and the others clash, so that no objects of the problem fit both. `None` alone doesn't say that some
+/// do. The place `first`, where there is one, is tried before all others. Does not allocate.
 pub fn clash(limit: u32, terms: &[Term], others: &[Term], first: usize) -> Option<usize>
     requires { length others.now ≡ length terms.now }
-    ensures { IfSome result (λ place. (sigma : List ℕ) → ExtendsTerms limit terms.now sigma → ¬ FitsTerms others.now sigma) }
+    ensures within { IfSome result (λ place. place < length terms.now) }
+    ensures apart { IfSome result (λ place. (sigma : List ℕ) → ExtendsTerms limit terms.now sigma → ¬ FitsTerms others.now sigma) }
 {
     if first < terms.len() && clashes_at(limit, terms, others, first) {
         return Some(first);

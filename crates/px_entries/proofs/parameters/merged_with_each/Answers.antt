@@ -20,7 +20,7 @@ loop-choice-preserved c =
       | in-Some w ↦ subst After (sym (ap (λ r. r.items) w.found-is))
           (next c.loop-choice.found.items (matches_none c.args.limit (length terms) terms (FitsTerms c.choice-item.result)
           c.loop-choice.found.items
-          (λ sigma extends fits. w.in-Some.ensures sigma extends
+          (λ sigma extends fits. w.in-Some.ensures.apart sigma extends
           (subst (λ (l : List Term). FitsTerms l sigma) (sym c.as_slice.ensures) fits))))
       | in-None+in_ok-push_merged-in-None w ↦ subst After (sym (ap (λ r. r.items) w.found-is))
           (next w.push_merged.new.found.items (subst (λ (l : List Term). Matches c.args.limit (length terms) terms (FitsTerms l)
