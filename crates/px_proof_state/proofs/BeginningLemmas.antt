@@ -1,5 +1,5 @@
 -- Facts that begin alike stand together.
-use Rattle.std.proofs.Common.{◌≡◌, ℕ, zero, suc, ◌<◌, ◌≤◌, Bool, true, false, List, [], ◌∷◌, length, map, take, get_or, refl, ap, sym, ◌∙◌, arith}
+use Rattle.std.proofs.Common.{◌≡◌, ℕ, zero, suc, ◌<◌, ◌≤◌, Bool, true, false, Some, List, [], ◌∷◌, length, map, take, get_or, slice_get, refl, ap, sym, ◌∙◌, arith}
 use Rattle.std.specs.Prelude.{All}
 use Rattle.std.specs.Cmp.{tied_itself, upto}
 use Rattle.std.specs.Cmp.Lexicographic.{slice_cmp}
@@ -18,7 +18,7 @@ use Rattle.px_terms.specs.Substitution.{substitute_atom}
 use Rattle.px_terms.specs.declared.atom.Atom.{Atom}
 use Rattle.px_terms.specs.declared.term.Term.{Term}
 use Rattle.px_terms.specs.declared.term.Term.TheVariants.{Obj, Var, Any}
-use Rattle.px_proof_state.specs.Beginnings.{HasItsFacts, beginning}
+use Rattle.px_proof_state.specs.Beginnings.{HasItsFacts, HasNone, beginning}
 
 -- ---- the order of beginnings
 
@@ -133,16 +133,42 @@ module _ (facts : List Atom) (n : ℕ) (atom : Atom) (objects : All IsObject (ta
       ap (λ a. atom_cmp a (beginning n atom)) (alike n atom fact objects is_ground sigma tau same)
       ∙ tied_itself atom_cmp-total (beginning n atom)
 
+  -- what begins before the atom is no instance
+  pub none-before : (from first : ℕ)
+      → IsPartitionPoint (λ a. is_before n atom a ≡ true) (λ a. is_before n atom a ≡ false) facts first → HasNone facts atom from first
+  none-before from first below = record {
+    apart = λ k fact at after less is_ground sigma tau same.
+        let less_here : is_before n atom fact ≡ true =
+        ap (is_before n atom) (sym (get_or_from_slice_get facts k fact fact at)) ∙ below.0 k fact (omega arith) less in
+        absurd (never_lt (sym (ap is_lt (level fact is_ground sigma tau same)) ∙ less_here));
+  }
+    where
+      never_lt : ¬ (false ≡ true)
+      never_lt e = cc
+
+  -- nor is what comes after one that begins after the atom
+  pub none-past : IsAtomSet facts → (from : ℕ) (here : Atom) → slice_get facts from ≡ Some here
+      → is_gt (atom_cmp (beginning n here) (beginning n atom)) ≡ true → (last : ℕ) → HasNone facts atom from last
+  none-past up from here here_at past last = record {
+    apart = λ k fact at after less is_ground sigma tau same.
+        let level_there : is_not_after n atom (get_or facts k here) ≡ true =
+        ap (is_not_after n atom) (get_or_from_slice_get facts k fact here at) ∙ ap is_le (level fact is_ground sigma tau same) in
+        let level_here : is_not_after n atom here ≡ true =
+        ap (is_not_after n atom) (sym (get_or_from_slice_get facts from here here here_at))
+        ∙ parted-not_after facts up n atom from k here after (slice_get_within facts k fact at) level_there in
+        absurd (never_gt (sym past ∙ of_le _ level_here));
+  }
+    where
+      never_gt : ¬ (true ≡ false)
+      never_gt e = cc
+
   pub has-its-facts : (first end : ℕ) → end ≤ length facts
       → IsPartitionPoint (λ a. is_before n atom a ≡ true) (λ a. is_before n atom a ≡ false) facts first
       → IsPartitionPoint (λ a. is_not_after n atom a ≡ true) (λ a. is_not_after n atom a ≡ false) facts end
       → HasItsFacts facts atom first end
   has-its-facts first end within below upto_end = record {
     within = within;
-    before = λ k fact at less is_ground sigma tau same.
-        let less_here : is_before n atom fact ≡ true =
-        ap (is_before n atom) (sym (get_or_from_slice_get facts k fact fact at)) ∙ below.0 k fact (omega arith) less in
-        absurd (never_lt (sym (ap is_lt (level fact is_ground sigma tau same)) ∙ less_here));
+    before = λ k fact at less. (none-before 0 first below).apart k fact at (omega arith) less;
     after = λ k fact at past is_ground sigma tau same.
         let more_here : is_not_after n atom fact ≡ false =
         ap (is_not_after n atom) (sym (get_or_from_slice_get facts k fact fact at))
@@ -150,8 +176,5 @@ module _ (facts : List Atom) (n : ℕ) (atom : Atom) (objects : All IsObject (ta
         absurd (never_gt (sym (ap is_le (level fact is_ground sigma tau same)) ∙ more_here));
   }
     where
-      never_lt : ¬ (false ≡ true)
-      never_lt e = cc
-
       never_gt : ¬ (true ≡ false)
       never_gt e = cc

@@ -11,7 +11,7 @@ use Rattle.px_proof.specs.Literals.{positive_of}
 use Rattle.px_proof_state.specs.declared.open.OpenGoal.{OpenGoal}
 use Rattle.px_proof_state.specs.Ancestors.{TriesAncestor}
 use Rattle.px_proof_state.specs.Apart.{AreApart, AreOneAtomUnder}
-use Rattle.px_proof_state.specs.Beginnings.{HasItsFacts}
+use Rattle.px_proof_state.specs.Beginnings.{HasNone}
 use Rattle.px_proof_state.specs.Matches.{ClosesBy}
 use Rattle.px_proof_state.specs.Ranges.{TriesRange, TriesFact, NeverEqual, NeverFact, ComesFact}
 use Rattle.px_proof_state.specs.States.{ProofStateValue}
@@ -28,28 +28,24 @@ pub apart-never : (old : ProofStateValue) (goal : OpenGoal) (ends fact : Atom) �
 apart-never old goal ends fact ends_are is_apart sigma fits same =
     is_apart sigma sigma (sym (ends_are sigma fits) ∙ ap (λ (l : Lit). l.atom) same)
 
-module _ (objects : ℕ) (facts : List Atom) (old : ProofStateValue) (goal : OpenGoal) (ends : Atom) (first end from : ℕ)
-    (ends_are : AreOneAtomUnder old.changes goal.lit.atom ends) (has : HasItsFacts facts ends first end) where
-  -- nothing comes before the first fact that begins as the goal does
-  pub never-before : (number : ℕ) → number ≡ Rattle.std.proofs.Common.max from first → (j : ℕ) → from ≤ j → j < number
-      → NeverFact objects facts old goal j
-  never-before number is j after before fact at below =
-      apart-never old goal ends fact ends_are (has.before j fact at (omega (arith, is, after, before))
-      (λ k d within. object_is objects _ (below k d within)))
+module _ (objects : ℕ) (facts : List Atom) (old : ProofStateValue) (goal : OpenGoal) (ends : Atom)
+    (ends_are : AreOneAtomUnder old.changes goal.lit.atom ends) where
+  -- a fact that is no instance is passed over
+  pub never-between : (first last : ℕ) → HasNone facts ends first last → (j : ℕ) → first ≤ j → j < last → NeverFact objects facts old goal j
+  never-between first last has j after before fact at below =
+      apart-never old goal ends fact ends_are (has.apart j fact at after before (λ k d within. object_is objects _ (below k d within)))
 
-  -- nor after the last
-  pub never-after : (now : ProofStateValue) (number : ℕ) → now ≡ old → end ≤ number
+  -- and where no more come, the search ends
+  pub never-after : (from number : ℕ) (now : ProofStateValue) → now ≡ old → HasNone facts ends number (length facts)
       → ((j : ℕ) → from ≤ j → j < number → NeverFact objects facts old goal j)
       → TriesRange (NeverFact objects facts old goal) (ComesFact objects facts old goal) from (length facts) old now false
-  never-after now number same past never =
+  never-after from number now same has never =
       range-none (NeverFact objects facts old goal) (ComesFact objects facts old goal) from (length facts) (length facts) old now same
-      (λ j after within. go j after (cases_lt j number)) (omega arith)
+      (λ j after within. go j after within (cases_lt j number)) (omega arith)
     where
-      go : (j : ℕ) → from ≤ j → (j < number) ⊎ (number ≤ j) → NeverFact objects facts old goal j
-      go j after (inl h) = never j after h
-      go j after (inr h) =
-          λ fact at below. apart-never old goal ends fact ends_are
-          (has.after j fact at (omega (arith, past, h)) (λ k d within. object_is objects _ (below k d within)))
+      go : (j : ℕ) → from ≤ j → j < length facts → (j < number) ⊎ (number ≤ j) → NeverFact objects facts old goal j
+      go j after within (inl h) = never j after h
+      go j after within (inr h) = never-between number (length facts) has j h within
 
 -- an attempt at a fact that is apart from the followed goal
 pub untried-fact : (old : ProofStateValue) (objects number : ℕ) (fact : Atom) (goal : OpenGoal) (ends : Atom)

@@ -13,3 +13,7 @@ pub record HasItsFacts (facts : List Atom) (atom : Atom) (first last : ℕ) : Ty
   pub within : last ≤ length facts
   pub before : (k : ℕ) (fact : Atom) → slice_get facts k ≡ Some fact → k < first → IsGround fact → AreApart atom fact
   pub after : (k : ℕ) (fact : Atom) → slice_get facts k ≡ Some fact → last ≤ k → IsGround fact → AreApart atom fact
+
+-- no ground fact from the first place on, before the last one, is an instance of the atom
+pub record HasNone (facts : List Atom) (atom : Atom) (first last : ℕ) : Type 0 where
+  pub apart : (k : ℕ) (fact : Atom) → slice_get facts k ≡ Some fact → first ≤ k → k < last → IsGround fact → AreApart atom fact

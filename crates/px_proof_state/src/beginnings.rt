@@ -1,15 +1,16 @@
 //! The facts that begin as an atom does, found by binary search in their order.
 ghost use Rattle.std.specs.Prelude.{◌≡◌, ◌≤◌, All, length, take};
+ghost use Rattle.std.specs.Cmp.Lexicographic.{slice_cmp};
 ghost use Rattle.px_terms.specs.AtomSets.{IsAtomSet};
 ghost use Rattle.px_terms.specs.Language.{IsObject};
-ghost use Rattle.px_terms.specs.Order.{atom_cmp};
-ghost use Rattle.px_proof_state.specs.Beginnings.{HasItsFacts, beginning};
+ghost use Rattle.px_terms.specs.Order.{atom_cmp, term_cmp};
+ghost use Rattle.px_proof_state.specs.Beginnings.{HasItsFacts, HasNone, beginning};
 
 use px_terms::{Atom, Term};
 use std::cmp::Ordering;
 
 /// Returns how many terms stand before the first one that is no object.
-fn leading_objects(terms: &[Term]) -> usize
+pub(crate) fn leading_objects(terms: &[Term]) -> usize
     ensures within { result ≤ length terms.now }
     ensures objects { All IsObject (take result terms.now) }
 {
@@ -29,14 +30,38 @@ fn prefix(terms: &[Term], count: usize) -> &[Term]
     &terms[..count.min(terms.len())]
 }
 
+/// Compares two lists by their first `count` terms.
+fn compare_prefixes(count: usize, xs: &[Term], ys: &[Term]) -> Ordering
+    ensures { result ≡ slice_cmp term_cmp (take count xs.now) (take count ys.now) }
+{
+    if count == 0 {
+        return Ordering::Equal;
+    }
+    prefix(xs, count).cmp(prefix(ys, count))
+}
+
 /// Compares two atoms by their predicates and their first `count` arguments.
-fn compare_beginnings(count: usize, a: &Atom, b: &Atom) -> Ordering
+pub(crate) fn compare_beginnings(count: usize, a: &Atom, b: &Atom) -> Ordering
     ensures { result ≡ atom_cmp (beginning count a.now) (beginning count b.now) }
 {
     match a.pred().cmp(&b.pred()) {
-        Ordering::Equal => prefix(a.args(), count).cmp(prefix(b.args(), count)),
+        Ordering::Equal => compare_prefixes(count, a.args(), b.args()),
         other => other,
     }
+}
+
+/// Returns a place before which no fact from the given place on begins as the atom does: where a search begins, the first place of a fact
+/// that doesn't begin before it, and the given place where a search goes on.
+pub(crate) fn first_place(facts: &[Atom], atom: &Atom, count: usize, from: usize) -> usize
+    requires ascending { IsAtomSet facts.now }
+    requires objects { All IsObject (take count atom.now.args) }
+    ensures later { from ≤ result }
+    ensures before { HasNone facts.now atom.now from result }
+{
+    if from > 0 {
+        return from;
+    }
+    facts.partition_point(|fact| compare_beginnings(count, fact, atom).is_lt())
 }
 
 /// Returns the first place of a fact with the predicate and the leading objects of the atom, and the first place after all of them. Facts

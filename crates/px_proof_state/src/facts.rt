@@ -9,7 +9,7 @@ ghost use Rattle.px_proof_state.specs.Apart.{AreOneAtomUnder};
 ghost use Rattle.px_proof_state.specs.Ranges.{TriesRange, TriesFact, NeverFact, ComesFact};
 
 use crate::apart::{are_apart, followed};
-use crate::beginnings::places_of;
+use crate::beginnings::{compare_beginnings, first_place, leading_objects};
 use crate::open::{OpenGoal, ProofState};
 use px_proof::Tick;
 use px_terms::{Atom, Lit, NoMemory, are_objects_below};
@@ -62,9 +62,13 @@ pub fn try_facts(
         return Ok(false);
     }
     let ends = followed(state.bind(), &goal.lit.atom);
-    let (first, end) = places_of(facts, &ends);
-    for number in from.max(first)..end {
-        match try_fact(state, objects, number as u32, &facts[number], goal, &ends) {
+    let count = leading_objects(ends.args());
+    for number in first_place(facts, &ends, count, from)..facts.len() {
+        let fact = &facts[number];
+        if compare_beginnings(count, fact, &ends).is_gt() {
+            return Ok(false);
+        }
+        match try_fact(state, objects, number as u32, fact, goal, &ends) {
             Ok(true) => return Ok(true),
             Ok(false) => {}
             Err(NoMemory) => return Err(NoMemory),
