@@ -64,8 +64,8 @@ pub(crate) fn first_place(facts: &[Atom], atom: &Atom, count: usize, from: usize
     facts.partition_point(|fact| compare_beginnings(count, fact, atom).is_lt())
 }
 
-/// Returns the first place of a fact with the predicate and the leading objects of the atom, and the first place after all of them. Facts
-/// at other places are no instances of the atom. Does not allocate.
+/// Returns two places: each ground fact before the first of them, or at the second or after it, is no instance of the atom. They are found
+/// by binary search for the predicate and the leading objects. Does not allocate.
 pub fn places_of(facts: &[Atom], atom: &Atom) -> (usize, usize)
     requires { IsAtomSet facts.now }
     ensures { HasItsFacts facts.now atom.now result.0 result.1 }

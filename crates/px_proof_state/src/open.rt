@@ -195,7 +195,7 @@ impl ProofState {
             first: self.first,
         };
         match push_parts(&mut self.goals, lits, theta, place, self.first, goal) {
-            Ok(prefix) => self.first = prefix,
+            Ok(first) => self.first = first,
             Err(NoMemory) => return Err(NoMemory),
         }
         match self.choices.push(choice) {

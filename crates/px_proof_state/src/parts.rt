@@ -53,12 +53,12 @@ pub(crate) fn push_parts(
     requires next_older { goal.now.next ≤ length goals.old.items }
     requires at_older { at ≤ length goals.old.items }
     ensures grown { IfOk result (λ _. (more : List GoalValue) × (goals.new.items ≡ goals.old.items ++ more)) }
-    ensures older { IfOk result (λ prefix. prefix ≤ length goals.new.items) }
+    ensures older { IfOk result (λ first. first ≤ length goals.new.items) }
     ensures arena { IfOk result (λ _. AreOlder goals.old.items → AreOlder goals.new.items) }
-    ensures opened { IfOk result (λ prefix. goals_at goals.new.items prefix ≡ goals_under (path_at goals.old.items at) (goal.now.budget - 1)
+    ensures opened { IfOk result (λ first. goals_at goals.new.items first ≡ goals_under (path_at goals.old.items at) (goal.now.budget - 1)
         (parts_of lits.now theta.now place) ++ goals_at goals.old.items goal.now.next) }
 {
-    let mut prefix = goal.next;
+    let mut first = goal.next;
     for done in 0..lits.len() {
         let k = lits.len() - 1 - done;
         if k != place {
@@ -67,16 +67,16 @@ pub(crate) fn push_parts(
             let part = OpenGoal {
                 lit: opposite,
                 above: at,
-                next: prefix,
+                next: first,
                 budget: goal.budget.saturating_sub(1),
             };
             match push_goal(goals, part) {
-                Ok(newest) => prefix = newest,
+                Ok(newest) => first = newest,
                 Err(NoMemory) => return Err(NoMemory),
             }
         }
     }
-    Ok(prefix)
+    Ok(first)
 }
 
 /// Opens a place for each atom of the formula, from the last to the first, and returns the place of the first.
@@ -86,11 +86,11 @@ pub(crate) fn open_formula(
     height: u32,
 ) -> Result<usize, NoMemory>
     requires { goals.old.items ≡ [] }
-    ensures older { IfOk result (λ prefix. prefix ≤ length goals.new.items) }
+    ensures older { IfOk result (λ first. first ≤ length goals.new.items) }
     ensures arena { IfOk result (λ _. AreOlder goals.new.items) }
-    ensures opened { IfOk result (λ prefix. goals_at goals.new.items prefix ≡ goals_under [] height (map positive_of formula.now)) }
+    ensures opened { IfOk result (λ first. goals_at goals.new.items first ≡ goals_under [] height (map positive_of formula.now)) }
 {
-    let mut prefix = 0;
+    let mut first = 0;
     for done in 0..formula.len() {
         let lit = Lit {
             positive: true,
@@ -99,13 +99,13 @@ pub(crate) fn open_formula(
         let goal = OpenGoal {
             lit,
             above: 0,
-            next: prefix,
+            next: first,
             budget: height,
         };
         match push_goal(goals, goal) {
-            Ok(newest) => prefix = newest,
+            Ok(newest) => first = newest,
             Err(NoMemory) => return Err(NoMemory),
         }
     }
-    Ok(prefix)
+    Ok(first)
 }

@@ -9,11 +9,11 @@ loop-done-init c = asked-start c.args.formula.now c.args.height c.args.goals.now
 pub loop-done-preserved : goal.loop-done-preserved
 loop-done-preserved c =
     let now : ℕ = length c.args.formula.now - 1 - c.loop-done.done in
-    asked-next c.args.formula.now c.args.height c.loop-done.goals.items c.loop-done.prefix _ now c.loop-done.invariant
+    asked-next c.args.formula.now c.args.height c.loop-done.goals.items c.loop-done.first _ now c.loop-done.invariant
     (omega (arith, c.loop-done-test.true)) (omega (arith, c.loop-done-test.true)) c.index-formula-formula.result
     _ _ _ (omega (arith, c.loop-done-test.true))
     (c.in-Ok.ensures.items ∙ ap (λ atom. c.loop-done.goals.items
-    ++ record { lit = positive_of atom; above = 0; next = c.loop-done.prefix; budget = c.args.height } ∷ []) c.index-formula-formula.is)
+    ++ record { lit = positive_of atom; above = 0; next = c.loop-done.first; budget = c.args.height } ∷ []) c.index-formula-formula.is)
     c.in-Ok.ensures.place
 
 pub returns-clause-opened : goal.returns-clause-opened

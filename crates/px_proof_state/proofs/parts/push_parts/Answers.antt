@@ -19,18 +19,18 @@ loop-done-preserved c =
     elim c.if-k-place.branch [
       | then-k-place+in-Ok w ↦ opened-take c.args.goals.now.items c.args.lits.now c.args.theta.now c.args.place c.args.at
           c.args.goal.now.next (c.args.goal.now.budget - 1)
-          c.loop-done.goals.items c.loop-done.prefix _ now c.loop-done.invariant after within w.index-lits-k.result _ _ _
+          c.loop-done.goals.items c.loop-done.first _ now c.loop-done.invariant after within w.index-lits-k.result _ _ _
           w.complement-opposite.result next w.if-k-place.true c.requires.at_older
           (w.complement-opposite.ensures
           ∙ ap complement_of (w.apply_literal-lit.ensures ∙ ap (substitute_literal c.args.theta.now) w.index-lits-k.is))
           (ap (λ v. v.items) w.goals-is ∙ w.in-Ok.ensures.items
           ∙ ap (λ b. c.loop-done.goals.items
-          ++ record { lit = w.complement-opposite.result; above = c.args.at; next = c.loop-done.prefix; budget = b } ∷ [])
-          w.saturating_sub.ensures) (w.prefix-is ∙ w.in-Ok.ensures.place)
+          ++ record { lit = w.complement-opposite.result; above = c.args.at; next = c.loop-done.first; budget = b } ∷ [])
+          w.saturating_sub.ensures) (w.first-is ∙ w.in-Ok.ensures.place)
       | else-k-place w ↦ opened-pass c.args.goals.now.items c.args.lits.now c.args.theta.now c.args.place c.args.at c.args.goal.now.next
           (c.args.goal.now.budget - 1)
-          c.loop-done.goals.items c.loop-done.prefix _ now c.loop-done.invariant after within no_literal _ _ _ next w.if-k-place.false
-          (ap (λ v. v.items) w.goals-is) w.prefix-is
+          c.loop-done.goals.items c.loop-done.first _ now c.loop-done.invariant after within no_literal _ _ _ next w.if-k-place.false
+          (ap (λ v. v.items) w.goals-is) w.first-is
     ]
 
 pub returns-clause-opened : goal.returns-clause-opened
