@@ -72,7 +72,7 @@ demo-completes_surely rooms seed sink status.Usage right held room written sure 
 demo-completes_surely rooms seed sink status.ReadFault right held room written sure fits = elim right [ ]
 demo-completes_surely rooms seed sink status.TooLong right held room written sure fits = elim right [ ]
 
--- ---- the front of what is demanded
+-- ---- the prefix of what is demanded
 
 pub demo-prefix : (rooms seed : ℕ) (sink : SinkEnds) (result : Status) → DemoRight rooms seed sink result
     → HasDemoPrefix rooms seed sink result

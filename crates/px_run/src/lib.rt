@@ -19,8 +19,7 @@
 //!   defines it. Nothing is answered before the whole script was read. Bytes that aren't a certificate are refused with their first bad
 //!   line, as `px_cert` defines it, and the code 13.
 //! - After a write that failed, the replies before it and a proper prefix of the next text were written, and so a proper prefix of what
-//!   the bytes demand (`prefix` in `specs/Prefixes`). Each reply is written as a whole; no clause says so, a test
-//!   shows it.
+//!   the bytes demand (`HasPrefix` in `specs/Prefixes`). Each reply is written as a whole; no clause says so, a test shows it.
 //! - How much room suffices in a sink is in `specs/Rooms` ([`rooms_suffice`]): for the transcript, and for the line of a demo and that of
 //!   a certificate, which have bounds (`px_lengths`).
 //! - A script or a certificate has at most 1,048,576 bytes. Where more came, the answer is `TooLong`.

@@ -15,7 +15,7 @@ use px_support::Asked;
 use px_terms::NoMemory;
 use std::alloc::Global;
 
-/// A model, with its number.
+/// The model that is looked at, with its number.
 #[derive(Drop)]
 pub struct CurrentModel {
     /// `None` where no model was looked at yet.
@@ -26,7 +26,7 @@ pub struct CurrentModel {
 }
 
 impl CurrentModel {
-    /// Returns that no model was looked at yet.
+    /// Returns what stands for the current model while no model was looked at.
     pub fn new(alloc: Global) -> CurrentModel
         ensures { result.number ≡ None }
     {

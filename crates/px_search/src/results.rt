@@ -14,7 +14,7 @@ use px_ops::Model;
 use px_support::Asked;
 use px_terms::NoMemory;
 
-/// Returns the model of this number: a copy of the current's, or else the one that is kept by number.
+/// Returns the model of this number: a copy of the current one, if it has the number, or else the one that is kept by it.
 fn model_for(
     asked: &Asked,
     numbers: &Numbers,

@@ -16,8 +16,8 @@ pub struct Limit {
     pub met: MetLimit,
 }
 
-/// What stops a search before all its nodes are expanded. The functions of the search answer it as an error, the solved node that is looked
-/// for too, since `?` then ends each of them at the first stop.
+/// What stops a search before all its nodes are expanded. The functions of the search return it as their error, even where the node that
+/// was looked for is found: so `?` ends each of them at the first stop.
 #[derive(Drop)]
 pub enum Stop {
     /// The last of the nodes is solved.

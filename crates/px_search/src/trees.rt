@@ -32,8 +32,8 @@ use px_terms::{Atom, NoMemory, Problem, Sequence};
 use px_tree::{MoveKind, Tree, TreeEnd, TreeMove, TreeNode, TreeOrigin};
 use std::alloc::Global;
 
-/// Returns how a search ended that came to this, where this many shapes are the limit. `NoMemory` is that of the search: it does not
-/// allocate.
+/// Returns how a search ended that came to this, where this many shapes are the limit. `NoMemory` says that memory ran out in the search.
+/// Does not allocate.
 fn end_of(shapes: u32, came_to: Result<(), Stop>) -> Result<TreeEnd, NoMemory>
     ensures end { IfOk result (EndsAs shapes came_to) }
     ensures no_memory { IfErr result (λ e. came_to ≡ Err OutOfMemory) }

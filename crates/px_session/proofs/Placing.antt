@@ -38,7 +38,7 @@ takes-all-later old new recorded same all = all-later (Takes old) (Takes new) re
 
 -- ---- the building
 
--- a world with the rules of the problem is a place of it
+-- a world with the rules of the problem is in its building
 pub place-left : (problem : Problem) (place : RunWorld) → HaveSameRules (run_world_rules place) problem
     → IsWorldInBuilding problem (run_world_atoms place) (building_of place)
 place-left problem (Atoms world) same = tt

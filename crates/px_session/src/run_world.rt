@@ -22,7 +22,7 @@ pub(crate) enum RunWorld<'a> {
     Rooms(RoomWorld),
 }
 
-/// Returns the world of a run: the building, which is handed over, or else a copy of the facts with room for `more` further ones.
+/// Returns the world of a run: the building, which is handed over, or else a copy of the facts with room for `spare` further ones.
 ///
 /// # Errors
 /// `NoMemory` where there is no memory for the copy. The building, if there is one, takes none.
