@@ -52,7 +52,8 @@
 //! of the shapes (`px_proof_walk`). [`prove`] stops at the first finished list. `gap_patterns` visits the unfinished ones, and at
 //! each gathers a pattern for each list that one more closing finishes; equal patterns are kept once. A walk over unfinished lists
 //! passes over facts and ancestors where one place alone is open, since they leave none open. Facts and ancestors bind variables alone,
-//! so where a fact finishes a list without a change of the pattern that it had before, the others that finish it are passed over, too.
+//! so where `gap_closings` finds that the first fact which finishes a list leaves the pattern as it was before, it passes over the other
+//! facts and the ancestors that finish this list.
 //! Where there are more than a few, a walk that gathers nothing tells first whether they are too many. `gap_lists` puts all objects in the
 //! place of their variables.
 //!

@@ -12,7 +12,7 @@ ghost use Rattle.px_prover.specs.GapAsking.{gap_setting};
 ghost use Rattle.px_prover.specs.Passed.{IsSmall};
 ghost use Rattle.px_prover.specs.Outcomes.{IfGapLimit};
 ghost use Rattle.px_prover.specs.declared.pattern.GapPattern.{GapPattern as PatternValue};
-ghost use Rattle.px_prover.specs.Patterns.{AreGapClosings, AreGapPatterns, AreKeptPatterns, GathersOf, IsPatternBy, IsPatternOf, PassesOver, ends_of, place_of, renamed, terms_in};
+ghost use Rattle.px_prover.specs.Patterns.{AreGapClosings, AreGapPatterns, AreKeptPatterns, GathersOf, IsPatternBy, IsQuestionPattern, PassesOver, ends_of, place_of, renamed, kept_count};
 ghost use Rattle.px_terms.specs.Substitution.{variables_from};
 ghost use Rattle.px_prover.specs.Standing.{ticks_in, IsStanding};
 
@@ -144,7 +144,7 @@ fn keep(found: &mut Vec<GapPattern>, pattern: GapPattern) -> Result<(), NoMemory
 /// Returns the pattern of a state: what its bindings make of the terms and of the atoms that gaps close.
 fn pattern_of(question: &GapQuestion, state: &ProofState) -> Result<GapPattern, NoMemory>
     requires { IsStanding true (gap_setting question.now) question.now.formula.now question.now.variable_count state.now }
-    ensures { IfOk result (λ pattern. IsPatternOf question.now state.now pattern) }
+    ensures { IfOk result (λ pattern. IsQuestionPattern question.now state.now pattern) }
 {
     let alloc = *state.allocator();
     let ends = roots_of(alloc, state.bind())?;
@@ -235,9 +235,9 @@ fn prune(patterns: &mut Vec<GapPattern>, room: usize) -> usize
 
 impl<'a> Gather<GapQuestion<'a>, ProofState> for Patterns {
     ghost use Rattle.px_prover.specs.GapAsking.{gap_setting};
-    ghost use Rattle.px_prover.specs.Patterns.{ArePatternsOf, terms_in};
+    ghost use Rattle.px_prover.specs.Patterns.{ArePatternsOf, kept_count};
 
-    ghost gathered = { λ q g seen. ArePatternsOf (terms_in q) (gap_setting q) q.formula.now q.variable_count seen g.found.items };
+    ghost gathered = { λ q g seen. ArePatternsOf (kept_count q) (gap_setting q) q.formula.now q.variable_count seen g.found.items };
 
     fn gather(
         &mut self,
@@ -264,7 +264,7 @@ impl<'a> Gather<GapQuestion<'a>, ProofState> for Patterns {
 
 /// Returns the pattern of the formula without atoms: the first `count` of its variables, and no gap.
 fn without_atoms(alloc: Global, variable_count: u32, count: u32) -> Result<GapPattern, NoMemory>
-    ensures variable_count_are { IfOk result (λ pattern. pattern.variable_count ≡ variable_count) }
+    ensures variable_count_is { IfOk result (λ pattern. pattern.variable_count ≡ variable_count) }
     ensures terms_are { IfOk result (λ pattern. pattern.terms ≡ variables_from 0 count) }
     ensures atoms_are { IfOk result (λ pattern. pattern.atoms ≡ []) }
 {
@@ -284,7 +284,7 @@ fn gathered(alloc: Global, question: &GapQuestion, limit: u32) -> Result<Vec<Gap
     requires asked { IsAsked question.now }
     requires some { 0 < limit }
     requires within { limit ≤ question.now.problem.now.shapes }
-    ensures patterns { IfOk result (λ patterns. AreKeptPatterns (terms_in question.now) (gap_setting question.now)
+    ensures patterns { IfOk result (λ patterns. AreKeptPatterns (kept_count question.now) (gap_setting question.now)
         question.now.formula.now question.now.variable_count patterns.items) }
     ensures few { IfOk result (λ patterns. AreFewGapShapes (gap_setting question.now) question.now.formula.now question.now.variable_count) }
     ensures limited { limit ≡ question.now.problem.now.shapes

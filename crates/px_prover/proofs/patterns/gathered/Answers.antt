@@ -5,7 +5,7 @@ use Rattle.px_prover.proofs.GapDeciding.{decided-few_gaps, decided-gap_limit}
 use Rattle.px_prover.proofs.PatternDeciding.{decided-patterns}
 use Rattle.px_prover.proofs.PatternOrder.{patterns-same}
 use Rattle.px_prover.specs.GapAsking.{gap_setting}
-use Rattle.px_prover.specs.Patterns.{terms_in}
+use Rattle.px_prover.specs.Patterns.{kept_count}
 use Rattle.px_proof_walk.specs.Possible.{IsGoingOn}
 use Rattle.px_proof_walk.specs.Search.{LimitComes}
 use Rattle.px_prover.proofs.patterns.gathered.Goals as goal
@@ -26,7 +26,7 @@ returns-in-Ok-None-clause-patterns c =
     let formula = c.args.question.now.formula.now in
     let variable_count = c.args.question.now.variable_count in
     let h = rw c.in-Ok-None.field-0-is at c.in-Ok-None.ensures.all in
-    let kept = terms_in c.args.question.now in
+    let kept = kept_count c.args.question.now in
     patterns-same c.walk_to_end.new.gather.found.items c.unite.new.patterns.items c.unite.ensures kept s formula variable_count
     (decided-patterns kept s formula variable_count c.requires.asked.proper c.requires.asked.some_atom h.0 c.walk_to_end.new.gather.found.items
     (all-within s formula variable_count c.requires.asked.proper c.args.limit h.0 c.requires.within h.1) h.2)

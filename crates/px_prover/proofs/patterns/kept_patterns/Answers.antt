@@ -37,7 +37,7 @@ returns-in-Ok-push-clause-patterns c =
     subst (λ (xs : List Atom). AreKeptPatterns kept (setting_of c.args.problem.now xs) c.args.formula.now c.args.variable_count c.push.new.items.items)
     c.atoms-facts.ensures.value
     (decided-one kept s c.args.formula.now c.args.variable_count asked (few-kept c.args.with_terms c.args.variable_count) empty c.in-Ok.pattern
-    c.push.new.items.items c.in-Ok.ensures.variable_count_are (c.in-Ok.ensures.terms_are ∙ ap (variables_from 0) c.kept_terms.ensures)
+    c.push.new.items.items c.in-Ok.ensures.variable_count_is (c.in-Ok.ensures.terms_are ∙ ap (variables_from 0) c.kept_terms.ensures)
     c.in-Ok.ensures.atoms_are made)
 
 pub returns-in-Ok-push-clause-few : goal.returns-in-Ok-push-clause-few

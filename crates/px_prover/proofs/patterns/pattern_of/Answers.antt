@@ -2,7 +2,7 @@ use Rattle.std.proofs.Common.{◌≡◌, ◌≤◌, subst, sym, ℕ, List}
 use Rattle.std.specs.Prelude.{All, cond}
 use Rattle.px_prover.specs.GapAsking.{gap_setting}
 use Rattle.px_prover.specs.Gathering.{AreEnds, AreMissing}
-use Rattle.px_prover.specs.Patterns.{IsPatternBy, IsPatternOf, terms_in}
+use Rattle.px_prover.specs.Patterns.{IsPatternBy, IsQuestionPattern, kept_count}
 use Rattle.px_prover.specs.Standing.{ticks_in}
 use Rattle.px_prover.specs.declared.pattern.GapPattern.{GapPattern}
 use Rattle.px_prover.proofs.Gathered.{ends-read, first-within, missing-within, state-pattern}
@@ -41,8 +41,8 @@ returns c =
     ok-weaker c.pattern_by.result
     (λ pattern. IsPatternBy c.kept_terms-terms.result c.as_slice-missing.result.now c.as_slice-roots.result.now c.as_slice-free.result.now
     pattern)
-    (IsPatternOf q v)
-    (λ pattern by. state-pattern (terms_in q) c.kept_terms-terms.result (gap_setting q) q.formula.now q.variable_count v c.kept_terms-terms.ensures
+    (IsQuestionPattern q v)
+    (λ pattern by. state-pattern (kept_count q) c.kept_terms-terms.result (gap_setting q) q.formula.now q.variable_count v c.kept_terms-terms.ensures
     c.as_slice-roots.result.now
     (ends-read v.changes c.bind.result.now _ c.as_slice-roots.result.now c.bind.ensures c.in_ok-ends.ensures c.as_slice-roots.ensures.value)
     _ c.as_slice-missing.result.now c.in_ok-atoms.ensures c.as_slice-missing.ensures.value

@@ -3,7 +3,7 @@ use Rattle.px_base.specs.Bounds.{u32_max}
 use Rattle.px_proof.specs.declared.shape.Tick.{Tick}
 use Rattle.px_prover.specs.Asking.{setting_in, IsPossibleIn}
 use Rattle.px_prover.specs.GapAsking.{gap_setting}
-use Rattle.px_prover.specs.Patterns.{GivesFirst, terms_in}
+use Rattle.px_prover.specs.Patterns.{GivesFirst, kept_count}
 use Rattle.px_prover.specs.Standing.{ticks_in, IsStanding}
 use Rattle.px_prover.specs.declared.question.ProofQuestion.{ProofQuestion}
 use Rattle.px_prover.proofs.Moves.{standing-sound}
@@ -33,7 +33,7 @@ loop-self-preserved c =
     let next =
     next-tick here was (ticks_in now.choices) (ticks_in c.retract.new.self.choices) c.loop-self.last h.0 c.in-Some.tick
     c.loop-self.invariant.there h.1 h.2 c.in-Some.ensures.last in
-    let kept = terms_in c.args.question.now in
+    let kept = kept_count c.args.question.now in
     let stands : IsStanding true s formula variable_count c.retract.new.self =
     subst (λ (q : ProofQuestion). IsStanding q.loose (setting_in q) q.formula.now q.variable_count c.retract.new.self) c.loose-loose.ensures
     c.in-Some.ensures.still in
@@ -91,7 +91,7 @@ returns-clause-more c =
     subst (λ (b : Bool). TriesAfter (IsPossible true s formula variable_count) was (ticks_in now.choices) c.loop-self.last b) c.if-branch.false
     (subst (λ (q : ProofQuestion). TriesAfter (IsPossibleIn q) was (ticks_in now.choices) c.loop-self.last c.in_ok-try_after.field-0)
     c.loose-loose.ensures c.in_ok-try_after.ensures.tried) in
-    let kept = terms_in c.args.question.now in
+    let kept = kept_count c.args.question.now in
     λ seen before.
     pruned-same c.loop-self.self.found.items c.prune-self.new.patterns.items c.prune-self.ensures kept s formula variable_count (seen ++ here ∷ [])
     (patterns-more kept s formula variable_count seen here c.args.self.now.found.items c.loop-self.self.found.items before
@@ -110,7 +110,7 @@ are_two_open-requires-clause-within c =
 
 pub returns-then-are_two_open-clause-more : goal.returns-then-are_two_open-clause-more
 returns-then-are_two_open-clause-more c = λ seen before.
-    nothing-more (terms_in c.args.question.now) (gap_setting c.args.question.now) c.args.question.now.formula.now c.args.question.now.variable_count
+    nothing-more (kept_count c.args.question.now) (gap_setting c.args.question.now) c.args.question.now.formula.now c.args.question.now.variable_count
     c.args.walk.now c.requires.stands c.if-are_two_open.ensures seen c.args.self.now.found.items before
 
 pub loop-self-init : goal.loop-self-init
@@ -119,6 +119,6 @@ loop-self-init c = record {
   there = refl;
   small = tt;
   gathered =
-      patterns-start (terms_in c.args.question.now) (gap_setting c.args.question.now) c.args.question.now.formula.now
+      patterns-start (kept_count c.args.question.now) (gap_setting c.args.question.now) c.args.question.now.formula.now
       c.args.question.now.variable_count (ticks_in c.args.walk.now.choices) c.args.self.now.found.items;
 }

@@ -1,7 +1,7 @@
 use Rattle.std.proofs.Common.{◌≡◌, true}
 use Rattle.px_prover.specs.GapAsking.{gap_setting}
 use Rattle.px_prover.specs.Passed.{AreSmall}
-use Rattle.px_prover.specs.Patterns.{terms_in}
+use Rattle.px_prover.specs.Patterns.{kept_count}
 use Rattle.px_prover.specs.Standing.{ticks_in, IsStanding}
 use Rattle.px_prover.proofs.Passing.{left_after}
 use Rattle.px_prover.proofs.PatternPassing.{HasPatterns}
@@ -12,7 +12,7 @@ invariant-loop-self l = record {
   stands : IsStanding true (gap_setting l.question) l.question.formula.now l.question.variable_count l.walk;
   there : ticks_in l.walk.choices ≡ ticks_in l.fn.walk.choices;
   small : AreSmall l.last;
-  gathered : HasPatterns (terms_in l.question) (gap_setting l.question) l.question.formula.now l.question.variable_count
+  gathered : HasPatterns (kept_count l.question) (gap_setting l.question) l.question.formula.now l.question.variable_count
       (ticks_in l.fn.walk.choices) l.fn.self.found.items l.last l.self.found.items;
 }
 
