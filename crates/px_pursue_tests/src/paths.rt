@@ -31,8 +31,8 @@ fn at(place: Term) -> Atom {
     atom(0, &[THING, place])
 }
 
-/// Returns the problem of four objects, AT(thing,place), PATH(from,to), and MOVE(thing,from,to), within this limit of nodes.
-fn paths(alloc: Global, rt: &impl Abort, nodes: u32) -> Problem
+/// Returns the problem of four objects, AT(thing,place), PATH(from,to), and MOVE(thing,from,to).
+fn paths(alloc: Global, rt: &impl Abort) -> Problem
     ensures { IsValid result }
 {
     let [here, there] = [atom(0, &[v(0), v(1)]), atom(0, &[v(0), v(2)])];
@@ -41,20 +41,13 @@ fn paths(alloc: Global, rt: &impl Abort, nodes: u32) -> Problem
     let mut problem = problem_of(alloc, 4, &[2, 2], ClauseArena::new(alloc), [moving]).expect(
         rt, "memory",
     );
-    problem.nodes = nodes;
+    problem.nodes = 10000;
     assert!(rt; is_valid(&problem));
     problem
 }
 
 /// Returns what is recorded for a turn: the thing is no longer at the one place, but at the other.
-fn taken(
-    alloc: Global,
-    rt: &impl Abort,
-    turn: u32,
-    between: bool,
-    from: Term,
-    to: Term,
-) -> Recorded<AtomEdit>
+fn taken(alloc: Global, rt: &impl Abort, turn: u32, from: Term, to: Term) -> Recorded<AtomEdit>
     ensures { All IsGroundEdit result.edits }
 {
     let [gone, there] = [at(from), at(to)];
@@ -63,22 +56,17 @@ fn taken(
     let edits = [AtomEdit::Remove(gone), AtomEdit::Add(there)];
     Recorded {
         turn,
-        between,
+        between: false,
         edits: Sequence::from_slice(alloc, &edits).expect(rt, "memory"),
     }
 }
 
 /// Returns what comes of the pursuit of AT(THING,GOAL), and whether the thing is there then.
-fn pursued(
-    alloc: Global,
-    rt: &impl Abort,
-    nodes: u32,
-    recorded: &[Recorded<AtomEdit>],
-) -> (Pursued, bool)
+fn pursued(alloc: Global, rt: &impl Abort, recorded: &[Recorded<AtomEdit>]) -> (Pursued, bool)
     requires admitted { AdmitsAll IsGroundEdit recorded.now }
     requires short { length recorded.now < u32_max }
 {
-    let problem = paths(alloc, rt, nodes);
+    let problem = paths(alloc, rt);
     let [first, other] = [atom(1, &[HERE, GOAL]), atom(1, &[OTHER, GOAL])];
     let facts = model_of(alloc, &[at(HERE), first, other]).expect(rt, "memory");
     let mut world = AtomWorld::new(alloc, &problem, &facts, 0).expect(rt, "memory");
@@ -94,10 +82,10 @@ fn pursued(
 fn each_disturbance_needs_a_search(rt: HostRuntime) {
     let alloc = rt.alloc();
     let recorded = [
-        taken(alloc, &rt, 1, false, HERE, OTHER),
-        taken(alloc, &rt, 2, false, OTHER, HERE),
+        taken(alloc, &rt, 1, HERE, OTHER),
+        taken(alloc, &rt, 2, OTHER, HERE),
     ];
-    let (made, is_there) = pursued(alloc, &rt, 10000, &recorded);
+    let (made, is_there) = pursued(alloc, &rt, &recorded);
     let told = [
         (0, TurnEnd::NoKernel),
         (0, TurnEnd::NoKernel),
@@ -107,43 +95,14 @@ fn each_disturbance_needs_a_search(rt: HostRuntime) {
     assert!(&rt; is_there && reaches(&made, 3, &told));
 }
 
-/// The edits between sensing and action of the turn that finds no kernel don't come, and those of the next turn do.
-#[test]
-fn edits_between_are_dropped_with_the_plan(rt: HostRuntime) {
-    let alloc = rt.alloc();
-    let recorded = [
-        taken(alloc, &rt, 1, false, HERE, OTHER),
-        taken(alloc, &rt, 1, true, OTHER, HERE),
-        taken(alloc, &rt, 2, true, OTHER, GOAL),
-    ];
-    let (made, is_there) = pursued(alloc, &rt, 10000, &recorded);
-    let told = [
-        (0, TurnEnd::NoKernel),
-        (1, TurnEnd::Slipped),
-        (2, TurnEnd::Goal),
-    ];
-    assert!(&rt; is_there && reaches(&made, 2, &told));
-}
-
 /// No path leads back from the goal, so nothing is found once the thing was taken beyond.
 #[test]
 fn a_search_may_find_nothing(rt: HostRuntime) {
     let alloc = rt.alloc();
-    let recorded = [taken(alloc, &rt, 2, false, GOAL, THING)];
-    let (made, is_there) = pursued(alloc, &rt, 10000, &recorded);
+    let recorded = [taken(alloc, &rt, 2, GOAL, THING)];
+    let (made, is_there) = pursued(alloc, &rt, &recorded);
     let told = [(1, TurnEnd::Acted), (0, TurnEnd::NoKernel)];
     assert!(&rt; !is_there && made.searches == 2 && are_told(made.turns.as_slice(), &told));
     assert!(&rt; matches!(made.end, PursueEnd::Exhausted));
     assert!(&rt; made.facts.holds(&at(THING)));
-}
-
-/// The limit of nodes ends a pursuit before its first turn, and what is recorded doesn't come.
-#[test]
-fn a_limit_of_nodes_ends_it(rt: HostRuntime) {
-    let alloc = rt.alloc();
-    let recorded = [taken(alloc, &rt, 1, false, HERE, OTHER)];
-    let (made, is_there) = pursued(alloc, &rt, 1, &recorded);
-    assert!(&rt; !is_there && made.searches == 1 && made.turns.len() == 0);
-    assert!(&rt; matches!(made.end, PursueEnd::NodeLimit { .. }));
-    assert!(&rt; made.facts.holds(&at(HERE)));
 }
