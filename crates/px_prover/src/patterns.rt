@@ -33,6 +33,9 @@ use std::alloc::Global;
 /// Equal patterns are looked for where at least so many have come.
 const MANY_PATTERNS: usize = 1024;
 
+/// Among so many of the last patterns an equal one is looked for.
+const RECENT_PATTERNS: usize = 8;
+
 /// Up to how many lists patterns are gathered at once. Where there are more, a walk first tells whether they are too many.
 const FEW_LISTS: u32 = 1024;
 
@@ -120,21 +123,19 @@ struct Patterns {
     room: usize,
 }
 
-/// Returns whether the pattern is equal to the last one.
-fn is_last(found: &[GapPattern], pattern: &GapPattern) -> bool
+/// Returns whether the pattern is equal to one of the last ones.
+fn is_recent(found: &[GapPattern], pattern: &GapPattern) -> bool
     ensures { IsTrue result → Contains found.now pattern.now }
 {
-    match found.last() {
-        Some(last) => last == pattern,
-        None => false,
-    }
+    let first = found.len().saturating_sub(RECENT_PATTERNS);
+    found[first..].contains(pattern)
 }
 
-/// Appends the pattern, unless it is equal to the last one.
+/// Appends the pattern, unless it is equal to one of the last ones.
 fn keep(found: &mut Vec<GapPattern>, pattern: GapPattern) -> Result<(), NoMemory>
     ensures { IfOk result (λ _. (p : PatternValue) → Contains found.new.items p ↔ (Contains found.old.items p ⊎ (pattern ≡ p))) }
 {
-    if is_last(found, &pattern) {
+    if is_recent(found, &pattern) {
         return Ok(());
     }
     push(found, pattern)?;
@@ -187,7 +188,7 @@ fn after_fact(
     ensures passed { IfOk result (λ next. PassesOver question.now state.now found.now (Tick.Fact number) next) }
 {
     let general = pattern_of(question, state)?;
-    if is_last(found, &general) {
+    if is_recent(found, &general) {
         return Ok(Tick::Anc(u32::MAX));
     }
     Ok(Tick::Fact(number))
