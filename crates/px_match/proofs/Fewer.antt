@@ -16,7 +16,7 @@ use Rattle.px_proof.specs.PlaceLaws.{length-remove, other_part, slice_get-read, 
 use Rattle.px_ops.specs.ModelLaws.{without_atom-ascending, without_atom-members}
 use Rattle.px_ops.specs.Models.{without_atom}
 use Rattle.px_ops.specs.ModelValue.{ModelValue}
-use Rattle.px_match.specs.Keeping.{HasCapacity}
+use Rattle.px_match.specs.Keeping.{HasCapacity, HasPlaces}
 
 -- no atom stands twice
 abbrev AreDifferent : List Atom → Type 0
@@ -137,3 +137,19 @@ pub room_put : (room : ℕ) (atom : Atom) (old new : ModelValue) → IsAtomSet o
 room_put room atom old new set is hasnt left has =
     let longer = with_atom-longer atom old.atoms set hasnt in
     rw is (omega (arith, longer, left, has))
+
+-- so a mark's list keeps its places
+pub places_taken : (room : ℕ) (mark atom : Atom) (old new : ModelValue) (was : Bool) → IsAtomSet old.atoms
+    → new.atoms ≡ without_atom atom old.atoms → MatchBool was (Contains old.atoms atom) (¬ Contains old.atoms atom)
+    → old.spare ≤ new.spare → (IsTrue was → old.spare + 1 ≤ new.spare) → HasPlaces room mark old → HasPlaces room mark new
+places_taken room mark atom old new was set is there kept won has = elim has [
+  | inl places ↦ inl (room_taken room atom old new was set is there kept won places)
+  | inr plain ↦ inr (plain.0, room_taken 1 atom old new was set is there kept won plain.1)
+]
+
+pub places_put : (room : ℕ) (mark atom : Atom) (old new : ModelValue) → IsAtomSet old.atoms → new.atoms ≡ with_atom atom old.atoms
+    → ¬ Contains old.atoms atom → old.spare ≤ new.spare + 1 → HasPlaces room mark old → HasPlaces room mark new
+places_put room mark atom old new set is hasnt left has = elim has [
+  | inl places ↦ inl (room_put room atom old new set is hasnt left places)
+  | inr plain ↦ inr (plain.0, room_put 1 atom old new set is hasnt left plain.1)
+]

@@ -15,6 +15,7 @@ pub mod Room
 pub mod Viewed
 pub mod Fewer
 pub mod Kept
+pub mod Plain
 pub mod Renewed
 pub mod Each
 pub mod Sides

@@ -23,8 +23,9 @@ use Rattle.px_ops.specs.Models.{without_atom}
 use Rattle.px_ops.specs.ModelValue.{ModelValue}
 use Rattle.px_table.specs.declared.mark.Mark.{Mark}
 use Rattle.px_table.specs.Kernels.{atom_under}
-use Rattle.px_match.specs.Keeping.{AreEmpty, AreKept, AreMatches, ArePutIn, AreTakenOut, HasCapacity, IsListOf, covers, covers_term, matches}
+use Rattle.px_match.specs.Keeping.{AreEmpty, AreKept, AreMatches, ArePutIn, AreTakenOut, HasCapacity, HasPlaces, IsListOf, covers, covers_term, matches}
 use Rattle.px_match.proofs.Viewed.{written_whole}
+use Rattle.px_match.proofs.Plain.{none_covered}
 use Rattle.px_match.proofs.Fewer.{as_many, less_itself, room_put, room_taken, shorter, without_atom-shorter}
 
 -- ---- what is kept so far
@@ -126,13 +127,17 @@ matched atoms tau mark has = (Contains-filter (covers mark) atoms (atom_under ta
 
 -- while an atom of the new ones isn't kept, there is a place for it in each list
 pub place_left : (new : List Atom) (mark : Atom) (kept : List Atom) (list : ModelValue) (atom : Atom) → IsAtomSet kept
-    → All (Contains new) kept → Contains new atom → ¬ Contains kept atom
+    → All (Contains new) kept → Contains new atom → ¬ Contains kept atom → covers mark atom ≡ true
     → IsListOf (length new) mark kept list → 1 ≤ list.spare
-place_left new mark kept list atom set within has hasnt is =
-    let less = shorter kept new atom set (λ q h. All-at (Contains new) kept q within h) has hasnt in
-    let few : length (matches mark kept) ≤ length kept = rw length-filter (count_by-le-length (covers mark) kept) in
+place_left new mark kept list atom set within has hasnt covered is =
     let same = ap length is.same in
-    omega (arith, less, few, same, is.places)
+    elim is.places [
+      | inl places ↦
+          let less = shorter kept new atom set (λ q h. All-at (Contains new) kept q within h) has hasnt in
+          let few : length (matches mark kept) ≤ length kept = rw length-filter (count_by-le-length (covers mark) kept) in
+          omega (arith, less, few, same, places)
+      | inr plain ↦ let none = none_covered mark kept atom plain.0 covered hasnt in omega (arith, none, same, plain.1)
+    ]
 
 pub kept_left : (new : List Atom) (kept : ModelValue) (atom : Atom) → IsAtomSet kept.atoms → All (Contains new) kept.atoms
     → Contains new atom → ¬ Contains kept.atoms atom → HasCapacity (length new) kept → 1 ≤ kept.spare
@@ -211,14 +216,13 @@ kept_put room marks atom before after old new set is hasnt left put are = record
 
 -- no atoms are kept at first
 pub kept_empty : (room : ℕ) (marks : List Mark) (kept : ModelValue) (lists : List ModelValue) → kept.atoms ≡ [] → room ≤ kept.spare
-    → AreEmpty room (length marks) lists → AreKept room marks kept lists
+    → AreEmpty room marks (length marks) lists → AreKept room marks kept lists
 kept_empty room marks kept lists none spare are = record {
   places = omega (arith, spare);
   same = are.same;
   each = λ k l m below.
       let there : k < length lists = omega (arith, below, are.same) in
-      let left = are.spare k l there in
-      record { same = are.empty k l there ∙ sym (ap (matches (get_or marks k m).atom) none); places = omega (arith, left) };
+      record { same = are.empty k l there ∙ sym (ap (matches (get_or marks k m).atom) none); places = are.places k l m there };
 }
 
 -- room for some is room for fewer
@@ -228,8 +232,12 @@ kept_fewer few room marks kept lists less are = record {
   places = let places = are.places in omega (arith, places, less);
   same = are.same;
   each =
-      λ k l m below. let one =
-      are.each k l m below in record { same = one.same; places = let places = one.places in omega (arith, places, less) };
+      λ k l m below.
+          let one = are.each k l m below in
+          record {
+            same = one.same;
+            places = elim one.places [ inl places ↦ inl (omega (arith, places, less)) | inr plain ↦ inr plain ];
+          };
 }
 
 -- ---- putting what came
@@ -242,10 +250,6 @@ pub record IsComing (new : List Atom) (marks : List Mark) (first : ModelValue) (
   pub within : All (Contains new) kept.atoms
   pub there : (k : ℕ) (d : Atom) → k < at → Contains kept.atoms (get_or new k d)
   pub keeps : (room : ℕ) → AreKept room marks first first_lists → AreKept room marks kept lists
-
--- any mark
-abbrev pub mark_of : Atom → Mark
-mark_of atom = record { atom = atom; row = 0; column = 0; index = 0 }
 
 module _ (new : List Atom) (marks : List Mark) (first : ModelValue) (first_lists : List ModelValue) (at : ℕ) (kept : ModelValue)
     (lists : List ModelValue)
@@ -275,11 +279,12 @@ module _ (new : List Atom) (marks : List Mark) (first : ModelValue) (first_lists
         kept_left new kept atom coming.set coming.within (has_at list new at atom same below is) hasnt
         (coming.keeps (length new) room).places
 
-    pub rooms_for_it : (k : ℕ) (l : ModelValue) → k < length lists → 1 ≤ (get_or lists k l).spare
-    rooms_for_it k l within =
-        place_left new (get_or marks k (mark_of atom)).atom kept.atoms (get_or lists k l) atom coming.set coming.within
-        (has_at list new at atom same below is) hasnt
-        ((coming.keeps (length new) room).each k l (mark_of atom) (omega (arith, within, coming.same)))
+    pub rooms_for_it : (k : ℕ) (l : ModelValue) (m : Mark) → k < length lists → covers (get_or marks k m).atom atom ≡ true
+        → 1 ≤ (get_or lists k l).spare
+    rooms_for_it k l m within covered =
+        place_left new (get_or marks k m).atom kept.atoms (get_or lists k l) atom coming.set coming.within
+        (has_at list new at atom same below is) hasnt covered
+        ((coming.keeps (length new) room).each k l m (omega (arith, within, coming.same)))
 
   pub coming_put : (after : ModelValue) (after_lists : List ModelValue) → ¬ Contains kept.atoms atom
       → after.atoms ≡ with_atom atom kept.atoms → IsAtomSet after.atoms → kept.spare ≤ after.spare + 1
@@ -299,15 +304,21 @@ all_came new marks first first_lists at kept lists list coming new_set same end 
     let lengths = ap length same in
     all_kept new kept.atoms new_set coming.set coming.within (λ k d below. coming.there k d (omega (arith, below, lengths, end)))
 
--- the list of a mark has what it becomes
+-- the list of a mark has what it covers
+pub list_matches : (marks : List Mark) (atoms : List Atom) (lists : List ModelValue) (at : ℕ) (mark : Mark) (list : ModelValue)
+    (found : List Atom) → AreMatches marks atoms lists → at < length marks → mark ≡ get_or marks at mark → list ≡ get_or lists at list
+    → found ≡ list.atoms → found ≡ matches mark.atom atoms
+list_matches marks atoms lists at mark list found are below mark_is list_is found_is =
+    found_is ∙ ap (λ (x : ModelValue). x.atoms) list_is ∙ are.each at list mark below
+    ∙ ap (λ (m : Mark). matches m.atom atoms) (sym mark_is)
+
+-- and so what it becomes
 pub listed : (marks : List Mark) (atoms : List Atom) (lists : List ModelValue) (at : ℕ) (mark : Mark) (list : ModelValue)
     (found : List Atom) (tau : List ℕ) → AreMatches marks atoms lists
     → at < length marks → mark ≡ get_or marks at mark → list ≡ get_or lists at list → found ≡ list.atoms
     → Contains atoms (atom_under tau mark.atom) → Contains found (atom_under tau mark.atom)
 listed marks atoms lists at mark list found tau are below mark_is list_is found_is has =
-    let same : found ≡ matches mark.atom atoms =
-    found_is ∙ ap (λ (x : ModelValue). x.atoms) list_is ∙ are.each at list mark below
-    ∙ ap (λ (m : Mark). matches m.atom atoms) (sym mark_is) in
+    let same = list_matches marks atoms lists at mark list found are below mark_is list_is found_is in
     subst (λ l. Contains l (atom_under tau mark.atom)) (sym same) (matched atoms tau mark.atom has)
 
 -- what is in the list of a mark is among the atoms
@@ -320,25 +331,29 @@ from_list marks atoms lists at mark list atom are below list_is has =
 
 -- ---- lists without atoms
 
-pub none_empty : (room : ℕ) → AreEmpty room 0 []
-none_empty room =
-    record { same = refl; empty = λ k l below. absurd (omega (arith, below)); spare = λ k l below. absurd (omega (arith, below)) }
+pub none_empty : (room : ℕ) (marks : List Mark) → AreEmpty room marks 0 []
+none_empty room marks =
+    record { same = refl; empty = λ k l below. absurd (omega (arith, below)); places = λ k l m below. absurd (omega (arith, below)) }
 
-last_or_before : (P : ModelValue → Type 0) (lists : List ModelValue) (one : ModelValue)
-    → ((k : ℕ) (l : ModelValue) → k < length lists → P (get_or lists k l)) → P one
-    → (k : ℕ) (l : ModelValue) → k < length (lists ++ one ∷ []) → P (get_or (lists ++ one ∷ []) k l)
+last_or_before : (P : ℕ → ModelValue → Type 0) (lists : List ModelValue) (one : ModelValue)
+    → ((k : ℕ) (l : ModelValue) → k < length lists → P k (get_or lists k l)) → P (length lists) one
+    → (k : ℕ) (l : ModelValue) → k < length (lists ++ one ∷ []) → P k (get_or (lists ++ one ∷ []) k l)
 last_or_before P [] one all is zero l below = is
 last_or_before P [] one all is (suc k) l below = absurd (omega (arith, below))
 last_or_before P (x ∷ xs) one all is zero l below = all 0 l (omega arith)
 last_or_before P (x ∷ xs) one all is (suc k) l below =
-    last_or_before P xs one (λ j d low. all (suc j) d (omega (arith, low))) is k l (omega (arith, below))
+    last_or_before (λ j. P (suc j)) xs one (λ j d low. all (suc j) d (omega (arith, low))) is k l (omega (arith, below))
 
-pub one_more_empty : (room count : ℕ) (lists : List ModelValue) (one : ModelValue) → AreEmpty room count lists → one.atoms ≡ []
-    → room ≤ one.spare → AreEmpty room (count + 1) (lists ++ one ∷ [])
-one_more_empty room count lists one are none spare = record {
+pub one_more_empty : (room : ℕ) (marks : List Mark) (count : ℕ) (lists : List ModelValue) (mark : Mark) (one : ModelValue)
+    → count < length marks → mark ≡ get_or marks count mark → AreEmpty room marks count lists → one.atoms ≡ []
+    → HasPlaces room mark.atom one → AreEmpty room marks (count + 1) (lists ++ one ∷ [])
+one_more_empty room marks count lists mark one below is are none places = record {
   same = let lengths = length-append lists (one ∷ []) in let same = are.same in omega (arith, lengths, same);
-  empty = last_or_before (λ (list : ModelValue). list.atoms ≡ []) lists one are.empty none;
-  spare = last_or_before (λ (list : ModelValue). room ≤ list.spare) lists one are.spare spare;
+  empty = last_or_before (λ _ (list : ModelValue). list.atoms ≡ []) lists one are.empty none;
+  places = λ k l m.
+      let here = is ∙ get_or_default marks count mark m below ∙ ap (λ n. get_or marks n m) (sym are.same) in
+      last_or_before (λ j list. HasPlaces room (get_or marks j m).atom list) lists one (λ j d low. are.places j d m low)
+      (subst (λ (x : Mark). HasPlaces room x.atom one) here places) k l;
 }
 
 -- ---- borrowed lists

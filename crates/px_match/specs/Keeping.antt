@@ -1,7 +1,8 @@
 -- The atoms that a mark may become, and the lists of them that a matcher keeps between sensings.
-use Rattle.std.specs.Prelude.{◌≡◌, ℕ, ◌<◌, ◌≤◌, ◌+◌, ◌==◌, ◌&&◌, Bool, true, List, [], Contains, filter, length, slice_index_or}
+use Rattle.std.specs.Prelude.{◌≡◌, ℕ, ◌<◌, ◌≤◌, ◌+◌, ◌==◌, ◌&&◌, ◌⊎◌, Bool, true, List, [], Contains, filter, length, slice_index_or}
 use Rattle.std.specs.Cmp.Lexicographic.{pointwise}
 use Rattle.px_terms.specs.AtomSets.{IsAtomSet, with_atom}
+use Rattle.px_terms.specs.Instances.{IsGround}
 use Rattle.px_terms.specs.declared.atom.Atom.{Atom}
 use Rattle.px_terms.specs.declared.term.Term.{Term}
 use Rattle.px_terms.specs.declared.term.Term.TheVariants.{Obj, Var, Any}
@@ -34,12 +35,16 @@ pub record AreMatches (marks : List Mark) (atoms : List Atom) (lists : List Mode
 abbrev pub HasCapacity : ℕ → ModelValue → Type 0
 HasCapacity room list = room ≤ list.spare + length list.atoms
 
--- the list has the atoms that the mark covers, and room for the given number
+-- there are places for this number of atoms, or for one if the mark is ground, since it covers only itself
+abbrev pub HasPlaces : ℕ → Atom → ModelValue → Type 0
+HasPlaces room mark list = HasCapacity room list ⊎ (IsGround mark × HasCapacity 1 list)
+
+-- the list has the atoms that the mark covers, and places for those that it covers of the given number
 pub record IsListOf (room : ℕ) (mark : Atom) (atoms : List Atom) (list : ModelValue) : Type 0 where
   pub same : list.atoms ≡ matches mark atoms
-  pub places : HasCapacity room list
+  pub places : HasPlaces room mark list
 
--- the list of each mark has the atoms that it covers, and there is room for the given number of atoms
+-- the list of each mark has the atoms that it covers, and there are places for the given number of atoms
 pub record AreKept (room : ℕ) (marks : List Mark) (kept : ModelValue) (lists : List ModelValue) : Type 0 where
   pub places : HasCapacity room kept
   pub same : length lists ≡ length marks
@@ -67,8 +72,9 @@ pub record ArePutIn (marks : List Mark) (atom : Atom) (old new : List ModelValue
   pub each : (k : ℕ) (l : ModelValue) (m : Mark) → k < length marks
       → IsPutIn (slice_index_or marks k m).atom atom (slice_index_or old k l) (slice_index_or new k l)
 
--- `count` lists without atoms, each with room for `room`
-pub record AreEmpty (room count : ℕ) (lists : List ModelValue) : Type 0 where
+-- lists without atoms for the first `count` marks, each with the places that it needs
+pub record AreEmpty (room : ℕ) (marks : List Mark) (count : ℕ) (lists : List ModelValue) : Type 0 where
   pub same : length lists ≡ count
   pub empty : (k : ℕ) (l : ModelValue) → k < length lists → (slice_index_or lists k l).atoms ≡ []
-  pub spare : (k : ℕ) (l : ModelValue) → k < length lists → room ≤ (slice_index_or lists k l).spare
+  pub places : (k : ℕ) (l : ModelValue) (m : Mark) → k < length lists
+      → HasPlaces room (slice_index_or marks k m).atom (slice_index_or lists k l)

@@ -1,11 +1,12 @@
 //! For each mark the atoms of the last sensing that it may become, and how a new sensing changes them.
-ghost use Rattle.std.specs.Prelude.{◌≡◌, ◌↔◌, ◌<◌, ◌≤◌, ◌+◌, ℕ, List, All, Contains, IsTrue, length, slice_index_or};
+ghost use Rattle.std.specs.Prelude.{◌≡◌, ◌↔◌, ◌<◌, ◌≤◌, ◌+◌, ℕ, true, List, All, Contains, IsTrue, length, slice_index_or};
 ghost use Rattle.std.specs.Cmp.Lexicographic.{pointwise};
 ghost use Rattle.px_terms.specs.Instances.{IsGround};
 ghost use Rattle.px_terms.specs.Order.{atom_eq, term_eq};
 ghost use Rattle.px_terms.specs.AtomSets.{IsAtomSet, with_atom};
 ghost use Rattle.px_ops.specs.Models.{without_atom};
 ghost use Rattle.px_ops.specs.ModelValue.{ModelValue};
+ghost use Rattle.px_table.specs.declared.mark.Mark.{Mark as DeclaredMark};
 ghost use Rattle.px_match.specs.Keeping.{AreKept, AreMatches, ArePutIn, AreTakenOut, IsPutIn, IsTakenOut, covers as spec_covers, covers_term as spec_covers_term};
 
 use px_ops::Model;
@@ -56,7 +57,7 @@ fn take_one(list: &mut Model, mark: &Atom, atom: &Atom)
 /// Puts a new atom into the list, if the mark covers it.
 fn put_one(list: &mut Model, mark: &Atom, atom: &Atom)
     requires is_ground { IsGround atom.now }
-    requires room { 1 ≤ list.old.spare }
+    requires room { spec_covers mark.now atom.now ≡ true → 1 ≤ list.old.spare }
     ensures { IsPutIn mark.now atom.now list.old list.new }
 {
     if covers(mark, atom) {
@@ -78,7 +79,8 @@ fn take_from(lists: &mut [Model], marks: &[Mark], atom: &Atom)
 fn put_into(lists: &mut [Model], marks: &[Mark], atom: &Atom)
     requires same { length lists.old ≡ length marks.now }
     requires is_ground { IsGround atom.now }
-    requires room { (k : ℕ) (l : ModelValue) → k < length lists.old → 1 ≤ (slice_index_or lists.old k l).spare }
+    requires room { (k : ℕ) (l : ModelValue) (m : DeclaredMark) → k < length lists.old
+        → spec_covers (slice_index_or marks.now k m).atom atom.now ≡ true → 1 ≤ (slice_index_or lists.old k l).spare }
     ensures { ArePutIn marks.now atom.now lists.old lists.new }
 {
     for (at, mark) in marks.iter().enumerate() {
@@ -138,10 +140,10 @@ fn take_gone(kept: &mut Model, lists: &mut [Model], marks: &[Mark], new: &Model)
     let mut at = 0;
     let mut place = 0;
     while at < kept.atoms().len() {
-        let atom = kept.atoms()[at];
-        if meets(new, &atom, &mut place) {
+        if meets(new, &kept.atoms()[at], &mut place) {
             at += 1;
         } else {
+            let atom = kept.atoms()[at];
             kept.remove(&atom);
             take_from(lists, marks, &atom);
         }

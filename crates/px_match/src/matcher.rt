@@ -2,7 +2,7 @@
 ghost use Rattle.std.specs.Prelude.{◌≡◌, ◌⊎◌, ◌↔◌, ◌≤◌, ◌<◌, ◌+◌, ◌≢◌, ℕ, List, [], All, AllPairs, Option, None, length, IfOk, IfSome, IsErrOf, OnOk, Some};
 ghost use Rattle.px_terms.specs.Validity.{IsValid};
 ghost use Rattle.px_table.specs.Tables.{IsTable};
-ghost use Rattle.px_match.specs.Keeping.{AreEmpty};
+ghost use Rattle.px_match.specs.Keeping.{AreEmpty, HasPlaces};
 ghost use Rattle.px_match.specs.MatcherValue.{kernel_with};
 ghost use Rattle.px_match.specs.Matching.{IsHighest, NoKernelFits, KernelInstance, first_bad as spec_first_bad};
 
@@ -13,8 +13,8 @@ use crate::known::{goal_number, keep_found};
 use crate::match_err::MatchErr;
 use px_base::{NoMemory, Sequence};
 use px_ops::Model;
-use px_table::Table;
-use px_terms::Problem;
+use px_table::{Mark, Table};
+use px_terms::{Atom, Problem, is_ground};
 use std::alloc::Global;
 
 /// Finds the highest kernel whose instance holds.
@@ -91,14 +91,25 @@ fn model_with_room(alloc: Global, room: usize) -> Result<Model, NoMemory>
     Ok(model)
 }
 
-/// Returns for each mark a list of no atoms, with room for `room` of them.
+/// Returns a list of no atoms for the mark, with room for what it becomes: for `room` atoms, or for one if it has no parameters.
+fn list_of(alloc: Global, mark: &Atom, room: usize) -> Result<Model, NoMemory>
+    ensures empty { IfOk result (λ list. list.atoms ≡ []) }
+    ensures places { IfOk result (λ list. HasPlaces room mark.now list) }
+{
+    if is_ground(mark) {
+        return model_with_room(alloc, 1);
+    }
+    model_with_room(alloc, room)
+}
+
+/// Returns for each mark a list of no atoms, with room for what it becomes.
 #[tactic(auto, using(crate::proofs::Renewed::none_empty, crate::proofs::Renewed::one_more_empty))]
-fn lists_of(alloc: Global, count: usize, room: usize) -> Result<Vec<Model>, NoMemory>
-    ensures { IfOk result (λ lists. AreEmpty room count lists.items) }
+fn lists_of(alloc: Global, marks: &[Mark], room: usize) -> Result<Vec<Model>, NoMemory>
+    ensures { IfOk result (λ lists. AreEmpty room marks.now (length marks.now) lists.items) }
 {
     let mut lists = Vec::new(alloc);
-    for _mark in 0..count {
-        lists.push(model_with_room(alloc, room)?)?;
+    for mark in marks {
+        lists.push(list_of(alloc, &mark.atom, room)?)?;
     }
     Ok(lists)
 }
@@ -135,7 +146,7 @@ impl<'a> Matcher<'a> {
         let mut bound = Vec::new(alloc);
         bound.extend_from_slice(bind)?;
         let sensed = model_with_room(alloc, room)?;
-        let lists = lists_of(alloc, table.marks.len(), room)?;
+        let lists = lists_of(alloc, table.marks.as_slice(), room)?;
         let hints = hints_of(alloc, problem, table)?;
         let cells = vec![in alloc; false; params * params]?;
         let work = vec![in alloc; 0u32; params]?;

@@ -18,24 +18,24 @@ loop-at-preserved-then-meets c = (
 
 pub loop-at-smaller : goal.loop-at-smaller
 loop-at-smaller c =
-    left_less c.loop-at.kept.atoms c.atoms-in-loop-at.result.now c.remove.new.self.atoms c.index-atoms-at.result c.loop-at.at
-    c.atoms-in-loop-at.ensures.model.ascending c.atoms-in-loop-at.ensures.value
-    (omega (arith, c.loop-at-test.true, ap length c.atoms.ensures.value, ap length c.atoms-in-loop-at.ensures.value)) c.index-atoms-at.is
+    left_less c.loop-at.kept.atoms c.atoms-else-meets.result.now c.remove.new.self.atoms c.index-atoms-at-else-meets.result c.loop-at.at
+    c.atoms-else-meets.ensures.model.ascending c.atoms-else-meets.ensures.value
+    (omega (arith, c.loop-at-test.true, ap length c.atoms.ensures.value, ap length c.atoms-else-meets.ensures.value)) c.index-atoms-at-else-meets.is
     c.remove.ensures.atoms
 
 pub loop-at-preserved : goal.loop-at-preserved
 loop-at-preserved c = (
   c.take_from.ensures.same ∙ c.loop-at.invariant.0,
-  found_taken c.args.new.now.atoms c.loop-at.kept.atoms c.atoms-in-loop-at.result.now c.remove.new.self.atoms c.index-atoms-at.result
-      c.loop-at.at c.atoms-in-loop-at.ensures.model.ascending
-      c.atoms-in-loop-at.ensures.value (omega (
+  found_taken c.args.new.now.atoms c.loop-at.kept.atoms c.atoms-else-meets.result.now c.remove.new.self.atoms c.index-atoms-at-else-meets.result
+      c.loop-at.at c.atoms-else-meets.ensures.model.ascending
+      c.atoms-else-meets.ensures.value (omega (
         arith,
         c.loop-at-test.true,
         ap length c.atoms.ensures.value,
-        ap length c.atoms-in-loop-at.ensures.value,
-      )) c.index-atoms-at.is c.remove.ensures.atoms c.loop-at.invariant.1,
-  λ room are. kept_taken room c.args.marks.now c.index-atoms-at.result c.loop-at.kept c.remove.new.self c.loop-at.lists
-      c.take_from.new.lists c.remove.result c.atoms-in-loop-at.ensures.model.ascending
+        ap length c.atoms-else-meets.ensures.value,
+      )) c.index-atoms-at-else-meets.is c.remove.ensures.atoms c.loop-at.invariant.1,
+  λ room are. kept_taken room c.args.marks.now c.index-atoms-at-else-meets.result c.loop-at.kept c.remove.new.self c.loop-at.lists
+      c.take_from.new.lists c.remove.result c.atoms-else-meets.ensures.model.ascending
       c.remove.ensures.atoms c.remove.ensures.was_there c.remove.ensures.spare_kept c.remove.ensures.spare_won c.take_from.ensures
       (c.loop-at.invariant.2 room are),
 )

@@ -1,7 +1,7 @@
 use Rattle.std.proofs.Common.{sym, ap, ◌∙◌}
 use Rattle.px_ops.specs.Models.{without_atom}
 use Rattle.px_match.specs.Keeping.{covers}
-use Rattle.px_match.proofs.Fewer.{room_taken}
+use Rattle.px_match.proofs.Fewer.{places_taken}
 use Rattle.px_match.proofs.Kept.{matches_set, taken-covered, taken-other}
 use Rattle.px_match.proofs.keeping.take_one.Goals as goal
 
@@ -12,7 +12,7 @@ returns-then-covers c = record {
         c.remove.ensures.atoms ∙ ap (without_atom c.args.atom.now) is.same
         ∙ sym (taken-covered (covers c.args.mark.now) c.args.atom.now atoms set);
     places =
-        room_taken room c.args.atom.now c.args.list.now c.remove.new.self c.remove.result
+        places_taken room c.args.mark.now c.args.atom.now c.args.list.now c.remove.new.self c.remove.result
         (matches_set c.args.mark.now atoms c.args.list.now.atoms set is.same)
         c.remove.ensures.atoms c.remove.ensures.was_there c.remove.ensures.spare_kept c.remove.ensures.spare_won is.places;
   };
