@@ -233,11 +233,11 @@ kept_fewer few room marks kept lists less are = record {
   same = are.same;
   each =
       λ k l m below.
-          let one = are.each k l m below in
-          record {
-            same = one.same;
-            places = elim one.places [ inl places ↦ inl (omega (arith, places, less)) | inr plain ↦ inr plain ];
-          };
+      let one = are.each k l m below in
+      record {
+        same = one.same;
+        places = elim one.places [ inl places ↦ inl (omega (arith, places, less)) | inr plain ↦ inr plain ];
+      };
 }
 
 -- ---- putting what came
