@@ -6,7 +6,7 @@ import sources
 from definitions import CRATES
 
 USE = re.compile(r'^use (px_\w+)::(?:\{([^}]*)\}|(\w+));', re.M)
-START = re.compile(r'( *)(?:pub )?fn \w+')
+START = re.compile(r'( *)(?:pub(?:\(\w+\))? )?fn \w+')
 
 
 def imports(text):
@@ -60,7 +60,8 @@ def called_of(crate, names, lines):
 def rank(one):
     """The best first: code before tests, with a contract, of at most thirty lines, with two calls or more, and short."""
     file, lines, called = one
-    return file.name == 'tests.rt', not any('ensures' in line for line in lines), len(lines) > 30, -min(len(called), 2), len(lines), file
+    in_tests = file.name == 'tests.rt' or file.parent.parent.name.endswith('_tests')
+    return in_tests, not any('ensures' in line for line in lines), len(lines) > 30, -min(len(called), 2), len(lines), file
 
 
 def caller(crate):

@@ -15,6 +15,7 @@ use px_ops::schema_of;
 use px_table::{Mark, Table, instance_with, proper_prefix};
 use px_terms::{OpInst, Problem, Term, fits};
 
+// Alike: `is_allowed`, `are_allowed`, `all_fit` and `steps_fit` of `px_table`, which look for the parameters' uses anew each time.
 /// Returns whether the parameter may have this number.
 fn is_allowed(prefix: &Prefix, parameter: usize, number: u32) -> bool
     requires prefix { IsMacroPrefix prefix.now }
@@ -42,7 +43,7 @@ fn are_allowed(prefix: &Prefix, sigma: &[u32]) -> bool
     true
 }
 
-/// Returns whether each of the steps fits, with the objects for the parameters. Alike: `all_fit` of `px_table`.
+/// Returns whether each of the steps fits, with the objects for the parameters.
 fn all_fit(problem: &Problem, sigma: &[u32], steps: &[OpInst]) -> bool
     requires variables { All (λ step. All (IsVariableBelow (length sigma.now)) step.args) steps.now }
     requires instances { All (λ step. IsInstanceOf problem.now (instance_under sigma.now step)) steps.now }

@@ -153,7 +153,8 @@ fn push_merged(
     }
 }
 
-/// Returns the terms with the objects of each of the choices besides their own, but for choices that fit no objects that they have.
+/// Returns the terms with the objects of each of the choices besides their own, but for choices that fit no objects that they have. No clause
+/// says which ones.
 ///
 /// # Errors
 /// `NoMemory` if there isn't enough memory.

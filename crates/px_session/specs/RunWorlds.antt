@@ -31,22 +31,27 @@ TakeSame old new = AdmitSame (Takes old) (Takes new)
 
 -- ---- the world of a run
 
+-- what holds in it
 abbrev pub run_world_atoms : RunWorld → List Atom
 run_world_atoms (Atoms world) = world.atoms
 run_world_atoms (Rooms building) = rendering building
 
+-- the problem whose operators act in it
 abbrev pub run_world_rules : RunWorld → Problem
 run_world_rules (Atoms world) = world.rules
 run_world_rules (Rooms building) = building_rules building
 
+-- how many further atoms it has room for
 abbrev pub run_world_spare : RunWorld → ℕ
 run_world_spare (Atoms world) = world.spare
 run_world_spare (Rooms building) = u64_max
 
+-- its building, if it is one
 abbrev pub building_of : RunWorld → Option RoomState
 building_of (Atoms world) = None
 building_of (Rooms building) = Some building
 
+-- it takes the edit
 abbrev pub RunWorldTakes : RunWorld → Edit → Type 0
 RunWorldTakes place edit = Takes (building_of place) edit
 
