@@ -1,4 +1,4 @@
-"""Finds, for each crate, a function of a crate above that calls it: a caller that is proved, to be printed on the crate's page."""
+"""Finds, for each crate, a function of a crate above that calls it, for the crate's page: one that is proved, or else one of a test."""
 import functools
 import re
 
@@ -57,11 +57,15 @@ def called_of(crate, names, lines):
     return calls & public
 
 
+def is_of_tests(file):
+    """Whether the file holds tests, of which less is proved: they may stop at an assertion."""
+    return file.name == 'tests.rt' or file.parent.parent.name.endswith('_tests')
+
+
 def rank(one):
     """The best first: code before tests, with a contract, of at most thirty lines, with two calls or more, and short."""
     file, lines, called = one
-    in_tests = file.name == 'tests.rt' or file.parent.parent.name.endswith('_tests')
-    return in_tests, not any('ensures' in line for line in lines), len(lines) > 30, -min(len(called), 2), len(lines), file
+    return is_of_tests(file), not any('ensures' in line for line in lines), len(lines) > 30, -min(len(called), 2), len(lines), file
 
 
 def caller(crate):
@@ -76,4 +80,5 @@ def page(crate):
     file, lines, called = best
     name = next(re.search(r'fn (\w+)', line)[1] for line in lines if START.match(line))
     calls = ', '.join(f'`{one}`' for one in sorted(called))
-    return [f'A caller of {calls} that is proved, [`{name}`](../{file.relative_to(CRATES.parent)}):', '', '```rust', *lines, '```', '']
+    said = f'A caller of {calls} in a test' if is_of_tests(file) else f'A caller of {calls} that is proved'
+    return [f'{said}, [`{name}`](../{file.relative_to(CRATES.parent)}):', '', '```rust', *lines, '```', '']
