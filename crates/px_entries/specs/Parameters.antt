@@ -38,6 +38,11 @@ merged_term limit (Var v) (Var w) = Some (Var v)
 merged_term limit (Var v) Any = Some (Var v)
 merged_term limit Any other = Some Any
 
+-- no object of the problem fits both terms at the place
+abbrev pub IsClash : ℕ → List Term → List Term → ℕ → Type 0
+IsClash limit terms others place =
+    (t o : Term) → slice_get terms place ≡ Some t → slice_get others place ≡ Some o → merged_term limit t o ≡ None
+
 -- with these objects the add is the atom, and none of the later steps deletes it
 abbrev pub IsLeftAdd : Problem → List OpInst → Atom → List ℕ → Atom → Type 0
 IsLeftAdd problem later wanted sigma add = (substitute_atom (object_terms sigma) add ≡ wanted)

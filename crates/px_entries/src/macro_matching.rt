@@ -1,5 +1,5 @@
-//! Matches of what the first steps of a table add with wanted atoms. A match has an object for each parameter that the wanted atom
-//! determines. An add that a later step deletes whatever the objects are is passed over; where a step deletes it only with some objects,
+//! Matches of what the first steps of a table add with wanted atoms. A match has objects for parameters that the wanted atom
+//! determines; no clause says for how many. An add that a later step deletes whatever the objects are is passed over; where a step deletes it only with some objects,
 //! each entry is asked by itself.
 ghost use Rattle.std.specs.Prelude.{◌≡◌, ◌<◌, ℕ, false, true, List, [], length, map, All, IsTrue, IfOk, OnOk};
 ghost use Rattle.std.specs.Cmp.Lexicographic.{pointwise};

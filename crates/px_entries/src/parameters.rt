@@ -5,7 +5,7 @@ ghost use Rattle.px_terms.specs.declared.term.Term.{Term as TermValue};
 ghost use Rattle.px_terms.specs.declared.term.Term.TheVariants.{Var};
 ghost use Rattle.px_gaps.specs.Bindings.{ExtendsTerms, IsBinding, first_values};
 ghost use Rattle.px_gaps.specs.Closings.{OneOf};
-ghost use Rattle.px_entries.specs.Parameters.{AreFirstTerms, FitsTerms, IsFirstTerm, Matches, merged_term as merged_by};
+ghost use Rattle.px_entries.specs.Parameters.{AreFirstTerms, FitsTerms, IsClash, IsFirstTerm, Matches, merged_term as merged_by};
 
 use px_base::push;
 use px_gaps::first_variable;
@@ -81,16 +81,18 @@ pub fn merged_term(limit: u32, term: Term, other: Term) -> Option<Term>
 fn clashes_at(limit: u32, terms: &[Term], others: &[Term], place: usize) -> bool
     requires long { length others.now ≡ length terms.now }
     requires within { place < length terms.now }
-    ensures { IsTrue result → (sigma : List ℕ) → ExtendsTerms limit terms.now sigma → ¬ FitsTerms others.now sigma }
+    ensures clash { IsTrue result → IsClash limit terms.now others.now place }
+    ensures apart { IsTrue result → (sigma : List ℕ) → ExtendsTerms limit terms.now sigma → ¬ FitsTerms others.now sigma }
 {
     merged_term(limit, terms[place], others[place]).is_none()
 }
 
 /// Returns a place at which the terms and the others clash, so that no objects of the problem fit both. `None` alone doesn't say that some
-/// do. The place `first`, where there is one, is tried before all others. Does not allocate.
+/// do. The place `first`, where there is one, is tried before all others, as a hint. Does not allocate.
 pub fn clash(limit: u32, terms: &[Term], others: &[Term], first: usize) -> Option<usize>
     requires { length others.now ≡ length terms.now }
     ensures within { IfSome result (λ place. place < length terms.now) }
+    ensures clash { IfSome result (IsClash limit terms.now others.now) }
     ensures apart { IfSome result (λ place. (sigma : List ℕ) → ExtendsTerms limit terms.now sigma → ¬ FitsTerms others.now sigma) }
 {
     if first < terms.len() && clashes_at(limit, terms, others, first) {

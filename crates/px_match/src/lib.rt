@@ -4,7 +4,8 @@
 //! # Calling it
 //!
 //! - [`Matcher::reserve`] makes a matcher for a table of a problem, under a binding, for models of at most `room` atoms. It
-//!   takes all the memory that the matcher will need. It asks for a table of a valid problem (`check_table` of `px_table`) and for a
+//!   takes all the memory that the matcher will need: for a mark without parameters a list with room for one atom, for each other mark one
+//!   with room for `room` atoms. It asks for a table of a valid problem (`check_table` of `px_table`) and for a
 //!   binding that binds no parameter twice and has objects of the problem. `BadParam` comes exactly where the table does not have
 //!   some bound parameter, with the first such one.
 //! - A binding is a list of pairs, each a parameter, counted from 1, and its object. `first_bad` in `specs/Matching` is the

@@ -3,7 +3,7 @@
 //! # Calling it
 //!
 //! - [`Reply`] is what a command answers, and [`reply_text`] gives its text: for `Certified` the certificate's bytes, and for every other
-//!   reply lines in UTF-8. The text is `reply_text` of `specs/Replies.antt`, which reads as a table: for each reply its words, then its
+//!   reply lines of text. The text is `reply_text` of `specs/Replies.antt`, which reads as a table: for each reply its words, then its
 //!   list of lines. Each line ends with a line feed; an indented line begins with two spaces; numbers are decimal; words such as `steps`
 //!   and `moves` never change with the number before them. The rows of a shown table are in `specs/Rows.antt`, the block of a saved one in
 //!   `specs/Blocks.antt`, the turns of a run or a pursuit ([`Turn`]) in `specs/Turns.antt`, how a pursuit ends ([`PursueEnd`]) in

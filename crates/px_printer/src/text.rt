@@ -19,7 +19,7 @@ use px_terms::{Atom, OpInst};
 use std::alloc::{AllocError, Global};
 use std::fmt::Write;
 
-/// Returns the text of a reply, in UTF-8.
+/// Returns the text of a reply: its bytes.
 ///
 /// # Errors
 /// `NoMemory` where there is no memory for the text.

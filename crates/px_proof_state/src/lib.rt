@@ -8,8 +8,9 @@
 //!   ancestor, or the first literal of an axiom, from a number on, that can be made equal to the literal of the place. They return
 //!   whether there is one; if not, nothing has changed. `TriesRange` in `specs/Ranges.antt` is what they say: what
 //!   closes the place, and that nothing before it ever does, whatever objects the variables stand for.
-//!   Facts are found by binary search ([`places_of`]): only those with the predicate and the leading objects of the literal are looked at,
-//!   and literals that differ in two objects at one place, in their signs or in their predicates are passed over before anything is bound.
+//!   The first fact with the predicate and the leading objects of the literal is found by binary search, and those after it one by one
+//!   ([`places_of`] finds where they begin and end, for other crates); literals that differ in two objects at one place, in their signs or
+//!   in their predicates are passed over before anything is bound.
 //!   [`close_by_gap`] closes the place by nothing.
 //! - `retract_last` opens again the place that was closed last: bindings and places are cut at the marks of its choice.
 //! - After `NoMemory` a state is of no further use, and no clause says what it holds: an attempt that ran out of memory

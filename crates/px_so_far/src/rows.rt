@@ -98,7 +98,7 @@ impl SoFar {
         ensures { IfOk result (λ made. map derivation_of (reverse made.items)
             ≡ proofs_read (declared_of self.now) (map part_view parts.now)) }
     {
-        let mut made = Vec::new(self.alloc);
+        let mut made = Vec::with_capacity(self.alloc, parts.len())?;
         for done in 0..parts.len() {
             self.add_proof(&mut made, &parts[parts.len() - 1 - done])?;
         }

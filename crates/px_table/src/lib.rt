@@ -14,16 +14,16 @@
 //!   `specs/Supports.antt`). The call also says that a support carries its steps, whatever becomes of the memory.
 //! - [`check_table`] says whether a table is a triangle table for the problem (`IsTable` of `specs/Tables.antt`). Where it says yes,
 //!   each proper instance of each kernel carries the steps that are left to the goal (`KernelsCarry` of `specs/Kernels.antt`).
-//!   [`rows_make_table`] says this of parts without marks, in time as their size, where `check_table` compares the
-//!   marks of a row with each other.
+//!   [`rows_make_table`] says this of parts without marks. No clause says how long they take: measured, `rows_make_table` takes time as
+//!   the size of its parts, and `check_table` compares the marks of a row with each other.
 //! - A table is well-sorted (`IsWellSortedTable` of `specs/WellSorted.antt`) where each parameter has a sort of the problem or none,
 //!   each object in a step fits its place, and each parameter stands in steps only at places that have its sort or none. Under
 //!   objects that fit the parameters ([`fit_parameters`]) its steps then fit. [`sorts_by_places`] finds the sorts that parameters
 //!   have by the places of some steps. That each parameter has the sort of the sorted places of the steps at which it stands, or 0
 //!   where there is none, is said as `HasSortsOfPlaces`; of a well-sorted table it says the same (`WellSortedLaws`). Kernels,
 //!   properness between steps, and what carries are whatever the sorts.
-//! - [`marks`] makes the marks of rows, also of rows over parameters, for a caller that makes a table in another way, in time as the
-//!   leaves.
+//! - [`marks`] makes the marks of rows, also of rows over parameters, for a caller that makes a table in another way (measured: in time
+//!   as the leaves).
 //! - [`kernel`] lists what has to hold so that the steps from one on lead to the goal: the atoms of the marks whose row
 //!   is at least `i` and whose column is below `i`. Any `i` is allowed; kernel 1 is column 0, and the one after the last
 //!   step is the goal's row.

@@ -53,8 +53,8 @@ fn own_rows_make_table(problem: &Problem, table: &Table) -> bool
     )
 }
 
-/// Returns whether these parameters, steps, goal and rows, with the marks of the rows, are a table for the problem (`check_table`). Takes
-/// time as the size of its parts, where `check_table` compares the marks of a row with each other, and does not allocate.
+/// Returns whether these parameters, steps, goal and rows, with the marks of the rows, are a table for the problem (`check_table`). It
+/// asks of no marks whether they are those of the rows, and does not allocate.
 pub fn rows_make_table(
     problem: &Problem,
     params: u32,

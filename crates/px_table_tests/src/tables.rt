@@ -51,7 +51,7 @@ fn nodes_and_moves_are_copied(rt: HostRuntime) -> Result<(), Fail> {
     Ok(())
 }
 
-/// Marks are made, and rows tested, in time as their leaves.
+/// Marks are made of a row with very many leaves, and the row is tested.
 #[test]
 fn many_marks_in_a_row(rt: HostRuntime) -> Result<(), Fail> {
     let alloc = rt.alloc();
