@@ -21,5 +21,6 @@ pub use Rattle.std.specs.declared.cmp.Ordering.{Ordering}
 pub use Rattle.std.specs.declared.cmp.Ordering.TheVariants.{Equal, Greater, Less}
 pub use Rattle.px_names.proofs.ListLemmas.{list_any-map, position-map}
 pub use Rattle.px_lines.specs.declared.items.WrittenBinding.{WrittenBinding}
-pub use Rattle.px_script.proofs.Faultless.{IsRight, no-cause, only-limits}
+pub use Rattle.px_script.specs.Faultless.{IsRight}
+pub use Rattle.px_script.proofs.Faultless.{no-cause, only-limits}
 pub use Rattle.px_script.proofs.Lists.{by_test, some-position, list_any_flat, repeats-cons}

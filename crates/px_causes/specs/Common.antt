@@ -6,7 +6,7 @@ pub use Rattle.px_causes.specs.FaultViews.{limit_number, refusal_of}
 pub use Rattle.px_so_far.specs.SoFarViews.{declared_of}
 pub use Rattle.px_lines.specs.ItemViews.{argument_view, binding_view, room_edit_view, signed_view, text_of}
 pub use Rattle.px_statements.specs.StatementViews.{statement_view}
-pub use Rattle.px_script.proofs.States.{AreInRange}
+pub use Rattle.px_script.specs.States.{AreInRange}
 pub use Rattle.px_script.specs.Causes.{has_long_name, has_robot, has_two_domains, has_unknown_name, has_wrong_arity, is_known_argument, is_out_of_order, is_robot, is_unbound, lacks_robot, may_stand, repeats, takes, varies, varies_too_early, wanted_by}
 pub use Rattle.px_script.specs.Declarations.{Declared, block_here, number_in, operator_here, variable_names_of}
 pub use Rattle.px_script.specs.Faults.{binds_twice, disturbance_limits, has_duplicate, outside, over, own_limits, coded}

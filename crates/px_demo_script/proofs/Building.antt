@@ -11,7 +11,7 @@ use Rattle.px_script.specs.Declarations.{nothing_declared}
 use Rattle.px_script.proofs.Common.{◌≡◌, ℕ, zero, suc, ◌+◌, ◌<◌, ◌≤◌, ◌==◌, Bool, true, ◌&&◌, List, [], ◌∷◌, ◌++◌, map, refl, subst, inl, inr, arith, and_parts, cases_lt, codes, decimal, eqb-true, has_name, lines_of, number_in, range_with_len, robot_name, PassAll, stage_now}
 use Rattle.px_script.proofs.Law.{LinesSay, lines-say, lines_read, passes, scan, scan_by}
 use Rattle.px_script.proofs.Lists.{number-new}
-use Rattle.px_script.proofs.Parsing.{all_within, items_after}
+use Rattle.px_script.specs.Parsing.{all_within, items_after}
 use Rattle.px_demo_script.specs.Value.{demo_objects, demo_things, numbered}
 use Rattle.px_demo_script.proofs.Commands.{Building, HasRoom, underway}
 use Rattle.px_demo_script.proofs.Targets.{IsRoom}

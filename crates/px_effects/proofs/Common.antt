@@ -6,7 +6,7 @@ pub use Rattle.px_effects.specs.FreshNames.{AreOfKind, AreOfKinds, IsFresh, IsNa
 pub use Rattle.px_so_far.specs.Readable.{AreReadable}
 pub use Rattle.px_so_far.specs.SoFarViews.{declared_of, with_more, leaves}
 pub use Rattle.px_lines.specs.ItemViews.{signed_view, text_of, argument_view}
-pub use Rattle.px_script.proofs.States.{AreInRange, OperatorsInRange}
+pub use Rattle.px_script.specs.States.{AreInRange, OperatorsInRange}
 pub use Rattle.px_script.specs.Declarations.{with_command, with_names}
 pub use Rattle.px_script.specs.declared.kinds.Named.TheVariants.{Plan as a_plan, Result as a_result}
 pub use Rattle.std.specs.String.{string_bytes}
@@ -26,7 +26,8 @@ pub use Rattle.px_names.specs.declared.kind.Kind.{Kind}
 pub use Rattle.px_so_far.specs.declared.so_far.SoFar.{SoFar}
 pub use Rattle.px_lines.specs.declared.items.SignedAtom.{SignedAtom as WrittenAtom}
 pub use Rattle.px_script.proofs.Atoms.{atoms-right, atoms-with, has_other_arity}
-pub use Rattle.px_script.proofs.Faultless.{IsFaultless, IsRight, stands-right, at-top}
+pub use Rattle.px_script.specs.Faultless.{IsFaultless, IsRight}
+pub use Rattle.px_script.proofs.Faultless.{stands-right, at-top}
 pub use Rattle.px_script.proofs.Forms.{well-formed}
 pub use Rattle.px_script.proofs.Kept.{line-kept}
 pub use Rattle.px_script.proofs.KeptLines.{unmap, no-parameters}

@@ -1,6 +1,6 @@
 -- The names that a line without a fault declares are fresh: they are names, no two of a kind are equal, and there is room for them.
 use Rattle.px_script.specs.RangeLaws.{version-most}
-use Rattle.px_script.proofs.States.{from_blocks}
+use Rattle.px_script.specs.States.{from_blocks}
 use Rattle.px_effects.proofs.Common.{◌≡◌, ◌≤◌, ℕ, true, List, [], ◌∷◌, ◌++◌, map, length, refl, sym, ap, ◌∙◌, arith, chars, all_scalars, and_parts, get_or-append_seam, length-append, NameLists, Lexeme, name, Lexes, Statement, line_of, is_formed, Declared, well-formed, line-kept, IsFaultless, AreInRange, AreOfKinds, IsFresh, IsNameLexeme, leaves, text_of, Bor, AllByRecursion, IsName, is_name, get_or_append_left, chars-encodes, IsWelcome, names_in, Kind, IsLexeme}
 
 -- ---- the names in the lexemes of a line are names

@@ -2,7 +2,7 @@
 use Rattle.px_effects.proofs.Common.{◌≡◌, ℕ, ◌≤◌, Bool, true, false, List, [], ◌∷◌, map, length, refl, sym, ap, ◌∙◌, subst, arith, All, Option, None, Some, option_map, flat_map, append-nil, length-map, IfSome, Declared, OpenBlock, line_of, IsRight, AreInRange, argument_view, signed_view, SignedAtom, SoFar, Atom, atom_of, declared_of, leaves}
 use Rattle.px_terms.specs.Limits.{most_arguments}
 use Rattle.px_script.proofs.Common.{All-nil, All-cons, All-head, All-tail}
-use Rattle.px_script.proofs.States.{IsBlockInRange}
+use Rattle.px_script.specs.States.{IsBlockInRange}
 use Rattle.px_script.specs.Declarations.{goal_variables, table_variables, BlockKind, WrittenTable, after_goal, change_table, of_operator, of_building, of_table_steps, of_table_rows, table_parameters, table_parameters_here, operator_here}
 use Rattle.px_script.specs.Items.{atoms_of_part}
 use Rattle.px_script.specs.declared.limits.TheConstants.{LAST_NUMBER as last_number}

@@ -7,7 +7,7 @@ ghost use Rattle.px_terms.specs.AtomSets.{atom_set, with_atom, IsAtomSet};
 ghost use Rattle.px_terms.specs.Clauses.{IsClause};
 ghost use Rattle.px_terms.specs.Instances.{IsGround};
 ghost use Rattle.px_script.specs.Statements as spec;
-ghost use Rattle.px_script.proofs.Faultless.{IsFaultless, IsRight};
+ghost use Rattle.px_script.specs.Faultless.{IsFaultless, IsRight};
 ghost use Rattle.px_effects.specs.Common.{AllByRecursion, AreOfKind, AreOfKinds, IsFresh, IsNameLexeme, spelling, with_name, atom_of, clause_of, variable_names_of, is_formed, line_of, AreInRange, AreReadable, is_fact, declared_of, leaves, with_more, signed_view, statement_view, text_of};
 
 use crate::blocks::{

@@ -18,7 +18,7 @@ pub use Rattle.px_lines.specs.Tokens.{Follow, Follows, ReadsFirst, IsLexed, IsNe
 pub use Rattle.px_script.proofs.Forms.{ReadsBack, ReadsSpelled, atom-sound, atoms-back, binding-sound, bindings-back, pair-sound, pairs-back, room-edit-sound, room-edits-back, parts-back, part-sound}
 pub use Rattle.px_script.proofs.Lexing.{found-begins, Begins-not-ignored, Begins-same, Begins-shorter, after-is, begins-found, digit-range, digits-all, prefix-all, prefix-is, ignored-scanned, scanned-ignored, starts-continues}
 pub use Rattle.px_script.proofs.Lists.{by_test}
-unfoldable pub use Rattle.px_script.proofs.Parsing.{all_within, items_after}
-pub use Rattle.px_script.proofs.Scanning.{prefix_while, after_while, bad, first, found, ignored, stops}
+unfoldable pub use Rattle.px_script.specs.Parsing.{all_within, items_after}
+pub use Rattle.px_script.specs.Scanning.{prefix_while, after_while, bad, first, found, ignored, stops}
 pub use Rattle.px_script.specs.Items.{parameter_name}
 pub use Rattle.px_script.specs.Lexemes.{Lexes, Begins, sign, number_value}

@@ -1,7 +1,7 @@
 -- The line in its form that a word and a text are.
 use Rattle.px_lines.proofs.Common.{◌≡◌, Bool, true, false, List, ◌∷◌, ℕ, refl, ap, ◌∙◌, Option, None, Some, option_and_then, if◌then◌else◌, Lexeme, Lexes, chars, IsLexed, if_whole, is_whole, lexemes_in}
 use Rattle.px_lines.proofs.Scans.{lexed-same, whole-lexed}
-use Rattle.px_script.proofs.Rows.{formed_line, formed_only, line_at}
+use Rattle.px_script.specs.Rows.{formed_line, formed_only, line_at}
 use Rattle.px_script.specs.Declarations.{Declared, has_building}
 use Rattle.px_script.specs.Forms.{is_formed}
 use Rattle.px_script.specs.Lexemes.{name}

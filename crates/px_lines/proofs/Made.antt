@@ -7,9 +7,9 @@ use Rattle.px_script.specs.declared.kinds.One.TheVariants as one
 use Rattle.px_script.specs.declared.kinds.Last.{Last}
 use Rattle.px_script.specs.declared.kinds.Last.TheVariants as last
 use Rattle.px_script.proofs.Forms.{there, then-there, map-there, if-there}
-use Rattle.px_script.proofs.Parsing.{all_of, argument_of, at_end, atom_at, binding_at, items_at, names_at, names_of, numbers_of, pair_at, part_at, room_edit_at, which}
+use Rattle.px_script.specs.Parsing.{all_of, argument_of, at_end, atom_at, binding_at, items_at, names_at, names_of, numbers_of, pair_at, part_at, room_edit_at, which}
 use Rattle.px_script.proofs.ReadRows.{IsLineOf, formed-sound, parse-complete, row-word}
-use Rattle.px_script.proofs.Rows.{Row, Entry, chosen, disturb_row, entries, entry_among, entry_of, filled, formed_line, formed_only, last_at, line_at, line_by, make_disturb, one_of, ones_at, parse, row_items, statement_of}
+use Rattle.px_script.specs.Rows.{Row, Entry, chosen, disturb_row, entries, entry_among, entry_of, filled, formed_line, formed_only, last_at, line_at, line_by, make_disturb, one_of, ones_at, parse, row_items, statement_of}
 
 -- whatever tokens of these kinds say, P holds of the items
 abbrev EachOnes : List One → (List Item → Type 0) → Type 0

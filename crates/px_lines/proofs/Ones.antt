@@ -3,7 +3,7 @@ use Rattle.std.proofs.lemmas.List.{drop_more}
 use Rattle.px_lines.proofs.Common.{◌≡◌, ℕ, ◌+◌, ◌<◌, ◌≤◌, List, [], ◌∷◌, ◌++◌, map, length, get_or, drop, refl, sym, ap, ◌∙◌, append_assoc, append-nil, map-append, drop_all, Option, None, Some, option_map, option_and_then, Lexeme, ones_front}
 use Rattle.px_script.specs.Items as items
 use Rattle.px_script.specs.declared.kinds.One.{One}
-use Rattle.px_script.proofs.Rows.{one_of, ones_at}
+use Rattle.px_script.specs.Rows.{one_of, ones_at}
 use Rattle.px_lines.specs.ItemViews.{said_view}
 use Rattle.px_lines.specs.declared.items.Said.{Said}
 use Rattle.px_lines.proofs.Walks.{in_front}

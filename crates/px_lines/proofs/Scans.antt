@@ -1,7 +1,7 @@
 -- The lexemes of a text: its first token and the others, and the readings of its characters.
 use Rattle.px_lines.proofs.Common.{◌≡◌, ◌<◌, ℕ, zero, suc, Bool, true, false, List, [], ◌∷◌, length, refl, sym, ap, ◌∙◌, subst, arith, Lexeme, Lexes, found, ignored, bad, first, chars, begins-found, ignored-scanned, found-begins, scanned-ignored, Begins-same, Begins-shorter, Begins-not-ignored, scan_within, scan, with_first, lexemes_in, is_whole, Result, Ok, Err, Option, Some, None, Token, lexeme_of, IsNext, is_end, Begins, IfOk, IfSome, IsUtf8}
 use Rattle.std.specs.Prelude.{IfNone, OnErr}
-use Rattle.px_script.proofs.Scanning.{First}
+use Rattle.px_script.specs.Scanning.{First}
 use Rattle.px_script.specs.Lexemes.{IsIgnored}
 use Rattle.px_lines.specs.Tokens.{Scans}
 use Rattle.px_lines.specs.declared.token.BadToken.{BadToken}

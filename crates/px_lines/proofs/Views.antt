@@ -10,7 +10,7 @@ use Rattle.px_lines.specs.ItemViews.{signed_view}
 use Rattle.px_script.specs.Items.{Item, arguments_in, atoms_in, has_parameter, is_filled, atoms_of_part, terms_of_part}
 use Rattle.px_script.proofs.Forms.{there}
 use Rattle.px_script.proofs.ReadRows.{has-row, has_word, row-is_word, row-word}
-use Rattle.px_script.proofs.Rows.{is_of, row_of}
+use Rattle.px_script.specs.Rows.{is_of, row_of}
 use Rattle.px_script.specs.Limits.{is_word}
 use Rattle.px_lines.specs.ItemViews.{rest_view, said_items, said_view, rest_atoms, rest_arguments, rest_parts, part_view}
 use Rattle.px_lines.specs.LineViews.{row_view}

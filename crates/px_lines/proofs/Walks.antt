@@ -2,7 +2,7 @@
 use Rattle.px_lines.proofs.Common.{◌≡◌, ℕ, zero, suc, ◌≤◌, ◌<◌, Bool, true, false, ◌==◌, List, [], ◌∷◌, ◌++◌, map, length, refl, sym, ap, ◌∙◌, subst, arith, append_assoc, append-nil, length-append, Option, None, Some, IfSome, option_map, option_and_then, if◌then◌else◌, map-append, Lexeme, sign, ReadsBack, ReadsSpelled, atom-sound, atoms-back, binding-sound, bindings-back, pair-sound, pairs-back, room-edit-sound, room-edits-back, all_within, all_of, atom_at, room_edit_at, binding_at, pair_at, items_after, item_at, parts-back, part-sound, part_at, names_of, Follows, if_whole, is_end, is_none, is_whole, lexemes_in, name_in, number_in}
 use Rattle.std.specs.Prelude.{◌&&◌}
 use Rattle.px_script.specs.Lexemes.{name, variable, number}
-use Rattle.px_script.proofs.Parsing.{numbers_of}
+use Rattle.px_script.specs.Parsing.{numbers_of}
 
 pub some-same : {A : Type 0} (a b : A) → Some a ≡ Some b → a ≡ b
 some-same a b e = subst (λ o. IfSome o (λ x. a ≡ x)) e refl

@@ -4,7 +4,7 @@ use Rattle.px_script.specs.Declarations.{Declared}
 use Rattle.px_script.specs.Forms.{Forms}
 use Rattle.px_script.specs.Lexemes.{Lexeme}
 use Rattle.px_script.specs.Statements as lines
-use Rattle.px_script.proofs.Rows as rows
+use Rattle.px_script.specs.Rows as rows
 use Rattle.px_lines.specs.ItemViews.{said_items}
 use Rattle.px_lines.specs.declared.rows.Row.{Row}
 use Rattle.px_lines.specs.declared.reading.Line.{Line}

@@ -5,13 +5,13 @@ use Rattle.std.specs.List.{list_all}
 use Rattle.unicode_ident.specs.Ident.{is_xid_continue}
 use Rattle.std.specs.Prelude.{◌≡◌, ◌++◌, ◌&&◌, ℕ, zero, suc, Bool, List, [], ◌∷◌, true, false, drop, length, encode_utf8_all, if◌then◌else◌, Result, Option, Some, None, Ok, Err}
 use Rattle.std.specs.Option.{option_map}
-use Rattle.px_script.proofs.Parsing.{after_name, after_number, after_sign}
-use Rattle.px_script.proofs.Rows.{ones_at}
+use Rattle.px_script.specs.Parsing.{after_name, after_number, after_sign}
+use Rattle.px_script.specs.Rows.{ones_at}
 use Rattle.px_script.specs.Items.{Item}
 use Rattle.px_script.specs.declared.kinds.One.{One}
 use Rattle.std.specs.Str.{IsUtf8, chars}
 use Rattle.px_script.specs.Lexemes.{Lexeme, Lexes, name, variable, number, sign, is_blank}
-use Rattle.px_script.proofs.Scanning.{First, first, found, ignored, bad, prefix_while, after_while, stops}
+use Rattle.px_script.specs.Scanning.{First, first, found, ignored, bad, prefix_while, after_while, stops}
 use Rattle.px_lines.specs.declared.token.BadToken.{BadToken}
 use Rattle.px_lines.specs.declared.token.Class.{Class}
 use Rattle.px_lines.specs.declared.token.Class.TheVariants.{Blank, Continues, Digit}

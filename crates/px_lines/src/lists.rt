@@ -1,6 +1,6 @@
 //! Lists: names or numbers to the end of a line, and items between parentheses.
 ghost use Rattle.std.specs.Prelude.{◌≡◌, IfOk, map};
-ghost use Rattle.px_script.proofs.Parsing.{names_of, numbers_of};
+ghost use Rattle.px_script.specs.Parsing.{names_of, numbers_of};
 ghost use Rattle.px_lines.specs.Common.{at_end, option_and_then, option_map, argument_of, names_among, names_at, item_at, items_after, items_at, lexeme_of, lexemes_in, if_whole, ReadsFirst, ReadsItemFirst, argument_view, text_of, list_view, items_view};
 
 use crate::items::Argument;

@@ -1,7 +1,7 @@
 //! The proofs of one row of a table, as they are written: what each begins with, one after another.
 ghost use Rattle.std.specs.Prelude.{◌≡◌, ◌<◌, ◌^◌, map, IfOk};
 ghost use Rattle.px_script.specs.Items.{are_proofs, atoms_of_part, owed, terms_of_part};
-ghost use Rattle.px_script.proofs.Parsing.{ancestor_at, axiom_at, fact_at, part_at, part_for, terms_after, terms_at};
+ghost use Rattle.px_script.specs.Parsing.{ancestor_at, axiom_at, fact_at, part_at, part_for, terms_after, terms_at};
 ghost use Rattle.px_lines.specs.Common.{ReadsFirst, all_of, argument_view, if_whole, items_view, lexemes_in, list_view, part_view, signed_view};
 
 use crate::items::{Argument, SignedAtom};

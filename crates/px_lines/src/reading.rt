@@ -1,7 +1,7 @@
 //! The line that a text is, by the row of its word.
 ghost use Rattle.std.specs.Prelude.{◌≡◌, ◌++◌, ◌∷◌, ℕ, List, true, length, map, IfNone, IfOk, IfSome};
 ghost use Rattle.std.specs.List.{flat_map, list_all, list_any};
-ghost use Rattle.px_script.proofs.Rows.{chosen, last_at, line_at, one_of, row_items};
+ghost use Rattle.px_script.specs.Rows.{chosen, last_at, line_at, one_of, row_items};
 ghost use Rattle.px_script.specs.Lexemes.{Lexeme, Lexes, name as name_lexeme};
 ghost use Rattle.px_script.specs.Declarations.{Declared, has_building};
 ghost use Rattle.px_script.specs.Forms.{Forms, is_formed, is_signed, line_atoms};

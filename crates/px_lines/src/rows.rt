@@ -1,7 +1,7 @@
 //! The table of the words.
 ghost use Rattle.std.specs.Prelude.{◌≡◌, ◌++◌, IfSome};
 ghost use Rattle.std.specs.Option.{option_map};
-ghost use Rattle.px_script.proofs.Rows.{disturb_row, entries_of_commands, entries_of_tables, entries_of_three, entries_of_two, is_of, newer, row_among, row as spec_row, row_of};
+ghost use Rattle.px_script.specs.Rows.{disturb_row, entries_of_commands, entries_of_tables, entries_of_three, entries_of_two, is_of, newer, row_among, row as spec_row, row_of};
 ghost use Rattle.px_script.specs.Limits.{is_word};
 ghost use Rattle.px_lines.specs.LineViews.{row_view};
 

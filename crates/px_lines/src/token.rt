@@ -2,7 +2,7 @@
 ghost use Rattle.std.specs.Prelude.{◌≡◌, ◌<◌, ◌++◌, ℕ, List, true, length, IfNone, IfOk, IfSome, MatchBool, OnErr};
 ghost use Rattle.std.specs.Char.{is_ascii_digit};
 ghost use Rattle.px_script.specs.Lexemes.{Lexeme, Lexes, Begins, IsIgnored, is_sign, number_value, goes_on};
-ghost use Rattle.px_script.proofs.Scanning.{prefix_while, after_while, first_at, first_number, first_variable};
+ghost use Rattle.px_script.specs.Scanning.{prefix_while, after_while, first_at, first_number, first_variable};
 ghost use Rattle.px_lines.specs.Common.{IsUtf8, chars, all_ascii_digits, is_of, text_of, Skips, Scans, NameAt, IsLexed, IsNext, ReadsFirst, Follow, is_end, lexeme_of, lexemes_in, name_in, number_in, sign_in, rest_after};
 
 use px_names::{split_first, starts_name};

@@ -6,8 +6,8 @@ pub use Rattle.px_reader.specs.LineReads.{LinesFail, lines_in, HasFirstFault, Is
 pub use Rattle.px_script.specs.ReadScripts.{content}
 pub use Rattle.px_so_far.specs.SoFarViews.{declared_of, open_block_view}
 pub use Rattle.px_statements.specs.StatementViews.{statement_view}
-pub use Rattle.px_script.proofs.Rows.{parse}
-pub use Rattle.px_script.proofs.States.{AreInRange}
+pub use Rattle.px_script.specs.Rows.{parse}
+pub use Rattle.px_script.specs.States.{AreInRange}
 pub use Rattle.px_script.specs.Content.{facts_of}
 pub use Rattle.px_script.specs.Faults.{Refusal}
 pub use Rattle.px_script.specs.Forms.{begins_with_word, Forms}

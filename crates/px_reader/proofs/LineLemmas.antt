@@ -11,7 +11,7 @@ use Rattle.px_causes.specs.declared.line_fault.LineFault.{LineFault}
 use Rattle.std.specs.Option.{option_and_then}
 use Rattle.px_lines.proofs.Walks.{some-same}
 use Rattle.px_script.proofs.ReadRows.{IsLineOf, formed-sound}
-use Rattle.px_script.proofs.Rows.{formed_line, statement_of}
+use Rattle.px_script.specs.Rows.{formed_line, statement_of}
 use Rattle.px_script.specs.Declarations.{has_building}
 use Rattle.px_effects.proofs.Fresh.{lexemes-named}
 use lib.Utf8.{encode}

@@ -4,7 +4,7 @@ pub use Rattle.px_reader.specs.LineReads.{AreScript, HasFirstFault, IsRead, IsLi
 pub use Rattle.px_causes.specs.EarlyFaults.{stage_view}
 pub use Rattle.px_so_far.specs.SoFarViews.{declared_of}
 pub use Rattle.px_statements.specs.StatementViews.{statement_view}
-pub use Rattle.px_script.proofs.States.{AreInRange}
+pub use Rattle.px_script.specs.States.{AreInRange}
 pub use Rattle.px_script.specs.Content.{ScriptValue, content_of, facts_of}
 pub use Rattle.px_script.specs.Declarations.{after_line, nothing_declared}
 pub use Rattle.px_script.specs.Faults.{Refusal}

@@ -30,7 +30,7 @@ use Rattle.px_script.specs.Scripts.{IsScript, Spells}
 use Rattle.px_script.proofs.Common.{◌≡◌, ℕ, ◌+◌, ◌<◌, ◌≤◌, true, false, List, [], ◌∷◌, ◌++◌, map, length, refl, sym, ap, ◌∙◌, subst, arith, append_assoc, append-nil, Option, None, Some, All, AllByRecursion, and_parts, unwrap_or, flat_map, is_empty, has_name, IsUtf8, NameLists, Declared, Stage, PassAll, Atom, Problem, Term, IfSome, nothing_declared, lines_of, own_problem, Thing, Passes, length-append, Lexeme}
 use Rattle.px_script.proofs.Kept.{declared-in-range, lines-kept, start-in-range}
 use Rattle.px_script.proofs.Lists.{by_test}
-use Rattle.px_script.proofs.States.{AreInRange, IsBegun}
+use Rattle.px_script.specs.States.{AreInRange, IsBegun}
 use Rattle.px_saved.specs.ReadBack.{IsReadyFor, SavedIsReadBack, with_saved}
 use Rattle.px_saved.proofs.Between.{ended, inside, of_rows, of_steps, written}
 use Rattle.px_saved.proofs.Block.{HasBlocks, table-passes, step-passes, goal-passes, row-passes, end-passes}

@@ -2,8 +2,8 @@
 use Rattle.px_script.proofs.Common.{Argument, SignedAtom, named, open_variable, anything, is_variable, is_empty, Statement, Line, Manner, patterns, line_of, Declared, number_in, parameters_here, with_variable, variable_names_of, term_of, atom_of, is_known_argument, takes, varies, varies_too_early, own_problem, variable_in, first_occurrences, AreNumbered, ◌≡◌, ℕ, suc, ◌+◌, ◌<◌, ◌≤◌, Bool, true, false, not, ◌&&◌, ◌||◌, ◌==◌, List, [], ◌∷◌, ◌++◌, map, length, refl, sym, ap, ◌∙◌, subst, arith, append_assoc, append-nil, eqb-true, length-append, nat_lt, All, fold, slice_index, list_any, flat_map, filter, filter_map, range_with_len, slice_index_or, nat_tests, not-false, or_parts, length-map, map-append, All-map, both_answers, has_name, Term, Obj, Var, Any, HasArity, IsTermOf, IsPatternTermOf, IsAtomOf, IsPatternOf, filter_agree, list_any_none}
 use Rattle.px_script.specs.Forms as forms
 use Rattle.px_script.proofs.Lists.{by_test, each-fails, list_any_flat, number-below, number-kept, number-new, known-still, known-last}
-use Rattle.px_script.proofs.Faultless.{IsRight}
-use Rattle.px_script.proofs.States.{AreInRange}
+use Rattle.px_script.specs.Faultless.{IsRight}
+use Rattle.px_script.specs.States.{AreInRange}
 
 abbrev pub arguments_of : List SignedAtom → List Argument
 arguments_of xs = flat_map (λ x. x.atom.arguments) xs

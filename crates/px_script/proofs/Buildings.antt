@@ -2,7 +2,7 @@
 use Rattle.px_script.proofs.Common.{IsBuilding, IsDoorOrNone, thing_at, ◌≡◌, ℕ, zero, suc, ◌+◌, ◌≤◌, true, false, List, [], ◌∷◌, ◌++◌, length, refl, sym, ap, ◌∙◌, subst, arith, length-append, All, AllByRecursion, Option, None, Some, slice_get, slice_index_or, list_any, All-append, All-from_recursion, All-push, has_name, Standing, a_room, a_door, a_box, IsBoxAt, IsDoorAt, IsRoomAt, StandsRight, robot_rooms, standings, robots-more, standings-more, Thing, is_robot, Roles, number_in, IsThingAfter}
 use Rattle.px_world.specs.declared.thing.Thing.TheVariants as thing
 use Rattle.px_script.proofs.Lists.{by_test, number-kept, number-unknown, number-new, each-more}
-use Rattle.px_script.proofs.States.{AreRolesOf, AreStanding}
+use Rattle.px_script.specs.States.{AreRolesOf, AreStanding}
 
 -- ---- a thing keeps its number where there are more
 

@@ -4,7 +4,7 @@ use Rattle.std.proofs.lemmas.Fmt.{decimal_is_IsNumeral}
 use Rattle.std.proofs.lemmas.Option.{IfSome_then}
 use Rattle.px_script.specs.Forms as spec
 use Rattle.px_script.proofs.Lists.{by_test}
-use Rattle.px_script.proofs.Parsing.{argument_of, items_after, items_at, all_within, all_of, atom_after, atom_at, sign_of, which, open_of, room_edit_at, parameter_of, binding_at, names_of, names_among, names_at, numbers_of, pair_at, part_at, terms_at, terms_after, fact_at, ancestor_at, axiom_at, at_end}
+use Rattle.px_script.specs.Parsing.{argument_of, items_after, items_at, all_within, all_of, atom_after, atom_at, sign_of, which, open_of, room_edit_at, parameter_of, binding_at, names_of, names_among, names_at, numbers_of, pair_at, part_at, terms_at, terms_after, fact_at, ancestor_at, axiom_at, at_end}
 
 -- ---- what is said of an answer, if there is one
 

@@ -12,7 +12,8 @@ use Rattle.px_script.specs.Limits as limit
 use Rattle.px_script.proofs.Atoms.{atoms-right, atoms-with, patterns-with, AreRight}
 use Rattle.px_script.proofs.Buildings.{rooms-kind, doors-kind, boxes-kind, IsKind, AreOfKind, kind-known, kind-more, roles-kept, standing-more, robots-none, robots-some, is-building}
 use Rattle.px_script.proofs.Commands.{commands-moved}
-use Rattle.px_script.proofs.Faultless.{IsFaultless, no-fault, only-takes-away, stage-takes-away}
+use Rattle.px_script.specs.Faultless.{IsFaultless}
+use Rattle.px_script.proofs.Faultless.{no-fault, only-takes-away, stage-takes-away}
 use Rattle.px_script.proofs.Forms.{IsWellFormed, well-formed}
 use Rattle.px_script.proofs.KeptLines.{more-objects, saved-kept, in-version, sorts-filled, still-sorted, script-kept, sort-kept, few-objects, no-own, settings-kept, in-bounds, still-none, carried, Keeps, object-kept, predicate-kept, axiom-kept, fact-kept, operator-kept, ask-kept, facts-kept, disturb-atoms-kept, disturb-rooms-kept, run-kept, learn-kept, plan-kept, pursue-kept, tree-kept, duo-kept, edit-kept}
 use Rattle.px_proof.specs.Derivation.{no_atom}
@@ -22,7 +23,7 @@ use Rattle.px_table.specs.GrowthLaws as growth
 use Rattle.px_script.proofs.KeptTables.{table-kept, step-kept, goal-kept, proof-kept, end-table}
 use Rattle.px_script.proofs.Lists.{by_test, number-below, at-most, each-fails, same-number, at-name, is-new, each-pushed}
 use Rattle.px_script.proofs.Problems.{heavier, same-lists, alike, atoms-kept, names-more, schema-kept}
-use Rattle.px_script.proofs.States.{AreInRange, AreRolesOf, IsBegun, OperatorsInRange, AreStanding}
+use Rattle.px_script.specs.States.{AreInRange, AreRolesOf, IsBegun, OperatorsInRange, AreStanding}
 
 -- ---- the lines of an operator's block, and its end
 

@@ -15,11 +15,11 @@ use Rattle.px_script.specs.Limits as limit
 use Rattle.px_script.proofs.Atoms.{HasAtoms, AreRight, numbered, atoms-right, atoms-with, atoms-open, no-variables, empty-length}
 use Rattle.px_script.proofs.Buildings.{roles-kept, AreOfKind}
 use Rattle.px_script.proofs.Commands.{one-more-result, among-still, among-last, more-results, scan-more}
-use Rattle.px_script.proofs.Faultless.{IsFaultless}
+use Rattle.px_script.specs.Faultless.{IsFaultless}
 use Rattle.px_script.proofs.Lists.{by_test, at-most, not-below, each-fails, number-below, number-kept, number-new, known-still, known-last, at-name, is-new, each-more, all-parts, none-filtered}
 use Rattle.px_table.specs.GrowthLaws as growth
 use Rattle.px_script.proofs.Problems.{less, saved-grows, here-grows, same-lists, alike, schema-kept, names-more, of-axiom-kept, atoms-kept, axiom-clause}
-use Rattle.px_script.proofs.States.{from_blocks, ResultsInRange, AreInRange, AreRolesOf, HasNoDomain, IsVersionAfter, OperatorsInRange, SortsInRange}
+use Rattle.px_script.specs.States.{from_blocks, ResultsInRange, AreInRange, AreRolesOf, HasNoDomain, IsVersionAfter, OperatorsInRange, SortsInRange}
 use Rattle.px_script.specs.Limits.{by_version}
 use Rattle.px_script.specs.RangeLaws.{version-most}
 

@@ -14,7 +14,7 @@ use Rattle.px_script.proofs.Commands.{one-more-result, none-given, among-more, a
 use Rattle.px_script.proofs.KeptLines.{in-version, still-none, no-commands, some-items, Keeps}
 use Rattle.px_script.proofs.Lists.{at-most, at-name, by_test, is-new, known-last, known-still, number-after, number-below, number-kept, number-known, number-new, within}
 use Rattle.px_script.proofs.Problems.{names-more}
-use Rattle.px_script.proofs.States.{AreInRange, HasNoDomain, IsTableBegun, IsTableAimed, ResultsInRange, from_blocks}
+use Rattle.px_script.specs.States.{AreInRange, HasNoDomain, IsTableBegun, IsTableAimed, ResultsInRange, from_blocks}
 
 -- ---- proofs that are read
 

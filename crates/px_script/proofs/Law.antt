@@ -8,8 +8,8 @@ use Rattle.px_script.proofs.Forms.{map-there, there, forms-known}
 use Rattle.px_script.proofs.ReadRows.{parse-complete, parse-sound}
 use Rattle.px_script.proofs.Lexing.{begins-found, found-begins, ignored-scanned, scanned-ignored, Begins-shorter}
 use Rattle.px_script.proofs.Lists.{by_test}
-use Rattle.px_script.proofs.Rows.{parse}
-use Rattle.px_script.proofs.Scanning.{First, found, ignored, bad, first}
+use Rattle.px_script.specs.Rows.{parse}
+use Rattle.px_script.specs.Scanning.{First, found, ignored, bad, first}
 
 -- ---- the reader
 

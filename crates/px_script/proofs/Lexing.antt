@@ -2,7 +2,7 @@
 use Rattle.unicode_ident.proofs.Computing.{unicode_ident}
 use Rattle.px_script.proofs.Common.{is_xid_start-is_xid_continue, Lexeme, name, variable, number, sign, is_blank, is_sign, goes_on, is_comment, IsLexeme, ends_before, Begins, IsIgnored, ◌≡◌, ℕ, ◌<◌, ◌≤◌, Bool, true, false, not, ◌&&◌, ◌||◌, ◌==◌, List, [], ◌∷◌, ◌++◌, length, refl, sym, ap, ◌∙◌, subst, inl, inr, arith, eqb-true, leb-true, length-append, list_any, list_all, AllByRecursion, all_ascii_digits, is_ascii_digit, and_parts, cond, not-true, or_cases, is_xid_continue, is_xid_start-ascii, is_xid_continue-ascii, both_answers, starts_name}
 use Rattle.px_script.proofs.Lists.{by_test}
-use Rattle.px_script.proofs.Scanning.{First, found, ignored, bad, prefix_while, after_while, first_number, first_variable, first_at, first, stops}
+use Rattle.px_script.specs.Scanning.{First, found, ignored, bad, prefix_while, after_while, first_number, first_variable, first_at, first, stops}
 
 -- ---- the longest prefix of a list that passes a test
 

@@ -1,10 +1,5 @@
 -- what the proofs cite of the lower crates
 pub mod Common
--- the scanner and the parser
-pub mod Scanning
-pub mod Parsing
--- what the lines so far keep
-pub mod States
 -- lists of names, lexemes and forms
 pub mod Lists
 pub mod Lexing

@@ -7,8 +7,9 @@ use Rattle.px_script.specs.declared.kinds.One.TheVariants as one
 use Rattle.px_script.specs.declared.kinds.Last.{Last}
 use Rattle.px_script.specs.declared.kinds.Last.TheVariants as last
 use Rattle.px_script.proofs.Lists.{by_test}
-use Rattle.px_script.proofs.Parsing.{names_of, names_at, at_end, all_of, atom_at, binding_at, room_edit_at, numbers_of, pair_at, items_at, argument_of, part_at}
-use Rattle.px_script.proofs.Rows.{Row, Entry, IsMade, all-made, chosen, one_of, ones_at, last_at, row_items, entries, entries_of_all, entries_of_two, entries_of_three, is_of, entry_among, entry_of, ask-entry, row_of, filled, line_by, line_at, formed_only, formed_line, statement_of, parse}
+use Rattle.px_script.specs.Parsing.{names_of, names_at, at_end, all_of, atom_at, binding_at, room_edit_at, numbers_of, pair_at, items_at, argument_of, part_at}
+use Rattle.px_script.specs.Rows.{Row, Entry, chosen, one_of, ones_at, last_at, row_items, entries, entries_of_all, entries_of_two, entries_of_three, is_of, entry_among, entry_of, row_of, filled, line_by, line_at, formed_only, formed_line, statement_of, parse}
+use Rattle.px_script.proofs.Rows.{IsMade, all-made, ask-entry}
 use Rattle.px_script.proofs.Forms.{IsWellFormed, well-formed, then-there, map-there, if-there, same_word, there, all-sound, names-again, names-sound, names-at-sound, parameters-again, atoms-again, edits-again, bindings-again, atom-sound, binding-sound, room-edit-sound, numbers-again, numbers-sound, pairs-again, pair-sound, part-sound, parts-again, arguments-all-sound, arguments-all-again}
 
 -- ---- what is read by a row is spelled so: once for all words

@@ -26,3 +26,10 @@ pub mod Worked
 -- what a script keeps
 pub mod Ranges
 pub mod RangeLaws
+pub mod States
+-- a line without a fault
+pub mod Faultless
+-- a plain reader: a scanner, a parser, and the table of the words
+pub mod Scanning
+pub mod Parsing
+pub mod Rows

@@ -10,7 +10,7 @@ use Rattle.px_script.specs.Content.{ScriptValue, content_of}
 use Rattle.px_script.specs.Scripts.{IsScript}
 use Rattle.px_script.specs.Stages.{stage_now}
 use Rattle.px_script.proofs.Law.{Reading, TextSays, by_reading, fails, lines_read, passes, scan_by, text-says, text_read}
-use Rattle.px_script.proofs.Parsing.{all_within, items_after}
+use Rattle.px_script.specs.Parsing.{all_within, items_after}
 use Rattle.px_session.specs.WorkedSession.{idle_bytes, idle_script}
 
 abbrev content_in : Reading → Option ScriptValue

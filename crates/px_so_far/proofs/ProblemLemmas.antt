@@ -4,7 +4,7 @@ use Rattle.px_script.specs.Causes.{is_robot}
 use Rattle.px_script.specs.Declarations.{kind_of_block, WrittenTable}
 use Rattle.px_script.proofs.Buildings.{is-building as stands-building, robots-some}
 use Rattle.px_script.proofs.Problems.{heavier}
-use Rattle.px_script.proofs.States.{SuitsBlock}
+use Rattle.px_script.specs.States.{SuitsBlock}
 use Rattle.px_script.specs.RangeLaws.{version-most}
 use Rattle.px_rooms.proofs.Starting.{objects_are}
 use Rattle.px_rooms.proofs.Valid.{buildings_are_valid}

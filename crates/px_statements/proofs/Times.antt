@@ -2,7 +2,7 @@
 use Rattle.px_statements.proofs.Common.{◌≡◌, ℕ, Bool, true, false, List, ◌∷◌, refl, None, Some, time_of}
 use Rattle.px_script.specs.Items as items
 use Rattle.px_script.specs.Statements.{time_word}
-use Rattle.px_script.proofs.Rows.{make_disturb}
+use Rattle.px_script.specs.Rows.{make_disturb}
 use Rattle.px_lines.specs.ItemViews.{rest_view}
 use Rattle.px_lines.specs.declared.items.Rest.{Rest}
 use Rattle.px_lines.specs.declared.items.Rest.TheVariants as rest

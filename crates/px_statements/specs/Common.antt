@@ -2,6 +2,6 @@
 pub use Rattle.px_statements.specs.FactLines.{is_fact}
 pub use Rattle.px_lines.specs.ItemViews.{signed_view}
 pub use Rattle.px_statements.specs.StatementViews.{statement_view}
-pub use Rattle.px_script.proofs.Parsing.{time_of}
+pub use Rattle.px_script.specs.Parsing.{time_of}
 pub use Rattle.std.specs.Option.{option_and_then, option_map}
 pub use Rattle.std.specs.Str.{bytes_eq}

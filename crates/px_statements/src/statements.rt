@@ -3,7 +3,7 @@ ghost use Rattle.std.specs.Prelude.{◌≡◌, ◌++◌, ℕ, List, ◌∷◌, S
 ghost use Rattle.px_script.specs.Items as items;
 ghost use Rattle.px_script.specs.Statements as spec;
 ghost use Rattle.px_script.specs.Statements.{time_word};
-ghost use Rattle.px_script.proofs.Rows.{entries_of_three, entries_of_two, entry_among, entry_of, make_ask, make_atoms, make_box, make_disturb, make_door, make_duo, make_edit, make_learn, make_nothing, make_number, make_object, make_operator, make_param, make_plan, make_predicate, make_proof, make_pursue, make_robot, make_room, make_run, make_sort, make_step, make_table, make_tree, row_among, row_of, statement_of};
+ghost use Rattle.px_script.specs.Rows.{entries_of_three, entries_of_two, entry_among, entry_of, make_ask, make_atoms, make_box, make_disturb, make_door, make_duo, make_edit, make_learn, make_nothing, make_number, make_object, make_operator, make_param, make_plan, make_predicate, make_proof, make_pursue, make_robot, make_room, make_run, make_sort, make_step, make_table, make_tree, row_among, row_of, statement_of};
 ghost use Rattle.px_lines.specs.ItemViews.{rest_view, said_items};
 ghost use Rattle.px_lines.specs.LineViews.{line_view, IsShaped};
 ghost use Rattle.px_statements.specs.Common.{bytes_eq, option_and_then, option_map, time_of, signed_view, statement_view};

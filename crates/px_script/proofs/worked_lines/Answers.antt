@@ -5,7 +5,7 @@ use Rattle.px_script.proofs.Computed.{after-so, fit-so, refuse-so}
 use Rattle.unicode_ident.proofs.Computing.{unicode_ident}
 use lib.Utf8.{encode}
 use Rattle.px_script.proofs.Law.{lines_read, scan_by, scan, scan-lexes}
-use Rattle.px_script.proofs.Parsing.{all_within, items_after}
+use Rattle.px_script.specs.Parsing.{all_within, items_after}
 use Rattle.px_script.proofs.worked_lines.Goals as goal
 
 pub returns-clause-domains : goal.returns-clause-domains

@@ -7,7 +7,7 @@ use lib.Utf8.{encode}
 use Rattle.px_base.specs.Sets.{with_item, set_of}
 use Rattle.px_script.specs.Worked.{AreRefused}
 use Rattle.px_script.proofs.Law.{Reading, passes, fails, by_reading, lines_read, scan_by, text_read, TextSays, text-says}
-use Rattle.px_script.proofs.Parsing.{all_within, items_after}
+use Rattle.px_script.specs.Parsing.{all_within, items_after}
 use Rattle.px_script.proofs.worked_texts.Goals as goal
 
 -- what is read is so

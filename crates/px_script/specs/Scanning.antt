@@ -1,5 +1,9 @@
 -- The first lexeme of a line, found from left to right.
-use Rattle.px_script.proofs.Common.{ℕ, Bool, true, not, List, [], ◌∷◌, ◌==◌, if◌then◌else◌, encode_utf8_all, is_ascii_digit, is_xid_continue, starts_name, Lexeme, name, variable, number, sign, is_blank, is_sign, number_value, goes_on}
+use Rattle.std.specs.Prelude.{ℕ, Bool, true, not, List, [], ◌∷◌, ◌==◌, if◌then◌else◌, encode_utf8_all}
+use Rattle.std.specs.Char.{is_ascii_digit}
+use Rattle.unicode_ident.specs.Ident.{is_xid_continue}
+use Rattle.px_names.specs.Name.{starts_name}
+use Rattle.px_script.specs.Lexemes.{Lexeme, name, variable, number, sign, is_blank, is_sign, number_value, goes_on}
 
 pub data First : Type 0 where
   found : Lexeme → List ℕ → First

@@ -1,5 +1,10 @@
 -- A plain parser of what stands in lines.
-use Rattle.px_script.proofs.Common.{ℕ, Bool, true, false, List, [], ◌∷◌, length, drop, Option, None, Some, codes, if◌then◌else◌, ◌==◌, zero, suc, option_map, option_and_then, bytes_eq, digits_value, Lexeme, name, variable, number, sign, Argument, Sign, SignedAtom, WrittenRoomEdit, Binding, named, open_variable, anything, bare, negated, added, removed, robot_to, box_to, door_to, parameter_name, is_parameter_number, Part, a_fact, an_ancestor, an_axiom}
+use Rattle.std.specs.Prelude.{ℕ, Bool, true, false, List, [], ◌∷◌, length, drop, zero, suc, Option, None, Some, codes, if◌then◌else◌, ◌==◌}
+use Rattle.std.specs.Option.{option_map, option_and_then}
+use Rattle.std.specs.Str.{bytes_eq}
+use Rattle.std.specs.Str.Parse.{digits_value}
+use Rattle.px_script.specs.Lexemes.{Lexeme, name, variable, number, sign}
+use Rattle.px_script.specs.Items.{Argument, Sign, SignedAtom, WrittenRoomEdit, Binding, named, open_variable, anything, bare, negated, added, removed, robot_to, box_to, door_to, parameter_name, is_parameter_number, Part, a_fact, an_ancestor, an_axiom}
 
 abbrev pub argument_of : Lexeme → Option Argument
 argument_of (name n) = Some (named n)

@@ -1,6 +1,19 @@
--- What the lines so far keep: that what they have declared is in range. No part of what a script is, but of how that is shown.
+-- What the lines so far keep: that what they have declared is in range. No part of what a script is, but what its reader says of the lines
+-- so far.
+use Rattle.std.specs.Prelude.{map, ◌∷◌, ◌++◌, Bool, ◌≡◌, ◌≤◌, ◌+◌, ℕ, true, false, List, [], length, take, max, Option, None, Some, All, IfSome, EachIndex, is_some, fold, slice_index_or, unwrap_or}
+use Rattle.std.specs.List.{flat_map, list_any}
 use Rattle.px_script.specs.Limits as limit
-use Rattle.px_script.proofs.Common.{problem_here, WrittenTable, BlockKind, OpenBlock, of_table_steps, of_table_rows, IsSavedTable, IsTableBefore, goal_place, last_number, height_of, HasNoOpenPlace, max, map, ◌∷◌, ◌++◌, greatest, Bool, IsWithin, of_version, AreNamesOf, ◌≡◌, ◌≤◌, ◌+◌, ℕ, true, false, List, [], length, take, Option, None, Some, All, IfSome, EachIndex, is_some, fold, slice_index_or, unwrap_or, flat_map, list_any, NameLists, has_name, IsBoxAt, IsDoorAt, IsRoomAt, StandsRight, robot_rooms, standings, IsSchemaOf, Problem, Thing, Command, Declared, OpenOperator, Roles, operator_here, number_in, block_here, predicate_names, predicate_arities, operator_names, Block, building_block, is_robot, own_problem, NamesInRange, ProblemInRange, FactsInRange, CommandsInRange, HasShortLists, IsAmong, IsThingAfter, plan_given, disturbs_after, robot_name}
+use Rattle.px_script.specs.Declarations.{problem_here, WrittenTable, BlockKind, OpenBlock, of_table_steps, of_table_rows, Declared, OpenOperator, Roles, operator_here, number_in, block_here, predicate_names, predicate_arities, operator_names, own_problem}
+use Rattle.px_script.specs.Ranges.{IsSavedTable, IsTableBefore, goal_place, IsWithin, AreNamesOf, NamesInRange, ProblemInRange, FactsInRange, CommandsInRange, HasShortLists, IsAmong, IsThingAfter, plan_given, disturbs_after}
+use Rattle.px_script.specs.Limits.{last_number, greatest, of_version}
+use Rattle.px_proof.specs.Derivation.{height as height_of}
+use Rattle.px_proof.specs.LayerLaws.{HasNoOpenPlace}
+use Rattle.px_script.specs.Common.{NameLists, has_name, IsBoxAt, IsDoorAt, IsRoomAt, StandsRight, standings, Problem, Thing, robot_name}
+use Rattle.px_rooms.specs.States.{robot_rooms}
+use Rattle.px_terms.specs.Validity.{IsSchemaOf}
+use Rattle.px_script.specs.Commands.{Command}
+use Rattle.px_script.specs.Statements.{Block, building_block}
+use Rattle.px_script.specs.Causes.{is_robot}
 use Rattle.px_world.specs.declared.thing.Thing.TheVariants.{Room}
 
 -- The operator is in range, and has the number that its schema will have.
