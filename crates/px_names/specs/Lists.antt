@@ -5,6 +5,7 @@ use Rattle.std.specs.Str.{IsUtf8, bytes_eq}
 use Rattle.px_names.specs.Name.{is_name_text, IsName}
 use Rattle.px_names.specs.declared.kind.Kind.{Kind}
 use Rattle.px_names.specs.declared.kind.Kind.TheVariants as kind
+use Rattle.px_names.specs.declared.limits.TheConstants.{OBJECTS, OPERATORS, PREDICATES, RESULTS}
 use Rattle.px_names.specs.declared.kind.NameErr.{NameErr}
 use Rattle.px_names.specs.declared.kind.NameErr.TheVariants.{BadName, Duplicate, Full}
 
@@ -21,10 +22,10 @@ no_names = record { objects = []; predicates = []; operators = []; results = [] 
 
 -- how many names of a kind there may be, in a script of any version
 abbrev pub limit_of : Kind → ℕ
-limit_of kind.Object = 1024
-limit_of kind.Predicate = 64
-limit_of kind.Operator = 32
-limit_of kind.Result = 1056
+limit_of kind.Object = OBJECTS
+limit_of kind.Predicate = PREDICATES
+limit_of kind.Operator = OPERATORS
+limit_of kind.Result = RESULTS
 
 -- the names of a kind
 abbrev pub names_of : Kind → NameLists → List (List ℕ)

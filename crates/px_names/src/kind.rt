@@ -3,6 +3,7 @@ ghost use Rattle.std.specs.Prelude.{◌≡◌};
 ghost use Rattle.px_names.specs.declared.kind.NameErr.TheVariants.{NoMemory};
 ghost use Rattle.px_names.specs.Lists.{limit_of};
 
+use crate::limits::{OBJECTS, OPERATORS, PREDICATES, RESULTS};
 use std::alloc::AllocError;
 use thiserror::Error;
 
@@ -25,10 +26,10 @@ impl Kind {
         ensures { result ≡ limit_of self }
     {
         match self {
-            Kind::Object => 1024,
-            Kind::Predicate => 64,
-            Kind::Operator => 32,
-            Kind::Result => 1056,
+            Kind::Object => OBJECTS,
+            Kind::Predicate => PREDICATES,
+            Kind::Operator => OPERATORS,
+            Kind::Result => RESULTS,
         }
     }
 }

@@ -19,6 +19,7 @@
 #![tactic(auto)]
 
 mod kind;
+mod limits;
 mod list;
 mod name;
 mod names;

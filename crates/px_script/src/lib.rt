@@ -37,8 +37,8 @@
 //!   compared with what a reader expects.
 //!
 //! `Scanning`, `Parsing`, `Rows`, `Faultless` and `States` aren't part of what a script is: they are a plain reader of lines, by a table of
-//! the words, a line without a fault, and what the lines so far keep. Public calls of px_lines, px_statements, px_causes, px_effects and
-//! px_reader speak of them. The modules of `proofs` that these crates and px_saved cite have lemmas alone.
+//! the words, a line without a fault, and what the lines so far keep. Public calls of px_lines, px_statements, px_causes and px_effects
+//! speak of them, but of `Scanning` none does. The modules of `proofs` that the crates of the reader and px_saved cite have lemmas alone.
 #![tactic(auto)]
 
 ghost use Rattle.std.specs.Prelude.{List, ℕ};
