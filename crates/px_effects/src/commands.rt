@@ -157,7 +157,7 @@ pub fn add_asked(so_far: &mut SoFar, about: About, name: &str) -> Result<(), NoM
     ensures { OnOk result (declared_of so_far.new ≡ leaves 0 (declared_of so_far.old) (spec.ask about name.now)) }
 {
     let name = so_far.number(Kind::Result, name);
-    add_command(so_far, Command::Ask { about, name })
+    add_command(so_far, Command::asking(about, name))
 }
 
 /// Adds a disturbance of a script without a building, and counts it.

@@ -42,7 +42,7 @@ atom_limited s formula variable_count lists are kept shapes (atom, closed, is, l
     )
 
 -- the list closes a provable atom, or none
-none-among : (s : Setting) (lists : List GapList) (provable : List Atom)
+pub none-among : (s : Setting) (lists : List GapList) (provable : List Atom)
     → ((atom : Atom) → Contains provable atom ↔ (IsClosedIn lists atom × IsProvable s atom)) → (list : GapList) → Contains lists list
     → (¬ Any (Contains provable) list.gaps) ↔ ((other : Atom) → Contains list.gaps other → ¬ IsProvable s other)
 none-among s lists provable provable_are list has = (

@@ -120,7 +120,7 @@ module _ (s : Setting) (formula : List Atom) (variable_count : ℕ) (lists : Lis
 
 module _ (s : Setting) (formula : List Atom) (variable_count : ℕ) (lists : List GapList) (are : AreClosedLists s formula variable_count lists) where
   -- the atoms of a list of loose gap proofs are those of a list
-  closed_listed : (objects : List ℕ) (ds : Derivations) → IsList (loose_gaps_in s) s formula variable_count objects ds
+  pub closed_listed : (objects : List ℕ) (ds : Derivations) → IsList (loose_gaps_in s) s formula variable_count objects ds
       → (list : GapList) × Contains lists list × ((atom : Atom) → Contains list.gaps atom ↔ Contains (all_gaps_of ds) atom)
   closed_listed objects ds list =
       let found = are.each objects (list_of objects ds).gaps (ds, list, list_of-members objects ds) (list_of-set objects ds) in (

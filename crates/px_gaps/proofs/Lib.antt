@@ -25,5 +25,7 @@ mod ListBounds
 mod AtomBounds
 mod UseBounds
 mod BoundLoops
+mod Apartness
+mod AtomsBound
 pub mod Singles
 pub mod Substituting

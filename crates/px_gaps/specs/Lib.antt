@@ -3,6 +3,7 @@ pub mod Addable
 pub mod Apart
 pub mod Bindings
 pub mod Bounds
+pub mod ByAtoms
 pub mod Choices
 pub mod Closings
 pub mod Concluding

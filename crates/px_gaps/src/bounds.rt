@@ -266,7 +266,7 @@ fn bound_in(table: &[Option<Bound>], pred: u32) -> Option<Bound>
 }
 
 /// Returns the bound of a list that has a first atom of the one bound, and others of the other. `None` where a number is too great.
-fn beside(first: Bound, rest: Bound) -> Option<Bound>
+pub(crate) fn beside(first: Bound, rest: Bound) -> Option<Bound>
     ensures { IfSome result (λ both. both ≡ bound_beside first rest) }
 {
     let later = first.finished.checked_mul(rest.unfinished)?;

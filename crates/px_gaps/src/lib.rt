@@ -27,9 +27,13 @@
 //! The definitions are in `specs/`: `Needs` (formulas that are to be proved from facts, and when they have answers and gaps),
 //! `Questions` (what is asked of a list of them, and where that meets the limit), `Known` (what is known of them), `GapAnswers`
 //! (what one question of gaps says), `Bounds` (numbers of shapes) and `Addable` (the law). The others are about the way there; no public
-//! clause cites `Apart`, `Choices`, `Listed` and `Provable`.
+//! clause cites `Apart`, `ByAtoms`, `Choices`, `Listed` and `Provable`.
 //! Laws for callers are in `proofs/`, among them `GapLemmas` (the gaps of a formula and their limit, by what one question of gaps
 //! says of it), `GapLists` and `GapAtoms`.
+//!
+//! Where a formula has no variables, its atoms have their proofs apart from each other. So [`gaps`] asks about one atom after the other
+//! (`by_atoms`), if axioms conclude more than one of them, and if the shapes that the prover counts for each show that the whole formula
+//! stays below the limit. Otherwise, or where a question about an atom meets the limit, it asks about the whole formula.
 //!
 //! Internally one question of gaps (`gap_answer`) asks the prover for the gap patterns of a formula, and which of the atoms
 //! that they close have a proof. Atoms that differ only by the names of their variables are asked once (`forms`), with
@@ -51,6 +55,7 @@ mod asker;
 mod asking;
 mod bindings;
 mod bounds;
+mod by_atoms;
 mod choices;
 mod differences;
 mod facts;

@@ -96,6 +96,25 @@ fn insert_missing(
     Ok(())
 }
 
+/// Puts the atoms that the patterns close together with none of the provable ones into the set.
+pub(crate) fn insert_missing_by(
+    alloc: Global,
+    found: &mut Model,
+    limit: u32,
+    patterns: &[GapPattern],
+    provable: &Model,
+) -> Result<(), NoMemory>
+    requires patterns { All (IsPlainPattern limit) patterns.now }
+    requires provable { All IsGround provable.now.atoms }
+    ensures { OnOk result ((q : AtomValue) → Contains found.new.atoms q
+        ↔ (Contains found.old.atoms q ⊎ IsMissingIn (lists_of limit patterns.now) provable.now.atoms q)) }
+{
+    for pattern in patterns {
+        insert_missing(alloc, found, limit, pattern, provable)?;
+    }
+    Ok(())
+}
+
 /// Returns the atoms that the patterns close together with none of the provable ones.
 pub fn missing_by(
     alloc: Global,
@@ -109,8 +128,6 @@ pub fn missing_by(
         ↔ IsMissingIn (lists_of limit patterns.now) provable.now.atoms atom) }
 {
     let mut missing = Model::new(alloc);
-    for pattern in patterns {
-        insert_missing(alloc, &mut missing, limit, pattern, provable)?;
-    }
+    insert_missing_by(alloc, &mut missing, limit, patterns, provable)?;
     Ok(missing)
 }

@@ -46,7 +46,6 @@ use Rattle.px_printer.specs.declared.reply.Why.TheVariants as why
 use Rattle.px_printer.specs.declared.spelling.Spelling.TheVariants.{InRows}
 use Rattle.px_printer.specs.declared.turn.Turn.{Turn}
 use Rattle.px_tree.specs.declared.nodes.Tree.{Tree}
-use Rattle.px_script.specs.declared.command.About.TheVariants.{Show, Save, Certify}
 use Rattle.px_script.specs.declared.command.Command.{Command}
 use Rattle.px_script.specs.declared.command.Command.TheVariants as command
 use Rattle.px_script.specs.declared.limits.Limit.TheVariants.{Events as events}
@@ -592,9 +591,9 @@ module _ (problem : Problem) (valid : IsValid problem) (limits : IsCertifiablePr
   reply-bounded (command.Learn name source) own few answer new is = learning-bounded name source answer new is
   reply-bounded (command.Edit name source prefix wanted) own few answer new is =
       editing-bounded name source prefix wanted answer new is
-  reply-bounded (command.Ask Show name) own few answer new is = show-bounded name answer new is
-  reply-bounded (command.Ask Save name) own few answer new is = saving-bounded name answer new is
-  reply-bounded (command.Ask Certify name) own few answer new is = certifying-bounded name answer new is
+  reply-bounded (command.Show name) own few answer new is = show-bounded name answer new is
+  reply-bounded (command.Save name) own few answer new is = saving-bounded name answer new is
+  reply-bounded (command.Certify name) own few answer new is = certifying-bounded name answer new is
   reply-bounded (command.DisturbAtoms turn between edits) own few answer new is =
       notes-bounded (recorded_for turn between (map of_atoms edits)) answer new is
   reply-bounded (command.DisturbRooms turn between edits) own few answer new is =

@@ -9,6 +9,7 @@ pub mod Walks
 pub mod Parameters
 pub mod RowProofs
 -- lines by their rows
+pub mod RowTable
 pub mod Ones
 pub mod Views
 pub mod Made

@@ -1,5 +1,7 @@
 -- What the definitions see of rows and lines.
-use Rattle.std.specs.Prelude.{◌≡◌, Bool, List, IfSome, length}
+use Rattle.std.specs.Prelude.{◌≡◌, Bool, List, IfSome, codes, length, map, not}
+use Rattle.std.specs.List.{filter}
+use Rattle.std.specs.Str.{bytes_eq}
 use Rattle.px_script.specs.Declarations.{Declared}
 use Rattle.px_script.specs.Forms.{Forms}
 use Rattle.px_script.specs.Lexemes.{Lexeme}
@@ -11,6 +13,10 @@ use Rattle.px_lines.specs.declared.reading.Line.{Line}
 
 abbrev pub row_view : Row → rows.Row
 row_view r = record (rows.row r.word.now r.place r.manner r.ones.now r.last) { since = r.since }
+
+-- the rows of all words but that of a disturbance, whose row isn't the same in all scripts
+abbrev pub other_rows : Bool → List rows.Row
+other_rows with_building = filter (λ r. not (bytes_eq r.word (codes "disturb"))) (map (λ e. e.row) (rows.entries with_building))
 
 abbrev pub line_view : Line → lines.Line
 line_view l = rows.filled (row_view l.row) (said_items l.ones.items l.last)

@@ -9,8 +9,8 @@
 //!   may be (its [`Row`]), what the first tokens of the text say ([`Said`], one token each), and what those to its end say ([`Rest`]). It
 //!   is the line of the statement that the word and the text's tokens are (`Forms` of `px_script`), and there is none where they are no
 //!   statement. The text is gone over token by token, and no list of its tokens is made.
-//! - [`is_word`] returns whether a name may begin a line. The words stand in one table, `row_for` of `rows`; what a word's line has
-//!   follows from its row.
+//! - [`is_word`] returns whether a name may begin a line. The words stand in one table, `ROWS` of `rows`, but for `disturb`; what a
+//!   word's line has follows from its row.
 //! - [`open_of`] returns what a word says of a door.
 //! - A line borrows its texts from the input.
 //!

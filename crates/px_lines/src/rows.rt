@@ -1,9 +1,10 @@
 //! The table of the words.
-ghost use Rattle.std.specs.Prelude.{◌≡◌, ◌++◌, IfSome};
+ghost use Rattle.std.specs.Prelude.{◌≡◌, Bool, codes, false, map};
 ghost use Rattle.std.specs.Option.{option_map};
-ghost use Rattle.px_script.specs.Rows.{disturb_row, entries_of_commands, entries_of_tables, entries_of_three, entries_of_two, is_of, newer, row_among, row as spec_row, row_of};
+ghost use Rattle.std.specs.Str.{bytes_eq};
+ghost use Rattle.px_script.specs.Rows.{disturb_row, is_of, row_of};
 ghost use Rattle.px_script.specs.Limits.{is_word};
-ghost use Rattle.px_lines.specs.LineViews.{row_view};
+ghost use Rattle.px_lines.specs.LineViews.{other_rows, row_view};
 
 use px_script::{Block, Choice, Last, Manner, Named, One, Place};
 
@@ -78,237 +79,89 @@ const TREE: [One; 2] = [One::New(Named::Result), One::Number];
 
 const DISTURB: [One; 2] = [One::Number, One::Word(Choice::Time)];
 
-fn described(
-    word: &'static str,
-    place: Place,
-    manner: Manner,
-    ones: &'static [One],
-    last: Last,
-) -> Row
-    ensures { row_view result ≡ spec_row word.now place manner ones.now last }
-{
-    Row {
-        word,
-        since: 1,
-        place,
-        manner,
-        ones,
-        last,
-    }
+/// Writes a row: its word, the first version that has it, where its line may stand, what its atoms may be, what its first tokens after the
+/// word are there for, and what the others are.
+macro_rules! row {
+    ($word:expr => $since:expr, $place:expr, $manner:expr, $ones:expr, $last:expr) => {
+        Row {
+            word: $word,
+            since: $since,
+            place: $place,
+            manner: $manner,
+            ones: $ones,
+            last: $last,
+        }
+    };
 }
 
-fn plain(word: &'static str, place: Place, ones: &'static [One], last: Last) -> Row
-    ensures { row_view result ≡ spec_row word.now place Manner.Plain ones.now last }
-{
-    described(word, place, Manner::Plain, ones, last)
-}
+/// The rows of all words but `disturb`, whose row isn't the same in all scripts, in the order of the table of `px_script`.
+static ROWS: [Row; 36] = [
+    row!("script" => 1, Place::First, Manner::Plain, &NUMBER, Last::Nothing),
+    row!("object" => 1, Place::Domain, Manner::Plain, &NONE, Last::New(Named::Object)),
+    row!("predicate" => 1, Place::Domain, Manner::Plain, &PREDICATE, Last::Nothing),
+    row!("axiom" => 1, Place::Domain, Manner::Literals, &NONE, Last::Atoms),
+    row!("operator" => 1, Place::Opens(Block::Operator), Manner::Plain, &OPERATOR, Last::Listed(Named::Parameter)),
+    row!("pre" => 1, Place::Inside(Block::Operator), Manner::Plain, &NONE, Last::Atoms),
+    row!("delete" => 1, Place::Inside(Block::Operator), Manner::Patterns, &NONE, Last::Atoms),
+    row!("add" => 1, Place::Inside(Block::Operator), Manner::Plain, &NONE, Last::Atoms),
+    row!("building" => 1, Place::Opens(Block::Building), Manner::Plain, &NONE, Last::Nothing),
+    row!("room" => 1, Place::Inside(Block::Building), Manner::Plain, &ROOM, Last::Nothing),
+    row!("door" => 1, Place::Inside(Block::Building), Manner::Plain, &DOOR, Last::Nothing),
+    row!("box" => 1, Place::Inside(Block::Building), Manner::Plain, &BOX, Last::Nothing),
+    row!("robot" => 1, Place::Inside(Block::Building), Manner::Plain, &ROBOT, Last::Nothing),
+    row!("end" => 1, Place::Closes, Manner::Plain, &NONE, Last::Nothing),
+    row!("fact" => 1, Place::Domain, Manner::Plain, &NONE, Last::Atoms),
+    row!("height" => 1, Place::Setting, Manner::Plain, &NUMBER, Last::Nothing),
+    row!("nodes" => 1, Place::Setting, Manner::Plain, &NUMBER, Last::Nothing),
+    row!("shapes" => 1, Place::Setting, Manner::Plain, &NUMBER, Last::Nothing),
+    row!("plan" => 1, Place::Command, Manner::Goals, &PLAN, Last::Atoms),
+    row!("learn" => 1, Place::Command, Manner::Plain, &LEARN, Last::Nothing),
+    row!("show" => 1, Place::Command, Manner::Plain, &TABLE, Last::Nothing),
+    row!("run" => 1, Place::Command, Manner::Plain, &TABLE, Last::Bindings),
+    row!("facts" => 1, Place::Command, Manner::Plain, &NONE, Last::Nothing),
+    row!("sort" => 2, Place::Domain, Manner::Plain, &SORT, Last::New(Named::Object)),
+    row!("param" => 2, Place::Inside(Block::Operator), Manner::Plain, &PARAM, Last::Known(Named::Parameter)),
+    row!("table" => 2, Place::Opens(Block::TableSteps), Manner::Plain, &NEW_TABLE, Last::Nothing),
+    row!("step" => 2, Place::Inside(Block::TableSteps), Manner::TableTerms, &STEP, Last::Arguments),
+    row!("goal" => 2, Place::Inside(Block::TableSteps), Manner::TableGoals, &NONE, Last::Atoms),
+    row!("proof" => 2, Place::Inside(Block::TableRows), Manner::TableTerms, &NONE, Last::Proofs),
+    row!("save" => 2, Place::Command, Manner::Plain, &TABLE, Last::Nothing),
+    row!("certify" => 2, Place::Command, Manner::Plain, &TABLE, Last::Nothing),
+    row!("edit" => 2, Place::Command, Manner::Plain, &EDIT, Last::Pairs),
+    row!("duo" => 2, Place::Command, Manner::Plain, &DUO, Last::Numbers),
+    row!("pursue" => 2, Place::Command, Manner::Goals, &RESULT, Last::Atoms),
+    row!("weight" => 3, Place::Setting, Manner::Plain, &NUMBER, Last::Nothing),
+    row!("tree" => 3, Place::Command, Manner::Goals, &TREE, Last::Atoms),
+];
 
-/// Returns the row of a word that this version is the first to have.
-fn since(
-    version: u32,
-    word: &'static str,
-    place: Place,
-    manner: Manner,
-    ones: &'static [One],
-    last: Last,
-) -> Row
-    ensures { row_view result ≡ newer version (spec_row word.now place manner ones.now last) }
-{
-    Row {
-        word,
-        since: version,
-        place,
-        manner,
-        ones,
-        last,
-    }
-}
-
-/// Returns the row of a word that version 2 is the first to have, and whose atoms, if it has some, have names alone.
-fn of_two(word: &'static str, place: Place, ones: &'static [One], last: Last) -> Row
-    ensures { row_view result ≡ newer 2 (spec_row word.now place Manner.Plain ones.now last) }
-{
-    since(2, word, place, Manner::Plain, ones, last)
-}
-
-/// Returns the row of a line of a table's block.
-fn in_table(
-    word: &'static str,
-    block: Block,
-    manner: Manner,
-    ones: &'static [One],
-    last: Last,
-) -> Row
-    ensures { row_view result ≡ newer 2 (spec_row word.now (Place.Inside block) manner ones.now last) }
-{
-    since(2, word, Place::Inside(block), manner, ones, last)
-}
-
+/// Returns the row of `disturb`.
 fn disturbance(with_building: bool) -> Row
     ensures { row_view result ≡ disturb_row with_building }
 {
     if with_building {
-        described(
-            "disturb",
-            Place::Command,
-            Manner::RoomChanges,
-            &DISTURB,
-            Last::RoomEdits,
-        )
+        row!("disturb" => 1, Place::Command, Manner::RoomChanges, &DISTURB, Last::RoomEdits)
     } else {
-        described(
-            "disturb",
-            Place::Command,
-            Manner::AtomChanges,
-            &DISTURB,
-            Last::Atoms,
-        )
+        row!("disturb" => 1, Place::Command, Manner::AtomChanges, &DISTURB, Last::Atoms)
     }
 }
 
-/// Returns the row of a word that version 3 is the first to have.
-fn row_of_three(word: &str) -> Option<Row>
-    ensures { option_map row_view result ≡ row_among word.now entries_of_three }
+/// Returns the row of a word that isn't `disturb`.
+fn row_among(rows: &[Row], word: &str) -> Option<Row>
+    requires { (with_building : Bool) → map row_view rows.now ≡ other_rows with_building }
+    ensures { (with_building : Bool) → bytes_eq word.now (codes "disturb") ≡ false
+        → option_map row_view result ≡ row_of with_building word.now }
 {
-    match word {
-        "weight" => Some(since(
-            3,
-            "weight",
-            Place::Setting,
-            Manner::Plain,
-            &NUMBER,
-            Last::Nothing,
-        )),
-        "tree" => Some(since(3, "tree", Place::Command, Manner::Goals, &TREE, Last::Atoms)),
-        _ => None,
-    }
-}
-
-/// Returns the row of a command of version 2, or of a word that version 3 is the first to have.
-fn row_of_commands(word: &str) -> Option<Row>
-    ensures { option_map row_view result ≡ row_among word.now (entries_of_commands ++ entries_of_three) }
-{
-    match word {
-        "save" => Some(of_two("save", Place::Command, &TABLE, Last::Nothing)),
-        "certify" => Some(of_two("certify", Place::Command, &TABLE, Last::Nothing)),
-        "edit" => Some(of_two("edit", Place::Command, &EDIT, Last::Pairs)),
-        "duo" => Some(of_two("duo", Place::Command, &DUO, Last::Numbers)),
-        "pursue" => Some(since(
-            2,
-            "pursue",
-            Place::Command,
-            Manner::Goals,
-            &RESULT,
-            Last::Atoms,
-        )),
-        _ => row_of_three(word),
-    }
-}
-
-/// Returns the row of a word of a table's block, or of one of those.
-fn row_of_tables(word: &str) -> Option<Row>
-    ensures { option_map row_view result ≡ row_among word.now (entries_of_tables ++ (entries_of_commands ++ entries_of_three)) }
-{
-    match word {
-        "table" => Some(of_two(
-            "table",
-            Place::Opens(Block::TableSteps),
-            &NEW_TABLE,
-            Last::Nothing,
-        )),
-        "step" => Some(in_table(
-            "step",
-            Block::TableSteps,
-            Manner::TableTerms,
-            &STEP,
-            Last::Arguments,
-        )),
-        "goal" => Some(in_table(
-            "goal",
-            Block::TableSteps,
-            Manner::TableGoals,
-            &NONE,
-            Last::Atoms,
-        )),
-        "proof" => Some(in_table(
-            "proof",
-            Block::TableRows,
-            Manner::TableTerms,
-            &NONE,
-            Last::Proofs,
-        )),
-        _ => row_of_commands(word),
-    }
-}
-
-/// Returns the row of a word that version 2 or a later one is the first to have.
-fn row_of_two(word: &str) -> Option<Row>
-    ensures { option_map row_view result ≡ row_among word.now (entries_of_two ++ entries_of_three) }
-{
-    match word {
-        "sort" => Some(of_two("sort", Place::Domain, &SORT, Last::New(Named::Object))),
-        "param" => Some(of_two(
-            "param",
-            Place::Inside(Block::Operator),
-            &PARAM,
-            Last::Known(Named::Parameter),
-        )),
-        _ => row_of_tables(word),
-    }
+    rows.iter().find(|row| word == row.word).copied()
 }
 
 /// Returns the row of a word, in a script with or without a building so far. Does not allocate.
 pub fn row_for(with_building: bool, word: &str) -> Option<Row>
     ensures { option_map row_view result ≡ row_of with_building word.now }
 {
-    match word {
-        // first, since most lines of a long script are facts
-        "fact" => Some(plain("fact", Place::Domain, &NONE, Last::Atoms)),
-        "script" => Some(plain("script", Place::First, &NUMBER, Last::Nothing)),
-        "object" => Some(plain("object", Place::Domain, &NONE, Last::New(Named::Object))),
-        "predicate" => Some(plain("predicate", Place::Domain, &PREDICATE, Last::Nothing)),
-        "axiom" => Some(described("axiom", Place::Domain, Manner::Literals, &NONE, Last::Atoms)),
-        "operator" => Some(plain(
-            "operator",
-            Place::Opens(Block::Operator),
-            &OPERATOR,
-            Last::Listed(Named::Parameter),
-        )),
-        "pre" => Some(plain("pre", Place::Inside(Block::Operator), &NONE, Last::Atoms)),
-        "delete" => Some(described(
-            "delete",
-            Place::Inside(Block::Operator),
-            Manner::Patterns,
-            &NONE,
-            Last::Atoms,
-        )),
-        "add" => Some(plain("add", Place::Inside(Block::Operator), &NONE, Last::Atoms)),
-        "building" => Some(plain(
-            "building",
-            Place::Opens(Block::Building),
-            &NONE,
-            Last::Nothing,
-        )),
-        "room" => Some(plain("room", Place::Inside(Block::Building), &ROOM, Last::Nothing)),
-        "door" => Some(plain("door", Place::Inside(Block::Building), &DOOR, Last::Nothing)),
-        "box" => Some(plain("box", Place::Inside(Block::Building), &BOX, Last::Nothing)),
-        "robot" => Some(plain(
-            "robot",
-            Place::Inside(Block::Building),
-            &ROBOT,
-            Last::Nothing,
-        )),
-        "end" => Some(plain("end", Place::Closes, &NONE, Last::Nothing)),
-        "height" => Some(plain("height", Place::Setting, &NUMBER, Last::Nothing)),
-        "nodes" => Some(plain("nodes", Place::Setting, &NUMBER, Last::Nothing)),
-        "shapes" => Some(plain("shapes", Place::Setting, &NUMBER, Last::Nothing)),
-        "plan" => Some(described("plan", Place::Command, Manner::Goals, &PLAN, Last::Atoms)),
-        "learn" => Some(plain("learn", Place::Command, &LEARN, Last::Nothing)),
-        "show" => Some(plain("show", Place::Command, &TABLE, Last::Nothing)),
-        "disturb" => Some(disturbance(with_building)),
-        "run" => Some(plain("run", Place::Command, &TABLE, Last::Bindings)),
-        "facts" => Some(plain("facts", Place::Command, &NONE, Last::Nothing)),
-        _ => row_of_two(word),
+    if word == "disturb" {
+        Some(disturbance(with_building))
+    } else {
+        row_among(&ROWS, word)
     }
 }
 

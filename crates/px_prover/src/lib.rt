@@ -44,6 +44,9 @@
 //! [`gap_closings`] has the same conditions and errors, and returns patterns without terms: the atoms that gaps close together,
 //! whatever the objects for the formula's variables. Lists that close the same atoms are mostly one then; no clause says how few they are.
 //!
+//! [`count_shapes`] has the same conditions, and counts the shapes of unfinished and of finished lists, with gaps, where they are fewer
+//! together than the shape limit and than 1,024. No clause says that so many exist, but that no more do.
+//!
 //! Facts with objects outside the problem are passed over. What these words mean is said in `px_question`: trees without
 //! variables, one for each atom, and nothing of how they are found. Each answer is exact: it comes only where its meaning
 //! holds, and the answers of a call exclude each other.
@@ -57,12 +60,13 @@
 //! Where there are more than a few, a walk that gathers nothing tells first whether they are too many. `gap_lists` puts all objects in the
 //! place of their variables.
 //!
-//! Of the files of `specs/`, public clauses cite `Limits`, `Outcomes`, `PatternLists` and `Patterns`; only private functions cite the
-//! others.
+//! Of the files of `specs/`, public clauses cite `Counting`, `Limits`, `Outcomes`, `PatternLists` and `Patterns`; only private functions
+//! cite the others.
 #![tactic(auto)]
 
 mod attempts;
 mod building;
+mod counting;
 mod first;
 mod gap_question;
 mod gathering;
@@ -77,6 +81,7 @@ mod question;
 mod tuples;
 mod walking;
 
+pub use counting::{ShapeCount, count_shapes};
 pub use first::prove;
 pub use laws::patterns_are_lists;
 pub use limits::MOST_GAP_VARIABLES;

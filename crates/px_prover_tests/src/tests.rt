@@ -3,7 +3,9 @@ ghost use Rattle.std.specs.Prelude.{◌<◌, ◌≤◌, All};
 ghost use Rattle.px_terms.specs.Validity.{IsValid, IsAtomOf};
 
 use px_ops::Model;
-use px_prover::{ProveErr, gap_closings, gap_lists, gap_patterns, patterns_are_lists, prove};
+use px_prover::{
+    ProveErr, count_shapes, gap_closings, gap_lists, gap_patterns, patterns_are_lists, prove,
+};
 use px_samples::{
     add_axiom, atom, box_in_first_room, is_box, is_in, model_of, no, o, opening, problem_of, rooms,
     schema, v, yes,
@@ -85,4 +87,24 @@ fn closings_leave_out_what_is_chosen(rt: HostRuntime) {
     assert!(&rt; matches!(&found, Ok(patterns) if patterns.len() == 4));
     let found = gap_closings(alloc, &problem, &formula, 1, &model);
     assert!(&rt; matches!(&found, Ok(closings) if closings.len() == 2));
+}
+
+/// The atom may be closed by a fact or by a gap, or be open. Three shapes are too many where the limit is three.
+#[test]
+fn shapes_are_counted(rt: HostRuntime) {
+    let alloc = rt.alloc();
+    let put = schema(alloc, (0, 1), &[], &[], &[atom(0, &[v(0)])]).expect(&rt, "memory");
+    let axioms = ClauseArena::new(alloc);
+    let mut problem = problem_of(alloc, 3, &[1], axioms, [put]).expect(&rt, "memory");
+    let formula = [atom(0, &[o(0)])];
+    let model = model_of(alloc, &formula).expect(&rt, "memory");
+    assert_asked(&rt, &problem, &formula, 0);
+    let counted = count_shapes(alloc, &problem, &formula, 0, &model);
+    assert!(&rt;
+        matches!(&counted, Ok(Some(count)) if count.unfinished == 1 && count.finished == 2)
+    );
+    problem.shapes = 3;
+    assert_asked(&rt, &problem, &formula, 0);
+    let counted = count_shapes(alloc, &problem, &formula, 0, &model);
+    assert!(&rt; matches!(&counted, Ok(None)));
 }

@@ -1,5 +1,5 @@
 -- Lines without what ends them, and what reading a line shows.
-use Rattle.px_reader.proofs.Common.{AllByRecursion, IsNameLexeme, all_scalars, spelling, subst, ◌≡◌, ◌≢◌, ℕ, ◌+◌, ◌-◌, ◌<◌, Bool, true, List, [], ◌∷◌, ◌++◌, take, drop, length, get_or, refl, sym, ap, ◌∙◌, inl, inr, arith, Option, None, Some, Result, Ok, Err, IfOk, IfSome, slice_index, ◌==◌, bytes_eq, eqb-true, take-append-drop, take_more, take_all, bytes_eq-Decides, Lexeme, Lexes, mark, without_mark, without_return, Statement, Line, line_of, Forms, begins_with_word, is_formed, Declared, coded, Stage, Fails, parse-complete, by_test, HasFault, LineEnds, HasCharAt, after_line, MatchOption}
+use Rattle.px_reader.proofs.Common.{AllByRecursion, IsNameLexeme, all_scalars, spelling, subst, ◌≡◌, ◌≢◌, ℕ, ◌+◌, ◌-◌, ◌<◌, Bool, true, List, [], ◌∷◌, ◌++◌, take, drop, length, get_or, refl, sym, ap, ◌∙◌, inl, inr, arith, Option, None, Some, Result, Ok, Err, IfOk, slice_index, ◌==◌, bytes_eq, eqb-true, take-append-drop, take_more, take_all, bytes_eq-Decides, Lexeme, Lexes, mark, without_mark, without_return, Statement, Line, line_of, Forms, begins_with_word, Declared, coded, Stage, Fails, by_test, HasFault, LineEnds, HasCharAt, after_line, MatchOption}
 use Rattle.px_lines.proofs.Scans.{whole-lexed, not-lexed as not-lexed-text}
 use Rattle.px_lines.specs.Tokens.{is_whole, lexemes_in}
 use Rattle.px_script.proofs.Lexing.{Begins-same, Begins-not-ignored}
@@ -8,10 +8,9 @@ use Rattle.std.specs.Str.{chars}
 use Rattle.std.specs.Prelude.{encode_utf8, false}
 use Rattle.px_base.specs.declared.no_memory.NoMemory.{NoMemory}
 use Rattle.px_causes.specs.declared.line_fault.LineFault.{LineFault}
-use Rattle.std.specs.Option.{option_and_then}
 use Rattle.px_lines.proofs.Walks.{some-same}
-use Rattle.px_script.proofs.ReadRows.{IsLineOf, formed-sound}
-use Rattle.px_script.specs.Rows.{formed_line, statement_of}
+use Rattle.px_script.proofs.ReadRows.{made-of}
+use Rattle.px_script.specs.Rows.{statement_of}
 use Rattle.px_script.specs.Declarations.{has_building}
 use Rattle.px_effects.proofs.Fresh.{lexemes-named}
 use lib.Utf8.{encode}
@@ -39,18 +38,9 @@ unreturned (b ∷ bs) none = by_test (slice_index (b ∷ bs) (length (b ∷ bs) 
 
 -- A line was read of the lexemes, which is that of a statement.
 module _ (d : Declared) (lexemes : List Lexeme) where
-  -- the line of the statement that the lexemes are makes it again
-  statement-again : (s : Statement) → Forms d lexemes s → statement_of (has_building d) (line_of s) ≡ Some s
-  statement-again s forms = by_line (formed_line d lexemes) (formed-sound d lexemes) (parse-complete d lexemes s forms)
-    where
-      by_line : (o : Option Line) → IfSome o (λ l. IsLineOf (has_building d) lexemes l × (is_formed d l ≡ true))
-          → option_and_then (statement_of (has_building d)) o ≡ Some s → statement_of (has_building d) (line_of s) ≡ Some s
-      by_line None sound parsed = cc
-      by_line (Some l) sound parsed = subst (λ t. statement_of (has_building d) t ≡ Some s) (sym (sound.0.1 s parsed)) parsed
-
   module _ (b : Bool) (building : has_building d ≡ b) (l : Line) (read : (s : Statement) × Forms d lexemes s × (l ≡ line_of s)) where
     made : statement_of b l ≡ Some read.0
-    made = ap (λ t. statement_of t l) (sym building) ∙ ap (statement_of (has_building d)) read.2 ∙ statement-again read.0 read.1
+    made = ap (λ t. statement_of t l) (sym building) ∙ ap (statement_of (has_building d)) read.2 ∙ made-of d read.0 read.1.1
 
     -- what is made of the line is the statement, and the line is the statement's
     pub is-statement : (s : Statement) → Some s ≡ statement_of b l → Forms d lexemes s × (line_of s ≡ l)

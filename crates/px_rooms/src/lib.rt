@@ -31,18 +31,12 @@
 
 mod action;
 mod adding;
-#[cfg(test)]
-mod all_states;
 mod building;
 mod change;
 mod errors;
 mod fact_counts;
 mod facts;
 mod laws;
-#[cfg(test)]
-mod pair;
-#[cfg(test)]
-mod plain;
 mod problem;
 mod robots;
 mod standing;

@@ -34,7 +34,12 @@ pub(crate) fn check<S: Source, K: Sink>(alloc: Global, source: &mut S, sink: &mu
         Err(unread) => return unread,
     };
     match read_cert(alloc, &bytes) {
-        Ok(cert) => judge(alloc, &cert, sink),
+        Ok(cert) => {
+            let status = judge(alloc, &cert, sink);
+            // by a call, which is proved once: where a scope ends, the proof takes each part by itself
+            drop(cert);
+            status
+        }
         Err(CertErr::BadCert { line }) => refuse(
             alloc,
             Refused {

@@ -94,7 +94,10 @@ fn count_answer(session: &mut Session, place: usize, counts: Counts) -> Result<C
     ensures { IfOk result (IsAnswerCount session.old session.new counts) }
 {
     let reply = lawful_reply(session, place)?;
-    with_reply(counts, &reply)
+    let more = with_reply(counts, &reply);
+    // by a call, which is proved once: where a scope ends, the proof takes each part by itself
+    drop(reply);
+    more
 }
 
 /// Answers all commands of a session of which none is done, and counts the replies.

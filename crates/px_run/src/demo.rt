@@ -60,7 +60,12 @@ fn summary(alloc: Global, script: Script, rooms: u32, seed: u32) -> Result<Vec<u
     ensures { IfOk result (λ text. IsSumOf rooms seed (opened_session (content script)) text.items) }
 {
     match Session::new(alloc, script) {
-        Ok(mut session) => session_summary(alloc, &mut session, rooms, seed),
+        Ok(mut session) => {
+            let text = session_summary(alloc, &mut session, rooms, seed);
+            // by a call, which is proved once: where a scope ends, the proof takes each part by itself
+            drop(session);
+            text
+        }
         Err(NoMemory) => Err(NoMemory),
     }
 }

@@ -59,7 +59,10 @@ fn answer_text(alloc: Global, session: &mut Session, place: usize) -> Result<Vec
     ensures { IfOk result (λ text. IsAnswerText session.old session.new text.items) }
 {
     let reply = lawful_reply(session, place)?;
-    text_of(alloc, &reply, session)
+    let text = text_of(alloc, &reply, session);
+    // by a call, which is proved once: where a scope ends, the proof takes each part by itself
+    drop(reply);
+    text
 }
 
 /// Returns a lawful reply to the command at the place, the next one.

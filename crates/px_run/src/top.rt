@@ -189,7 +189,12 @@ fn answer<K: Sink>(alloc: Global, script: Script, sink: &mut K) -> Status
     ensures nature { K.sure sink.new ≡ K.sure sink.old }
 {
     match Session::new(alloc, script) {
-        Ok(mut session) => execute(alloc, &mut session, sink),
+        Ok(mut session) => {
+            let status = execute(alloc, &mut session, sink);
+            // by a call, which is proved once: where a scope ends, the proof takes each part by itself
+            drop(session);
+            status
+        }
         Err(NoMemory) => Status::NoMemory,
     }
 }

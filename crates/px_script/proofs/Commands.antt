@@ -1,7 +1,7 @@
 -- One more command keeps commands in range, and so does another problem with the same objects.
 use Rattle.std.proofs.lemmas.List.FromFn.{map-range_with_len_more}
 use Rattle.px_script.proofs.Common.{flat_map-append, append_assoc, append-nil, length, Bool, Option, ◌≡◌, ℕ, ◌+◌, ◌≤◌, true, false, ◌||◌, ◌==◌, List, [], ◌∷◌, ◌++◌, refl, sym, ap, ◌∙◌, subst, arith, map-id, All, Some, fold, flat_map, list_any, range_with_len, scan, nat_tests, or_right, list_any-append, Problem, Thing, Command, CommandsInRange, IsCommandOf, IsAmong, disturbs_after}
-use Rattle.px_script.specs.declared.command.Command.TheVariants.{Plan, Learn, Ask, DisturbAtoms, Run, Duo, Edit, Pursue, Tree}
+use Rattle.px_script.specs.declared.command.Command.TheVariants.{Plan, Learn, DisturbAtoms, DisturbRooms, Facts, Run, Duo, Edit, Pursue, Tree}
 use Rattle.px_script.proofs.Problems.{Grows, atoms-kept}
 
 pub one-more-result : (old : ℕ) → range_with_len 0 old ++ old ∷ [] ≡ range_with_len 0 (old + 1)
@@ -19,12 +19,14 @@ more-results version problem building old new le (Plan name goal variable_count)
 more-results version problem building old new le (Pursue name goal variable_count) h = (omega (arith, h.0, le), h.1)
 more-results version problem building old new le (Tree name nodes goal variable_count) h = (omega (arith, h.0, le), h.1, h.2)
 more-results version problem building old new le (Learn name source) h = (omega (arith, h.0, le), omega (arith, h.1, le))
-more-results version problem building old new le (Ask about name) h = omega (arith, h, le)
 more-results version problem building old new le (Run name bindings) h = (omega (arith, h.0, le), h.1, h.2)
 more-results version problem building old new le (Duo first second events) h = (omega (arith, h.0, le), omega (arith, h.1, le), h.2)
 more-results version problem building old new le (Edit name source prefix wanted) h =
     (omega (arith, h.0, le), omega (arith, h.1, le), h.2, h.3)
-more-results version problem building old new le _ h = h
+more-results version problem building old new le (DisturbAtoms turn between edits) h = h
+more-results version problem building old new le (DisturbRooms turn between edits) h = h
+more-results version problem building old new le Facts h = h
+more-results version problem building old new le _ h = omega (arith, h, le)
 
 -- what commands give, with one more of them
 module _ (gives : Command → List ℕ) (first : List ℕ) (commands : List Command) (c : Command) (k : ℕ) where

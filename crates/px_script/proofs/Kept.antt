@@ -6,7 +6,7 @@ use Rattle.px_base.specs.Bounds.{u32_max}
 use Rattle.px_rooms.proofs.Valid.{buildings_are_valid}
 use Rattle.px_rooms.proofs.Belonging.{facts-are-atoms}
 use Rattle.px_script.proofs.Common.{both_ways, robot_name, room_schemas, building_rules, thing_at, no_schema, ◌≡◌, ◌≢◌, ℕ, ◌+◌, ◌<◌, ◌≤◌, Bool, true, false, not, ◌||◌, List, [], ◌∷◌, ◌++◌, map, length, refl, sym, ap, ◌∙◌, subst, arith, leb-true, append-nil, length-append, nat_lt, nat_le, Option, None, Some, is_some, IfSome, All, slice_index_or, list_any, option_map, not-false, not-true, length-map, All-append, All-map, All-from_recursion, All-nil, cases_lt, inl, inr, range_with_len, slice_index, if◌then◌else◌, both_answers, has_name, bytes_eq, bytes_eq-itself, Standing, a_room, a_door, a_box, IsBoxAt, IsDoorAt, IsRoomAt, first_state, rendering, robot_rooms, standings, standings-more, Atom, Problem, IsAtomOf, IsPatternOf, Thing, codes, All-push, NameLists, IsSchemaOf, Lexeme, lines_of, SignedAtom, is_empty, Statement, Block, plain, inside, operator_block, building_block, line_of, script, «axiom», operator, end, fact, of_weight, building_with, filled_up, with_sort, greatest, of_height, of_nodes, of_shapes, Command, Declared, OpenBlock, BlockKind, OpenOperator, of_operator, of_building, kind_of_block, number_in, atom_of, nothing_declared, after_line, predicate_names, predicate_arities, operator_names, ScriptValue, own_problem, content_of, is_robot, may_stand, is_long, repeats, same_block, has_two_domains, fault_at, is_formed, AreNamesOf, AreNumbered, HasShortLists, IsInRange, IsThingAfter, PassesLexemes, PassAll, IsScript, IsBuiltCommand, IsOfStage, Stage, whole_language, is_built, get_or-append, table, step, goal, proof, WrittenTable, of_table_steps, of_table_rows, table_steps, table_rows, Table, IsSavedTable, problem_of, CommandsInRange}
-use Rattle.px_script.specs.Statements.{object, predicate, pre, delete, add, building, room, door, box, robot, height, nodes, shapes, weight, plan, learn, ask, disturb_atoms, disturb_rooms, run, sort, param, facts, duo, edit, pursue, tree}
+use Rattle.px_script.specs.Statements.{object, predicate, pre, delete, add, building, room, door, box, robot, height, nodes, shapes, weight, plan, learn, ask, Show, disturb_atoms, disturb_rooms, run, sort, param, facts, duo, edit, pursue, tree}
 use Rattle.px_world.specs.declared.thing.Thing.TheVariants as thing
 use Rattle.px_script.specs.Limits as limit
 use Rattle.px_script.proofs.Atoms.{atoms-right, atoms-with, patterns-with, AreRight}
@@ -576,6 +576,7 @@ module _ (stage : Stage) where
 
     line-of-stage : (s : Statement) → is_built stage (line_of s).word ≡ true → AreOfStage (after_line n d s)
     line-of-stage building built = record { building = λ is. built; commands = r.commands }
+    line-of-stage (ask Show n) built = search (command-more)
     line-of-stage _ built = search (thing-more, command-more)
 
   pub of-stage : (bytes : List ℕ) (content : ScriptValue) → IsScript stage bytes content → IsOfStage stage content

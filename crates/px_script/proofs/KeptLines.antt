@@ -2,8 +2,8 @@
 use Rattle.std.proofs.lemmas.List.Kept.{AllPairs-cons}
 use Rattle.px_base.specs.Bounds.{u32_max}
 use Rattle.px_script.proofs.Common.{table_given, IsTableBefore, IsSavedTable, problem_of, problem_here, replicate-append-replicate, replicate, ◌-◌, fold-append, flat_map-append, IsClause, no_schema, ◌≡◌, ◌≢◌, ℕ, suc, ◌+◌, ◌<◌, ◌≤◌, Bool, true, false, not, ◌&&◌, ◌||◌, ◌==◌, List, [], ◌∷◌, ◌++◌, map, length, refl, sym, ap, ◌∙◌, subst, arith, leb-true, length-append, nat_lt, nat_le, Option, None, Some, is_some, unwrap_or, All, AllPairs, AllByRecursion, slice_index_or, list_any, list_all, flat_map, filter, range_with_len, append_assoc, get_or-map, and_parts, or_parts, or_right, nat_tests, length-map, All-append, All-cons, All-map, All-nil, All-push, both_answers, All-at, All-each, set_of-is_sorted, set_of-members, has_name, IsBoxAt, IsDoorAt, IsRoomAt, first_state, standings, Clause, Schema, Problem, atom_set, atom_cmp, atom_cmp-total, atom_cmp-same, IsAtomOf, Thing, EachIndex, NameLists, IsAxiomOf, append-nil, IsSchemaOf, Standing, Atom, Named, SignedAtom, Sign, WrittenRoomEdit, Binding, bare, robot_to, box_to, door_to, is_empty, is_parameter_number, wanted_by_edit, an_object, plain, literals, goals, atom_changes, line_of, script, «axiom», operator, fact, Statement, of_tree, IsGoalOf, Line, varies_too_early, filled_up, of_version, Bounds, greatest, of_height, of_nodes, of_shapes, of_turn, Command, Declared, Roles, operator_here, parameters_here, parameters_of, names_here, number_in, variable_names_of, atom_of, literal_of, clause_of, atom_edit_of, edit_by, room_edit_of, binding_of, after_line, own_problem, is_long, repeats, disturbance_limits, AreNumbered, AreRoomEditsOf, CommandsInRange, HasTurn, IsAmong, IsBindingOf, IsCommandOf, IsEditOf, IsWithin, NamesEarlier, disturbs_after, plan_given, result_given, AreNamesOf, all_disturbs, of_executor, outside}
-use Rattle.px_script.specs.declared.command.Command.TheVariants.{Pursue, Tree, Plan, Learn, Ask, DisturbAtoms, DisturbRooms, Run, Facts, Duo, Edit}
-use Rattle.px_script.specs.Statements.{object, predicate, plan, learn, About, ask, disturb_atoms, disturb_rooms, run, pursue, tree, sort, facts, duo, edit}
+use Rattle.px_script.specs.declared.command.Command.TheVariants.{Pursue, Tree, Plan, Learn, DisturbAtoms, DisturbRooms, Run, Facts, Duo, Edit}
+use Rattle.px_script.specs.Statements.{object, predicate, plan, learn, About, Show, ask, command_about, disturb_atoms, disturb_rooms, run, pursue, tree, sort, facts, duo, edit}
 use Rattle.px_script.specs.Items.{last_parameter}
 use Rattle.px_rooms.specs.Changes.{IsAdmitted}
 use Rattle.px_terms.specs.Limits.{most_nodes, most_weight}
@@ -528,7 +528,9 @@ module _ (n : ℕ) (d : Declared) where
         at-name (λ m. IsTableBefore first d.commands (number_in m d.names.results)) d.roles.tables name r.results.tables known
 
     pub ask-kept : (about : About) (name : List ℕ) → Keeps n top (ask about name)
-    ask-kept about name f = plain-kept (Ask about (number_in name d.names.results)) refl f.limits.0 r.few_disturbs
+    ask-kept Show name f = plain-kept (command_about Show (number_in name d.names.results)) refl f.limits.0 r.few_disturbs
+        (known-result name f.known.0) (named-earlier name f.known.0)
+    ask-kept about name f = plain-kept (command_about about (number_in name d.names.results)) refl f.limits.0 r.few_disturbs
         (known-result name f.known.0) (named-earlier name f.known.0)
 
     pub facts-kept : Keeps n top facts

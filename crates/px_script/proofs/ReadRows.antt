@@ -189,11 +189,15 @@ made-again d (ask about n) formed = ap (λ (o : Option Entry). option_and_then (
     (ask-entry (has_building d) about).1
 made-again d _ formed = refl
 
+-- so the statement of a line in its form undoes its description
+pub made-of : (d : Declared) (s : Statement) → is_formed d (line_of s) ≡ true → statement_of (has_building d) (line_of s) ≡ Some s
+made-of d s formed = made-again d s (well-formed d (line_of s) formed)
+
 pub parse-complete : (d : Declared) (lexemes : List Lexeme) (s : Statement) → Forms d lexemes s → parse d lexemes ≡ Some s
 parse-complete d lexemes s forms = let formed = well-formed d (line_of s) forms.1 in
     ap (parse d) forms.0
     ∙ ap (λ o. option_and_then (statement_of (has_building d)) (option_and_then (formed_only d) o)) (line-again d s formed)
-    ∙ ap (option_and_then (statement_of (has_building d))) only ∙ made-again d s formed
+    ∙ ap (option_and_then (statement_of (has_building d))) only ∙ made-of d s forms.1
   where
     only : formed_only d (line_of s) ≡ Some (line_of s)
     only = rw forms.1 refl

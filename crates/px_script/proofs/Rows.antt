@@ -4,7 +4,7 @@ use Rattle.px_script.specs.Items.{Item, the, amount, amounts, new, declared, lis
 use Rattle.px_script.specs.Statements.{room_changes, line, domain, opens, command, object, predicate, pre, delete, add, building, room, door, box, robot, height, nodes, shapes, weight, plan, learn, About, Show, Save, Certify, ask_word, disturb_atoms, disturb_rooms, run, facts, sort, param, duo, edit, pursue, tree}
 use Rattle.px_script.proofs.Forms.{map-there, if-there, same_word, which-sound}
 use Rattle.px_script.specs.Parsing.{which}
-use Rattle.px_script.specs.Rows.{Entry, Row, asking_row, disturb_row, entries, entry_of, filled, make_ask, make_atoms, make_box, make_disturb, make_door, make_duo, make_edit, make_learn, make_nothing, make_number, make_object, make_operator, make_param, make_plan, make_predicate, make_proof, make_pursue, make_robot, make_room, make_run, make_sort, make_step, make_table, make_tree, newer, row}
+use Rattle.px_script.specs.Rows.{Entry, asking_row, disturb_row, entries, entry_of, filled, make_ask, make_atoms, make_box, make_disturb, make_door, make_duo, make_edit, make_learn, make_nothing, make_number, make_object, make_operator, make_param, make_plan, make_predicate, make_proof, make_pursue, make_robot, make_room, make_run, make_sort, make_step, make_table, make_tree, newer, row}
 
 -- what a word's items make is described so
 abbrev Makes : (List Item → Option Statement) → (List Item → Line) → Type 0

@@ -16,11 +16,11 @@ use Rattle.px_world.specs.declared.edits.AtomEdit.TheVariants as atom_edit
 use Rattle.px_world.specs.declared.edits.RoomEdit.TheVariants as room_edit
 use Rattle.px_world.specs.declared.thing.Thing.TheVariants as thing
 use Rattle.px_script.specs.Items.{Named, Argument, SignedAtom, Sign, WrittenRoomEdit, Binding, named, open_variable, anything, bare, added, robot_to, box_to, door_to, declared_in, an_object, a_predicate, an_operator, a_result, a_parameter, a_sort, a_room, a_door, a_box, a_plan, a_table, Part, a_fact, an_ancestor, an_axiom}
-use Rattle.px_script.specs.Statements.{Statement, Line, Place, Block, line_of, domain, opens, operator_block, building_block, table_steps, table_rows, script, object, predicate, «axiom», operator, pre, delete, add, building, room, door, box, robot, end, fact, height, nodes, shapes, weight, plan, learn, ask, disturb_atoms, disturb_rooms, run, facts, sort, param, duo, edit, pursue, tree, table, step, goal, proof}
+use Rattle.px_script.specs.Statements.{Statement, Line, command_about, Place, Block, line_of, domain, opens, operator_block, building_block, table_steps, table_rows, script, object, predicate, «axiom», operator, pre, delete, add, building, room, door, box, robot, end, fact, height, nodes, shapes, weight, plan, learn, ask, disturb_atoms, disturb_rooms, run, facts, sort, param, duo, edit, pursue, tree, table, step, goal, proof}
 use Rattle.px_script.specs.Limits as limit
 use Rattle.px_script.specs.Limits.{greatest, default_height, default_nodes, default_shapes, default_weight}
 use Rattle.px_script.specs.Commands.{Command}
-use Rattle.px_script.specs.declared.command.Command.TheVariants.{Plan, Learn, Ask, DisturbAtoms, DisturbRooms, Run, Facts, Duo, Edit, Pursue, Tree}
+use Rattle.px_script.specs.declared.command.Command.TheVariants.{Plan, Learn, DisturbAtoms, DisturbRooms, Run, Facts, Duo, Edit, Pursue, Tree}
 
 -- the operator whose block is open: its parameters' names, and its schema so far
 pub record OpenOperator : Type 0 where
@@ -441,7 +441,7 @@ declares n d (weight limit) = record d { weight = Some limit }
 declares n d (plan m xs) =
     with_command (Plan (length d.names.results) (map (atom_of d (variable_names_of xs)) xs) (length (variable_names_of xs))) d
 declares n d (learn m source) = with_command (Learn (length d.names.results) (number_in source d.names.results)) d
-declares n d (ask about m) = with_command (Ask about (number_in m d.names.results)) d
+declares n d (ask about m) = with_command (command_about about (number_in m d.names.results)) d
 declares n d (disturb_atoms turn between xs) = with_disturbance (DisturbAtoms turn between (map (atom_edit_of d) xs)) d
 declares n d (disturb_rooms turn between es) = with_disturbance (DisturbRooms turn between (map (room_edit_of d) es)) d
 declares n d (run m bs) = record (with_command (Run (number_in m d.names.results) (map (binding_of d) bs)) d) { disturbs = 0 }

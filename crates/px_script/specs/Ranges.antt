@@ -12,9 +12,8 @@ use Rattle.px_world.specs.declared.thing.Thing.TheVariants.{Room, Door, Box, Rob
 use Rattle.px_script.specs.Items.{last_parameter}
 use Rattle.px_script.specs.Limits as limit
 use Rattle.px_script.specs.Limits.{Bounds, greatest, of_nodes, of_weight, of_tree, of_turn, of_version, of_executor, last_number}
-use Rattle.px_script.specs.Statements.{ask_word}
 use Rattle.px_script.specs.Commands.{Command}
-use Rattle.px_script.specs.declared.command.Command.TheVariants.{Plan, Learn, Ask, DisturbAtoms, DisturbRooms, Run, Facts, Duo, Edit, Pursue, Tree}
+use Rattle.px_script.specs.declared.command.Command.TheVariants.{Plan, Learn, Show, Save, Certify, DisturbAtoms, DisturbRooms, Run, Facts, Duo, Edit, Pursue, Tree}
 use Rattle.px_script.specs.Declarations.{building_with, operator_names, predicate_names}
 use Rattle.px_script.specs.Content.{ScriptValue}
 use Rattle.px_script.specs.Stages.{Stage, is_built}
@@ -169,7 +168,9 @@ IsCommandOf version problem building results (Pursue name goal variable_count) =
 IsCommandOf version problem building results (Tree name nodes goal variable_count) =
     (name < results) × IsWithin of_tree nodes × IsGoalOf version problem goal variable_count
 IsCommandOf version problem building results (Learn name source) = (name < results) × (source < results)
-IsCommandOf version problem building results (Ask about name) = name < results
+IsCommandOf version problem building results (Show name) = name < results
+IsCommandOf version problem building results (Save name) = name < results
+IsCommandOf version problem building results (Certify name) = name < results
 IsCommandOf version problem building results (DisturbAtoms turn between edits) =
     HasTurn version turn (length edits) × (is_some building ≡ false) × All (IsEditOf problem) edits
 IsCommandOf version problem building results (DisturbRooms turn between edits) =
@@ -211,7 +212,9 @@ IsTableBefore given before name = IsAmong (given ++ flat_map table_given before)
 -- What the command names was given by a block or by a command before it, and what it learns from was given by a plan.
 abbrev pub NamesEarlier : List ℕ → List Command → Command → Type 0
 NamesEarlier given before (Learn name source) = IsAmong (flat_map plan_given before) source
-NamesEarlier given before (Ask about name) = IsTableBefore given before name
+NamesEarlier given before (Show name) = IsTableBefore given before name
+NamesEarlier given before (Save name) = IsTableBefore given before name
+NamesEarlier given before (Certify name) = IsTableBefore given before name
 NamesEarlier given before (Run name bindings) = IsTableBefore given before name
 NamesEarlier given before (Duo first second events) = IsTableBefore given before first × IsTableBefore given before second
 NamesEarlier given before (Edit name source prefix wanted) = IsTableBefore given before source
@@ -257,7 +260,9 @@ word_of (Plan name goal variable_count) = codes "plan"
 word_of (Pursue name goal variable_count) = codes "pursue"
 word_of (Tree name nodes goal variable_count) = codes "tree"
 word_of (Learn name source) = codes "learn"
-word_of (Ask about name) = ask_word about
+word_of (Show name) = codes "show"
+word_of (Save name) = codes "save"
+word_of (Certify name) = codes "certify"
 word_of (Run name bindings) = codes "run"
 word_of (Duo first second events) = codes "duo"
 word_of (Edit name source prefix wanted) = codes "edit"

@@ -3,9 +3,11 @@ use Rattle.std.specs.Prelude.{ℕ, Bool, true, false, List, [], ◌∷◌, codes
 use Rattle.std.specs.List.{flat_map}
 use Rattle.px_script.specs.Lexemes.{Lexeme, name}
 use Rattle.px_script.specs.Items.{Item, SignedAtom, WrittenRoomEdit, Binding, the, amount, amounts, new, declared, listed, known, wanted, atoms, bindings, room_edits, an_object, a_predicate, an_operator, a_parameter, a_sort, a_room, a_door, a_box, a_plan, a_table, spell, open_word, a_result, pairs, Argument, Part, arguments, proofs}
--- what a command that only names a table asks for
+-- what a line that only names a table asks for
 pub use Rattle.px_script.specs.declared.command.About.{About}
 pub use Rattle.px_script.specs.declared.command.About.TheVariants.{Show, Save, Certify}
+use Rattle.px_script.specs.declared.command.Command.{Command}
+use Rattle.px_script.specs.declared.command.Command.TheVariants as asked
 -- what a block is of, where a line stands, and what its atoms may be
 pub use Rattle.px_script.specs.declared.kinds.Block.{Block}
 pub use Rattle.px_script.specs.declared.kinds.Block.TheVariants.{Operator as operator_block, Building as building_block, TableSteps as table_steps, TableRows as table_rows}
@@ -72,6 +74,12 @@ abbrev pub ask_word : About → List ℕ
 ask_word Show = codes "show"
 ask_word Save = codes "save"
 ask_word Certify = codes "certify"
+
+-- the command that such a line gives
+abbrev pub command_about : About → ℕ → Command
+command_about Show n = asked.Show n
+command_about Save n = asked.Save n
+command_about Certify n = asked.Certify n
 
 abbrev pub line_of : Statement → Line
 line_of (script version) = line (codes "script") first plain (amount version ∷ [])

@@ -8,14 +8,13 @@ use Rattle.px_terms.specs.Problems.{problem_without_sorts, schema_without_sorts}
 use Rattle.px_script.specs.Common.{no_names, building_problem, closed, connects, in_room, is_box, is_door, is_room, Obj, Problem, Var}
 use Rattle.px_world.specs.declared.edits.RoomEdit.TheVariants as room_edit
 use Rattle.px_world.specs.declared.thing.Thing.TheVariants as thing
-use Rattle.px_script.specs.declared.command.Command.TheVariants.{Plan, Ask, DisturbRooms, Facts}
+use Rattle.px_script.specs.declared.command.Command.TheVariants.{Plan, Show, DisturbRooms, Facts}
 use Rattle.px_script.specs.Content.{ScriptValue}
 use Rattle.px_script.specs.Limits.{default_height, default_nodes, default_shapes}
 use Rattle.px_script.specs.Lines.{mark}
 use Rattle.px_script.specs.Declarations.{predicate_names, operator_names}
 use Rattle.px_script.specs.Stages.{stage_now}
 use Rattle.px_script.specs.Scripts.{IsScript, FirstFault}
-use Rattle.px_script.specs.Statements.{Show}
 use Rattle.px_script.specs.WorkedLines.{asserted, clause, denied, long_name, numbered, words_in}
 
 -- the first fault of the bytes: its line, its code and its limit
@@ -91,7 +90,7 @@ pub record WorkedScripts : Type 0 where
           axioms = clause 2 (denied (numbered 0 (Var 0 ∷ Var 1 ∷ [])) ∷ asserted (numbered 0 (Var 1 ∷ Var 0 ∷ [])) ∷ []) ∷ [];
         };
         facts = numbered 0 (Obj 0 ∷ Obj 1 ∷ []) ∷ [];
-        commands = Plan 0 (numbered 0 (Var 0 ∷ Obj 0 ∷ []) ∷ []) 1 ∷ Ask Show 0 ∷ [];
+        commands = Plan 0 (numbered 0 (Var 0 ∷ Obj 0 ∷ []) ∷ []) 1 ∷ Show 0 ∷ [];
       })
   -- a building of two rooms with a closed door, a box in the second room and the robot in the first; and three commands
   pub door : IsScript stage_now (codes "nodes 500\nbuilding\nroom R1\nroom R2\ndoor D1 R1 R2 closed\nbox B1 R2\nrobot R1\nend\n"
@@ -138,7 +137,7 @@ pub record WorkedScripts : Type 0 where
           table_of_rows 0 [] (record { op = 0; args = [] } ∷ []) (numbered 0 [] ∷ []) 0
               ([] ∷ (proof_of (fact (record { column = 1; index = 0; atom = numbered 0 [] })) ∷ []) ∷ []),
         ) ∷ [];
-        commands = Ask Show 0 ∷ [];
+        commands = Show 0 ∷ [];
       })
 
 -- Each text has its first fault in the line of this number, with this code.

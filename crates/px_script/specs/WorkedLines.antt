@@ -8,9 +8,9 @@ use Rattle.px_world.specs.declared.edits.AtomEdit.TheVariants as atom_edit
 use Rattle.px_world.specs.declared.edits.RoomEdit.TheVariants as room_edit
 use Rattle.px_world.specs.declared.thing.Thing.TheVariants as thing
 use Rattle.px_script.specs.Items.{Argument, SignedAtom, Sign, named, open_variable, anything, bare, negated, added, removed, robot_to, box_to, door_to}
-use Rattle.px_script.specs.Statements.{Statement, spelling, building, room, robot, door, box, «axiom», operator, delete, height, shapes, plan, learn, Show, disturb_atoms, disturb_rooms, run, duo, edit}
+use Rattle.px_script.specs.Statements.{Statement, spelling, building, room, robot, door, box, «axiom», operator, delete, height, shapes, plan, learn, disturb_atoms, disturb_rooms, run, duo, edit}
 use Rattle.px_script.specs.Lexemes.{Lexes}
-use Rattle.px_script.specs.declared.command.Command.TheVariants.{Facts, Plan, Learn, Ask, DisturbAtoms, DisturbRooms, Run, Duo, Edit}
+use Rattle.px_script.specs.declared.command.Command.TheVariants.{Facts, Plan, Learn, Show, DisturbAtoms, DisturbRooms, Run, Duo, Edit}
 use Rattle.px_script.specs.Declarations.{Declared, nothing_declared}
 use Rattle.px_script.specs.Stages.{whole_language}
 use Rattle.px_script.specs.Scripts.{Passes, PassAll, Fails}
@@ -305,7 +305,7 @@ pub record WorkedCommands : Type 0 where
   pub learns : LeaveBoth learned (λ d. d.names.results) (codes "N" ∷ codes "M" ∷ [])
       (λ d. d.commands) (Plan 0 (numbered 1 [] ∷ []) 0 ∷ Learn 1 0 ∷ [])
   pub shows : Leave (learned ++ codes "\nshow M\nshow N") (λ d. d.commands)
-      (Plan 0 (numbered 1 [] ∷ []) 0 ∷ Learn 1 0 ∷ Ask Show 1 ∷ Ask Show 0 ∷ [])
+      (Plan 0 (numbered 1 [] ∷ []) 0 ∷ Learn 1 0 ∷ Show 1 ∷ Show 0 ∷ [])
   pub disturbs : LeaveBoth (small ++ codes "\ndisturb 9999 between +Q -P(a)") (λ d. d.disturbs) 1 (λ d. d.commands)
       (DisturbAtoms 9999 true (atom_edit.Add (numbered 1 []) ∷ atom_edit.Remove (numbered 0 (Obj 0 ∷ [])) ∷ []) ∷ [])
   pub disturbs_after_run : Leave (learned ++ codes "\ndisturb 1 before +Q\nrun N") (λ d. d.disturbs) 0

@@ -9,9 +9,10 @@ use Rattle.px_table.specs.Tables.{empty_table}
 use Rattle.px_table.specs.declared.table.Table.{Table}
 use Rattle.px_script.specs.Common.{Var}
 use Rattle.px_script.specs.Items.{Argument, SignedAtom, named, open_variable, bare, a_fact, an_ancestor, an_axiom, are_proofs}
-use Rattle.px_script.specs.Statements.{table, step, goal, proof, About, ask, Show, Save, Certify}
+use Rattle.px_script.specs.Statements.{table, step, goal, proof, About, ask}
+use Rattle.px_script.specs.declared.command.About.TheVariants as about
 use Rattle.px_script.specs.Commands.{Command}
-use Rattle.px_script.specs.declared.command.Command.TheVariants.{Plan, Learn, Ask, Run, Duo, Edit}
+use Rattle.px_script.specs.declared.command.Command.TheVariants.{Plan, Learn, Show, Save, Certify, Run, Duo, Edit}
 use Rattle.px_script.specs.Declarations.{Declared}
 use Rattle.px_script.specs.WorkedLines.{Exceed, Fit, Leave, LeaveBoth, Refuse, RefuseWhere, Spell, closed_building, in_operator, numbered, q, commands, learned, learned_in_two, small, times, with_sign}
 
@@ -130,16 +131,16 @@ asking name = codes "save " ++ (name ++ codes "\ncertify ") ++ name
 
 -- and what they leave, by the number of the name
 abbrev asked : ℕ → List Command
-asked number = Ask Save number ∷ Ask Certify number ∷ []
+asked number = Save number ∷ Certify number ∷ []
 
 pub record WorkedAsking : Type 0 where
   -- how they are written, and what they leave
   pub are_written : AllByRecursion (λ (t : List ℕ × About). Spell t.0 (ask t.1 (codes "M")))
-      ((codes "show M", Show) ∷ (codes "save M", Save) ∷ (codes "certify M", Certify) ∷ [])
+      ((codes "show M", about.Show) ∷ (codes "save M", about.Save) ∷ (codes "certify M", about.Certify) ∷ [])
   pub asks : Leave (learned_in_two ++ codes "\n" ++ asking (codes "M")) (λ d. d.commands)
       (Plan 0 (numbered 1 [] ∷ []) 0 ∷ Learn 1 0 ∷ asked 1)
   pub of_blocks : Leave (all_rows ++ codes "\nend\nshow M\nrun M p1=a\nduo M M 1\nedit E from M 1 1=0\n" ++ asking (codes "M"))
-      (λ d. d.commands) (Ask Show 0 ∷ Run 0 ((1, 0) ∷ []) ∷ Duo 0 0 (1 ∷ []) ∷ Edit 1 0 1 ((1, 0) ∷ []) ∷ asked 0)
+      (λ d. d.commands) (Show 0 ∷ Run 0 ((1, 0) ∷ []) ∷ Duo 0 0 (1 ∷ []) ∷ Edit 1 0 1 ((1, 0) ∷ []) ∷ asked 0)
   pub keep_disturbs : Leave (learned_in_two ++ codes "\ndisturb 1 before +Q\n" ++ asking (codes "N")) (λ d. d.disturbs) 1
   -- no words of version 1, no such forms, and not in a block
   pub new_commands : Refuse 3 ((learned, asking (codes "M")) ∷ [])

@@ -1,5 +1,6 @@
 //! The commands of a script.
 ghost use Rattle.std.specs.Prelude.{◌≡◌};
+ghost use Rattle.px_script.specs.Statements.{command_about};
 
 use px_base::Sequence;
 use px_terms::Atom;
@@ -39,7 +40,7 @@ impl Binding {
     }
 }
 
-/// What a command that only names a table asks for.
+/// What a line that only names a table asks for.
 #[derive(Clone, Copy)]
 pub enum About {
     /// The table.
@@ -64,9 +65,16 @@ pub enum Command {
         name: u32,
         source: u32,
     },
-    /// Answer what is asked for of a table.
-    Ask {
-        about: About,
+    /// Answer a table.
+    Show {
+        name: u32,
+    },
+    /// Answer a table as a block that a script can have.
+    Save {
+        name: u32,
+    },
+    /// Answer a table with its whole problem, as a certificate.
+    Certify {
         name: u32,
     },
     /// Change facts from outside at a turn of the next run, between sensing and acting, or before both.
@@ -114,4 +122,17 @@ pub enum Command {
     },
     /// Answer the facts.
     Facts,
+}
+
+impl Command {
+    /// Returns the command of a line that asks this of the table with that name. Does not allocate.
+    pub fn asking(about: About, name: u32) -> Command
+        ensures { result ≡ command_about about name }
+    {
+        match about {
+            About::Show => Command::Show { name },
+            About::Save => Command::Save { name },
+            About::Certify => Command::Certify { name },
+        }
+    }
 }

@@ -268,8 +268,8 @@ impl Explored {
     }
 
     /// Returns the end where a question meets the limit.
-    fn shape_limit(self, asked: &Asked, limit: Limit) -> SearchErr
-        requires limited { IsLimitedAt (task_for asked.now) self.cache.numbers self.nodes self.origins.items limit }
+    fn shape_limit(&self, asked: &Asked, limit: Limit) -> SearchErr
+        requires limited { IsLimitedAt (task_for asked.now) self.now.cache.numbers self.now.nodes self.now.origins.items limit }
         ensures { IsEnd (task_for asked.now) result }
     {
         let Limit { key, met } = limit;
@@ -294,8 +294,8 @@ impl Explored {
     }
 
     /// Returns the moves to the last node, which is solved.
-    fn path(self, asked: &Asked) -> Result<Sequence<Move>, NoMemory>
-        requires reached { IsReached (task_for asked.now) self.cache.numbers self.nodes self.origins.items }
+    fn path(&self, asked: &Asked) -> Result<Sequence<Move>, NoMemory>
+        requires reached { IsReached (task_for asked.now) self.now.cache.numbers self.now.nodes self.now.origins.items }
         ensures { IfOk result (IsFound (task_for asked.now) asked.now.problem.now.weight) }
     {
         path_to(asked.alloc, &self.cache.numbers, &self.origins)
@@ -314,11 +314,26 @@ pub fn found_by_moves(asked: &Asked, is_never_limited: bool) -> Result<Sequence<
     ensures ends { IfErr result (IsEnd (task_for asked.now)) }
 {
     let mut explored = Explored::new(asked.alloc, asked.problem.weight, is_never_limited);
+    // `drop` is called by name: at the end of a block the drop of all its maps would be a part of this function's proof.
     match explored.explore(asked) {
-        Ok(()) => Err(SearchErr::Exhausted),
-        Err(Stop::Solved) => Ok(explored.path(asked)?),
+        Ok(()) => {
+            drop(explored);
+            Err(SearchErr::Exhausted)
+        }
+        Err(Stop::Solved) => {
+            let moves = explored.path(asked);
+            drop(explored);
+            Ok(moves?)
+        }
         Err(Stop::Full { moves }) => Err(explored.node_limit(asked, moves)),
-        Err(Stop::Limited(limit)) => Err(explored.shape_limit(asked, limit)),
-        Err(Stop::NoMemory) => Err(SearchErr::NoMemory),
+        Err(Stop::Limited(limit)) => {
+            let end = explored.shape_limit(asked, limit);
+            drop(explored);
+            Err(end)
+        }
+        Err(Stop::NoMemory) => {
+            drop(explored);
+            Err(SearchErr::NoMemory)
+        }
     }
 }

@@ -171,7 +171,9 @@ fn tree_for(asked: &Asked, is_never_limited: bool) -> Result<Tree, NoMemory>
     ensures { IfOk result (IsTree (task_for asked.now) asked.now.problem.now.weight) }
 {
     let mut explored = Explored::new(asked.alloc, asked.problem.weight, is_never_limited);
-    explored.tree(asked)
+    let tree = explored.tree(asked);
+    drop(explored);
+    tree
 }
 
 // Alike: `search`, since each asks the same of the problem and its goal.

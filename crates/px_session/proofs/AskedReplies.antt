@@ -16,11 +16,10 @@ use Rattle.px_printer.specs.declared.reply.Reply.TheVariants as reply
 use Rattle.px_printer.specs.declared.reply.SaveWhy.{SaveWhy}
 use Rattle.px_saved.specs.ReadBack.{IsShortName, ReplyIsReadBack}
 use Rattle.px_saved.proofs.Law.{saved_is_read_back}
-use Rattle.px_script.specs.declared.command.About.{About}
-use Rattle.px_script.specs.declared.command.About.TheVariants.{Show, Save, Certify}
 use Rattle.px_script.specs.declared.command.Command.{Command}
 use Rattle.px_script.specs.declared.command.Command.TheVariants as command
-use Rattle.px_session.specs.Asked.{AskedInOrder, IsTableRefused, IsTableWritten, RefusesWriting, TellsAsked, TellsCertifying, TellsSaving, TellsShow}
+use Rattle.px_session.specs.Asked.{IsTableRefused, IsTableWritten, RefusesWriting, TellsCertifying, TellsSaving, TellsShow}
+use Rattle.px_session.specs.Causes.{AskedInOrder}
 use Rattle.px_session.specs.Determined.{SameReply}
 use Rattle.px_session.specs.Existing.{HasReply}
 use Rattle.px_session.specs.Lawful.{Lawful}
@@ -48,7 +47,7 @@ module _ (problem : Problem) (old : SessionState) (name : ℕ) where
   refused-or-written table also why new named cause is =
       is.allowed why (subst (λ (x : Table). RefusesWriting x why) (one_some (any_table old name) table also named is.named) cause)
 
-  show-one : (one other : Reply) (new later : SessionState) → TellsShow old name one new → TellsShow old name other later
+  pub show-one : (one other : Reply) (new later : SessionState) → TellsShow old name one new → TellsShow old name other later
       → SameReply one other × (new ≡ later)
   show-one (reply.Unknown n) (reply.Unknown m) new later p q = (inl (ap reply.Unknown (p.0 ∙ sym q.0)), p.2 ∙ sym q.2)
   show-one (reply.Unknown n) (reply.Shown m table) new later p q = absurd (none_or_some (any_table old name) table p.1 q.1)
@@ -61,7 +60,7 @@ module _ (problem : Problem) (old : SessionState) (name : ℕ) where
   show-one (reply.Shown n table) other new later p q = absurd q
   show-one one other new later p q = absurd p
 
-  saving-one : (one other : Reply) (new later : SessionState) → TellsSaving old name one new → TellsSaving old name other later
+  pub saving-one : (one other : Reply) (new later : SessionState) → TellsSaving old name one new → TellsSaving old name other later
       → SameReply one other × (new ≡ later)
   saving-one (reply.Unknown n) (reply.Unknown m) new later p q = (inl (ap reply.Unknown (p.0 ∙ sym q.0)), p.2 ∙ sym q.2)
   saving-one (reply.Unknown n) (reply.SaveRefused m why) new later p q =
@@ -88,7 +87,7 @@ module _ (problem : Problem) (old : SessionState) (name : ℕ) where
   saving-one (reply.Saved n table) other new later p q = absurd q
   saving-one one other new later p q = absurd p
 
-  certifying-one : (one other : Reply) (new later : SessionState) → TellsCertifying problem old name one new
+  pub certifying-one : (one other : Reply) (new later : SessionState) → TellsCertifying problem old name one new
       → TellsCertifying problem old name other later → SameReply one other × (new ≡ later)
   certifying-one (reply.Unknown n) (reply.Unknown m) new later p q = (inl (ap reply.Unknown (p.0 ∙ sym q.0)), p.2 ∙ sym q.2)
   certifying-one (reply.Unknown n) (reply.CertifyRefused m why) new later p q =
@@ -118,21 +117,15 @@ module _ (problem : Problem) (old : SessionState) (name : ℕ) where
   certifying-one (reply.Certified n bytes) other new later p q = absurd q
   certifying-one one other new later p q = absurd p
 
-  pub asked-one : (about : About) (one other : Reply) (new later : SessionState) → TellsAsked problem about old name one new
-      → TellsAsked problem about old name other later → SameReply one other × (new ≡ later)
-  asked-one Show one other new later p q = show-one one other new later p q
-  asked-one Save one other new later p q = saving-one one other new later p q
-  asked-one Certify one other new later p q = certifying-one one other new later p q
-
   -- ---- the causes in their order
 
-  none-to-show : (answer : Reply) (new : SessionState) → any_table old name ≡ None → TellsShow old name answer new
+  pub none-to-show : (answer : Reply) (new : SessionState) → any_table old name ≡ None → TellsShow old name answer new
       → (answer ≡ reply.Unknown name) × (new ≡ old)
   none-to-show (reply.Unknown given) new none is = (ap reply.Unknown is.0, is.2)
   none-to-show (reply.Shown given table) new none is = absurd (none_or_some (any_table old name) table none is.1)
   none-to-show answer new none is = absurd is
 
-  none-to-save : (answer : Reply) (new : SessionState) → any_table old name ≡ None → TellsSaving old name answer new
+  pub none-to-save : (answer : Reply) (new : SessionState) → any_table old name ≡ None → TellsSaving old name answer new
       → (answer ≡ reply.Unknown name) × (new ≡ old)
   none-to-save (reply.Unknown given) new none is = (ap reply.Unknown is.0, is.2)
   none-to-save (reply.SaveRefused given why) new none is = absurd (none_or_some (any_table old name) is.1.table none is.1.named)
@@ -151,7 +144,7 @@ module _ (problem : Problem) (old : SessionState) (name : ℕ) where
       absurd (refused-or-written table also why new named cause is.1)
   not-saved answer new table why named cause is = absurd is
 
-  none-to-certify : (answer : Reply) (new : SessionState) → any_table old name ≡ None
+  pub none-to-certify : (answer : Reply) (new : SessionState) → any_table old name ≡ None
       → TellsCertifying problem old name answer new → (answer ≡ reply.Unknown name) × (new ≡ old)
   none-to-certify (reply.Unknown given) new none is = (ap reply.Unknown is.0, is.2)
   none-to-certify (reply.CertifyRefused given why) new none is =
@@ -173,25 +166,19 @@ module _ (problem : Problem) (old : SessionState) (name : ℕ) where
       absurd (refused-or-written table is.1.table why new named cause is.1.written)
   not-certified answer new table why named cause is = absurd is
 
-  pub none-asked : (about : About) (answer : Reply) (new : SessionState) → any_table old name ≡ None
-      → TellsAsked problem about old name answer new → (answer ≡ reply.Unknown name) × (new ≡ old)
-  none-asked Show answer new none is = none-to-show answer new none is
-  none-asked Save answer new none is = none-to-save answer new none is
-  none-asked Certify answer new none is = none-to-certify answer new none is
-
   -- ---- there is a reply
 
-  show-reply : HasReply problem old (command.Ask Show name)
+  pub show-reply : HasReply problem old (command.Show name)
   show-reply = by (any_table old name) refl
     where
-      by : (found : Option Table) → any_table old name ≡ found → HasReply problem old (command.Ask Show name)
+      by : (found : Option Table) → any_table old name ≡ found → HasReply problem old (command.Show name)
       by None named = (reply.Unknown name, (old, (refl, named, refl)))
       by (Some table) named = (reply.Shown name table, (old, (refl, named, refl)))
 
-  save-reply : HasReply problem old (command.Ask Save name)
+  pub save-reply : HasReply problem old (command.Save name)
   save-reply = by (any_table old name) refl
     where
-      by : (found : Option Table) → any_table old name ≡ found → HasReply problem old (command.Ask Save name)
+      by : (found : Option Table) → any_table old name ≡ found → HasReply problem old (command.Save name)
       by None named = (reply.Unknown name, (old, (refl, named, refl)))
       by (Some table) named = elim (cause-or-none table) [
         | inl found ↦
@@ -199,10 +186,10 @@ module _ (problem : Problem) (old : SessionState) (name : ℕ) where
         | inr allowed ↦ (reply.Saved name table, (old, (refl, record { named = named; allowed = allowed; same = refl })))
       ]
 
-  certify-reply : HasReply problem old (command.Ask Certify name)
+  pub certify-reply : HasReply problem old (command.Certify name)
   certify-reply = by (any_table old name) refl
     where
-      by : (found : Option Table) → any_table old name ≡ found → HasReply problem old (command.Ask Certify name)
+      by : (found : Option Table) → any_table old name ≡ found → HasReply problem old (command.Certify name)
       by None named = (reply.Unknown name, (old, (refl, named, refl)))
       by (Some table) named = elim (cause-or-none table) [
         | inl found ↦
@@ -223,34 +210,24 @@ module _ (problem : Problem) (old : SessionState) (name : ℕ) where
         )
       ]
 
-  pub asked-reply : (about : About) → HasReply problem old (command.Ask about name)
-  asked-reply Show = show-reply
-  asked-reply Save = save-reply
-  asked-reply Certify = certify-reply
-
   -- ---- nothing changes
 
-  show-same : (answer : Reply) (new : SessionState) → TellsShow old name answer new → new ≡ old
+  pub show-same : (answer : Reply) (new : SessionState) → TellsShow old name answer new → new ≡ old
   show-same (reply.Unknown given) new is = is.2
   show-same (reply.Shown given table) new is = is.2
   show-same answer new is = absurd is
 
-  saving-same : (answer : Reply) (new : SessionState) → TellsSaving old name answer new → new ≡ old
+  pub saving-same : (answer : Reply) (new : SessionState) → TellsSaving old name answer new → new ≡ old
   saving-same (reply.Unknown given) new is = is.2
   saving-same (reply.SaveRefused given why) new is = is.1.same
   saving-same (reply.Saved given table) new is = is.1.same
   saving-same answer new is = absurd is
 
-  certifying-same : (answer : Reply) (new : SessionState) → TellsCertifying problem old name answer new → new ≡ old
+  pub certifying-same : (answer : Reply) (new : SessionState) → TellsCertifying problem old name answer new → new ≡ old
   certifying-same (reply.Unknown given) new is = is.2
   certifying-same (reply.CertifyRefused given why) new is = is.1.same
   certifying-same (reply.Certified given bytes) new is = is.1.written.same
   certifying-same answer new is = absurd is
-
-  pub asked-same : (about : About) (answer : Reply) (new : SessionState) → TellsAsked problem about old name answer new → new ≡ old
-  asked-same Show answer new is = show-same answer new is
-  asked-same Save answer new is = saving-same answer new is
-  asked-same Certify answer new is = certifying-same answer new is
 
   -- ---- names
 
@@ -262,42 +239,29 @@ module _ (problem : Problem) (old : SessionState) (name : ℕ) where
     right : (table : Table) → any_table old name ≡ Some table → IsTable problem table
     right table named = any-right problem old plans learned name table named
 
-    named-show : (answer : Reply) (new : SessionState) → TellsShow old name answer new → IsReplyNamed names answer
+    pub named-show : (answer : Reply) (new : SessionState) → TellsShow old name answer new → IsReplyNamed names answer
     named-show (reply.Unknown given) new is = same-name given is.0
     named-show (reply.Shown given table) new is = (same-name given is.0, named-table problem names all table (right table is.1))
     named-show answer new is = absurd is
 
-    named-saving : (answer : Reply) (new : SessionState) → TellsSaving old name answer new → IsReplyNamed names answer
+    pub named-saving : (answer : Reply) (new : SessionState) → TellsSaving old name answer new → IsReplyNamed names answer
     named-saving (reply.Unknown given) new is = same-name given is.0
     named-saving (reply.SaveRefused given why) new is = same-name given is.0
     named-saving (reply.Saved given table) new is = (same-name given is.0, named-block problem names all table (right table is.1.named))
     named-saving answer new is = absurd is
 
     -- the bytes of a certificate have no names
-    named-certifying : (answer : Reply) (new : SessionState) → TellsCertifying problem old name answer new → IsReplyNamed names answer
+    pub named-certifying : (answer : Reply) (new : SessionState) → TellsCertifying problem old name answer new → IsReplyNamed names answer
     named-certifying (reply.Unknown given) new is = same-name given is.0
     named-certifying (reply.CertifyRefused given why) new is = same-name given is.0
     named-certifying (reply.Certified given bytes) new is = tt
     named-certifying answer new is = absurd is
 
-    pub named-asked : (about : About) (answer : Reply) (new : SessionState) → TellsAsked problem about old name answer new
-        → IsReplyNamed names answer
-    named-asked Show answer new is = named-show answer new is
-    named-asked Save answer new is = named-saving answer new is
-    named-asked Certify answer new is = named-certifying answer new is
-
-  -- ---- bytes of a certificate are an answer to `certify` alone
-
-  pub certified-asked : (about : About) (given : ℕ) (bytes : List ℕ) (new : SessionState)
-      → TellsAsked problem about old name (reply.Certified given bytes) new
-      → TellsCertifying problem old name (reply.Certified given bytes) new
-  certified-asked Show given bytes new is = absurd is
-  certified-asked Save given bytes new is = absurd is
-  certified-asked Certify given bytes new is = is
-
 pub asked_in_order : AskedInOrder
 asked_in_order = record {
-  no_table = λ problem about old name answer new. none-asked problem old name about answer new;
+  none_to_show = λ problem old name answer new. none-to-show problem old name answer new;
+  none_to_save = λ problem old name answer new. none-to-save problem old name answer new;
+  none_to_certify = λ problem old name answer new. none-to-certify problem old name answer new;
   not_saved = λ problem old name answer new. not-saved problem old name answer new;
   not_certified = λ problem old name answer new. not-certified problem old name answer new;
 }
@@ -312,20 +276,16 @@ name-at P (name ∷ names) (suc n) all below = name-at P names n (All-tail P nam
 
 module _ (problem : Problem) (names : NameLists) (named : AreNameLists names) (short : All IsShortName names.results)
     (old new : SessionState) (session : IsSession problem old) (written : HasWritableTables problem old) where
-  of-asked : (about : About) (name number : ℕ) (table : Table) → HasName names kind.Result number
-      → TellsAsked problem about old name (reply.Saved number table) new → ReplyIsReadBack problem names (reply.Saved number table)
-  of-asked Show name number table has is = absurd is
-  of-asked Save name number table has is =
-      saved_is_read_back problem names number table named has (name-at IsShortName names.results number short has)
-      (in-block problem old session written name table is.1.named (no-cause table is.1.allowed))
-  of-asked Certify name number table has is = absurd is
-
   of-command : (given : Command) (number : ℕ) (table : Table) → HasName names kind.Result number
       → Lawful problem old given (reply.Saved number table) new → ReplyIsReadBack problem names (reply.Saved number table)
   of-command (command.Plan n goal variable_count) number table has is = absurd is
   of-command (command.Learn n source) number table has is = absurd is
   of-command (command.Edit n source prefix wanted) number table has is = absurd is
-  of-command (command.Ask about n) number table has is = of-asked about n number table has is
+  of-command (command.Show n) number table has is = absurd is
+  of-command (command.Save n) number table has is =
+      saved_is_read_back problem names number table named has (name-at IsShortName names.results number short has)
+      (in-block problem old session written n table is.1.named (no-cause table is.1.allowed))
+  of-command (command.Certify n) number table has is = absurd is
   of-command (command.DisturbAtoms turn between edits) number table has is = absurd is
   of-command (command.DisturbRooms turn between edits) number table has is = absurd is
   of-command (command.Run n bound) number table has is = absurd is

@@ -20,7 +20,6 @@ use Rattle.px_session.specs.OwnStates.{IsOwnGoal}
 use Rattle.px_session.specs.Sessions.{IsSession, SessionState, any_table, opening}
 use Rattle.px_session.specs.Transcripts.{AreAnswers}
 use Rattle.px_session.specs.Writable.{AsksWritable, HasWritableTables}
-use Rattle.px_session.proofs.AskedReplies.{certified-asked}
 use Rattle.px_session.proofs.Executing.{own-goals}
 use Rattle.px_session.proofs.Kept.{sessions_are_kept}
 use Rattle.px_session.proofs.Writables.{all-ask, certifiable-problem, writable-kept, writable-opened}
@@ -49,7 +48,9 @@ module _ (problem : Problem) (old : SessionState) (new : SessionState) (valid : 
   of-command (command.Plan n goal variable_count) name bytes is = absurd is
   of-command (command.Learn n source) name bytes is = absurd is
   of-command (command.Edit n source prefix wanted) name bytes is = absurd is
-  of-command (command.Ask about n) name bytes is = of-certify n name bytes (certified-asked problem old n about name bytes new is)
+  of-command (command.Show n) name bytes is = absurd is
+  of-command (command.Save n) name bytes is = absurd is
+  of-command (command.Certify n) name bytes is = of-certify n name bytes is
   of-command (command.DisturbAtoms turn between edits) name bytes is = absurd is
   of-command (command.DisturbRooms turn between edits) name bytes is = absurd is
   of-command (command.Run n bound) name bytes is = absurd is

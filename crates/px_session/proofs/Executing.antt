@@ -72,7 +72,9 @@ ready version problem building results (command.Plan name goal variable_count) o
 ready version problem building results (command.Learn name source) owns of = ((tt, no-edits problem (at_first building)), of)
 ready version problem building results (command.Edit name source prefix wanted) owns of =
     ((wanted-ready version wanted of.3, no-edits problem (at_first building)), (of.0, of.1))
-ready version problem building results (command.Ask about name) owns of = ((tt, no-edits problem (at_first building)), of)
+ready version problem building results (command.Show name) owns of = ((tt, no-edits problem (at_first building)), of)
+ready version problem building results (command.Save name) owns of = ((tt, no-edits problem (at_first building)), of)
+ready version problem building results (command.Certify name) owns of = ((tt, no-edits problem (at_first building)), of)
 ready version problem building results (command.DisturbAtoms turn between edits) owns of =
     ((tt, note-atoms problem building edits of.1 of.2), tt)
 ready version problem building results (command.DisturbRooms turn between edits) owns of =
@@ -183,7 +185,9 @@ pub own-goal : (problem : Problem) (building : Option RoomState) (given : Comman
 own-goal problem building (command.Plan name goal variable_count) runs = runs.0.atoms
 own-goal problem building (command.Learn name source) runs = tt
 own-goal problem building (command.Edit name source prefix wanted) runs = tt
-own-goal problem building (command.Ask about name) runs = tt
+own-goal problem building (command.Show name) runs = tt
+own-goal problem building (command.Save name) runs = tt
+own-goal problem building (command.Certify name) runs = tt
 own-goal problem building (command.DisturbAtoms turn between edits) runs = tt
 own-goal problem building (command.DisturbRooms turn between edits) runs = tt
 own-goal problem building (command.Run name bound) runs = tt

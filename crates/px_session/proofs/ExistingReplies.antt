@@ -33,7 +33,7 @@ use Rattle.px_session.specs.Lawful.{Notes, end_told, first_unknown, recorded_for
 use Rattle.px_session.specs.OwnStates.{IsOwnGoal}
 use Rattle.px_session.specs.Sessions.{Edit, IsSession, SessionState, any_table, leaves_edit, of_atoms, of_rooms, opening}
 use Rattle.px_session.specs.Transcripts.{AreAnswers, texts}
-use Rattle.px_session.proofs.AskedReplies.{asked-reply}
+use Rattle.px_session.proofs.AskedReplies.{certify-reply, save-reply, show-reply}
 use Rattle.px_session.proofs.DuosEnd.{duo-ends}
 use Rattle.px_session.proofs.Executing.{own-goals}
 use Rattle.px_session.proofs.ExistingEdits.{edit-reply}
@@ -171,7 +171,9 @@ module _ (traces-exist : TracesExist leaves_edit) (duo-traces-exist : DuoTracesE
     other-reply (command.Edit name source prefix wanted) asks = absurd asks
     other-reply (command.Pursue name goal variable_count) asks = absurd asks
     other-reply (command.Tree name nodes goal variable_count) asks = absurd asks
-    other-reply (command.Ask about name) asks = asked-reply problem old name about
+    other-reply (command.Show name) asks = show-reply problem old name
+    other-reply (command.Save name) asks = save-reply problem old name
+    other-reply (command.Certify name) asks = certify-reply problem old name
     other-reply (command.DisturbAtoms turn between edits) asks = noted turn between (map of_atoms edits)
     other-reply (command.DisturbRooms turn between edits) asks = noted turn between (map of_rooms edits)
     other-reply (command.Run name bound) asks = ran name bound
@@ -229,7 +231,9 @@ module _ (traces-exist : TracesExist leaves_edit) (duo-traces-exist : DuoTracesE
     each-reply (command.Tree name nodes goal variable_count) own = tree-reply problem old name nodes goal variable_count
     each-reply (command.Edit name source prefix wanted) own = edit-reply problem old name source prefix wanted valid session
     each-reply (command.Learn name source) own = λ never. never (other-reply (command.Learn name source) tt)
-    each-reply (command.Ask about name) own = λ never. never (other-reply (command.Ask about name) tt)
+    each-reply (command.Show name) own = λ never. never (other-reply (command.Show name) tt)
+    each-reply (command.Save name) own = λ never. never (other-reply (command.Save name) tt)
+    each-reply (command.Certify name) own = λ never. never (other-reply (command.Certify name) tt)
     each-reply (command.DisturbAtoms turn between edits) own = λ never. never (other-reply (command.DisturbAtoms turn between edits) tt)
     each-reply (command.DisturbRooms turn between edits) own = λ never. never (other-reply (command.DisturbRooms turn between edits) tt)
     each-reply (command.Run name bound) own = λ never. never (other-reply (command.Run name bound) tt)

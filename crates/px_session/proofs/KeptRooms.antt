@@ -139,7 +139,9 @@ module _ (problem : Problem) (old : SessionState) (building : RoomState) (sessio
   answered (command.Learn name source) answer new taken own is = unmoved (command.Learn name source) tt answer new refl taken is
   answered (command.Edit name source prefix wanted) answer new taken own is =
       unmoved (command.Edit name source prefix wanted) tt answer new refl taken is
-  answered (command.Ask about name) answer new taken own is = unmoved (command.Ask about name) tt answer new refl taken is
+  answered (command.Show name) answer new taken own is = unmoved (command.Show name) tt answer new refl taken is
+  answered (command.Save name) answer new taken own is = unmoved (command.Save name) tt answer new refl taken is
+  answered (command.Certify name) answer new taken own is = unmoved (command.Certify name) tt answer new refl taken is
   answered (command.DisturbAtoms turn between edits) answer new taken own is =
       unmoved (command.DisturbAtoms turn between edits) tt answer new refl taken is
   answered (command.DisturbRooms turn between edits) answer new taken own is =

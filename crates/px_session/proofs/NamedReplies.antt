@@ -22,7 +22,7 @@ use Rattle.px_script.specs.declared.command.Command.TheVariants as command
 use Rattle.px_session.specs.Lawful.{FindsPlan, Lawful, Notes, TellsDuo, TellsEditing, TellsFacts, TellsLearning, TellsPursuit, TellsRun, TellsSearch, TellsTree, recorded_for, turn_told}
 use Rattle.px_session.specs.Named.{AreNamesOfProblem, HasTableNames, IsTellable, RepliesAreNamed, TellsOfNamed}
 use Rattle.px_session.specs.Sessions.{Edit, IsLearnedTable, IsPlanTable, IsSession, SessionState, any_table, of_atoms, of_rooms}
-use Rattle.px_session.proofs.AskedReplies.{named-asked}
+use Rattle.px_session.proofs.AskedReplies.{named-certifying, named-saving, named-show}
 use Rattle.px_session.proofs.FoundTables.{found-table}
 use Rattle.px_session.proofs.Learned.{are-learned}
 use Rattle.px_session.proofs.NamedTables.{tables-named, tables-named-later}
@@ -169,8 +169,12 @@ named-each problem names old (command.Pursue name goal variable_count) answer ne
     named-pursuit problem names all valid old session goal variable_count tellable.1 name answer new tellable.0 is
 named-each problem names old (command.Tree name nodes goal variable_count) answer new valid all atoms session tables tellable is =
     named-tree problem names all old session tables nodes goal variable_count name answer new tellable.0 is
-named-each problem names old (command.Ask about name) answer new valid all atoms session tables tellable is =
-    named-asked problem old name names all session.plans session.learned tellable about answer new is
+named-each problem names old (command.Show name) answer new valid all atoms session tables tellable is =
+    named-show problem old name names all session.plans session.learned tellable answer new is
+named-each problem names old (command.Save name) answer new valid all atoms session tables tellable is =
+    named-saving problem old name names all session.plans session.learned tellable answer new is
+named-each problem names old (command.Certify name) answer new valid all atoms session tables tellable is =
+    named-certifying problem old name names all session.plans session.learned tellable answer new is
 named-each problem names old (command.Duo first second numbers) answer new valid all atoms session tables tellable is =
     named-duo problem names all old session.plans session.learned first second numbers answer new tellable.0 tellable.1 is
 named-each problem names old command.Facts answer new valid all atoms session tables tellable is =

@@ -18,7 +18,7 @@ use Rattle.px_script.specs.declared.command.Command.TheVariants as command
 use Rattle.px_session.specs.Determined.{LawfulIsOne, SameReply}
 use Rattle.px_session.specs.Lawful.{Lawful, Notes, TellsFacts, TellsTree, recorded_for}
 use Rattle.px_session.specs.Sessions.{Edit, IsSession, SessionState, of_atoms, of_rooms}
-use Rattle.px_session.proofs.AskedReplies.{asked-one}
+use Rattle.px_session.proofs.AskedReplies.{certifying-one, saving-one, show-one}
 use Rattle.px_session.proofs.OneDuo.{duo-one}
 use Rattle.px_session.proofs.OneEditing.{editing-one}
 use Rattle.px_session.proofs.OneLearning.{learning-one}
@@ -61,8 +61,12 @@ reply-one problem old (command.Learn name source) one other new later valid sess
     learning-one problem valid old session name source one other new later p q
 reply-one problem old (command.Edit name source prefix wanted) one other new later valid session p q =
     editing-one problem old name source prefix wanted one other new later p q
-reply-one problem old (command.Ask about name) one other new later valid session p q =
-    asked-one problem old name about one other new later p q
+reply-one problem old (command.Show name) one other new later valid session p q =
+    show-one problem old name one other new later p q
+reply-one problem old (command.Save name) one other new later valid session p q =
+    saving-one problem old name one other new later p q
+reply-one problem old (command.Certify name) one other new later valid session p q =
+    certifying-one problem old name one other new later p q
 reply-one problem old (command.DisturbAtoms turn between edits) one other new later valid session p q =
     notes-one old (recorded_for turn between (map of_atoms edits)) one other new later p q
 reply-one problem old (command.DisturbRooms turn between edits) one other new later valid session p q =

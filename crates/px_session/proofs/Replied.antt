@@ -16,7 +16,7 @@ use Rattle.px_script.specs.declared.command.Command.TheVariants as command
 use Rattle.px_session.specs.Lawful.{FindsPlan, IsDuoOf, IsEditedInto, IsLearned, IsPursuitOf, IsRunOf, Lawful, Notes, TellsDuo, TellsEditing, TellsFacts, TellsLearning, TellsPursuit, TellsRun, TellsSearch, TellsTree, recorded_for}
 use Rattle.px_session.specs.OwnStates.{edits_given}
 use Rattle.px_session.specs.Sessions.{Edit, SessionState, of_atoms, of_rooms}
-use Rattle.px_session.proofs.AskedReplies.{asked-same}
+use Rattle.px_session.proofs.AskedReplies.{certifying-same, saving-same, show-same}
 
 -- What holds of the state, and of each state that one more plan, one more learned or edited table, one more disturbance, a run, two
 -- executors or a pursuit leave of it, holds of the state after each lawful reply.
@@ -99,7 +99,9 @@ module _ (problem : Problem) (old : SessionState) (given : Command) (P : Session
       after-search name goal variable_count by answer new is
   after-reply (command.Learn name source) by answer new is = after-learning name source by answer new is
   after-reply (command.Edit name source prefix wanted) by answer new is = after-editing name source prefix wanted by answer new is
-  after-reply (command.Ask about name) by answer new is = unchanged new (asked-same problem old name about answer new is)
+  after-reply (command.Show name) by answer new is = unchanged new (show-same problem old name answer new is)
+  after-reply (command.Save name) by answer new is = unchanged new (saving-same problem old name answer new is)
+  after-reply (command.Certify name) by answer new is = unchanged new (certifying-same problem old name answer new is)
   after-reply (command.DisturbAtoms turn between edits) by answer new is =
       after-notes turn between (map of_atoms edits) (ap edits_given by) answer new is
   after-reply (command.DisturbRooms turn between edits) by answer new is =

@@ -8,8 +8,6 @@ use Rattle.px_printer.specs.declared.reply.Reply.{Reply}
 use Rattle.px_printer.specs.declared.reply.Reply.TheVariants as reply
 use Rattle.px_printer.specs.declared.reply.SaveWhy.{SaveWhy}
 use Rattle.px_printer.specs.declared.reply.SaveWhy.TheVariants as why
-use Rattle.px_script.specs.declared.command.About.{About}
-use Rattle.px_script.specs.declared.command.About.TheVariants.{Show, Save, Certify}
 use Rattle.px_script.specs.declared.limits.TheConstants.{LAST_NUMBER as last_number}
 use Rattle.px_session.specs.Sessions.{SessionState, any_table}
 
@@ -70,22 +68,3 @@ TellsCertifying problem old name (reply.Unknown given) new = (given ≡ name) ×
 TellsCertifying problem old name (reply.CertifyRefused given cause) new = (given ≡ name) × IsTableRefused name old cause new
 TellsCertifying problem old name (reply.Certified given bytes) new = (given ≡ name) × IsCertified problem name old bytes new
 TellsCertifying problem old name answer new = ⊥
-
--- ---- all of them
-
--- to `show`, `save` and `certify`
-abbrev pub TellsAsked : Problem → About → SessionState → ℕ → Reply → SessionState → Type 0
-TellsAsked problem Show old name answer new = TellsShow old name answer new
-TellsAsked problem Save old name answer new = TellsSaving old name answer new
-TellsAsked problem Certify old name answer new = TellsCertifying problem old name answer new
-
--- A name without a table is unknown, whatever is asked. Of the causes not to write a table each is the answer wherever it is the first.
-pub record AskedInOrder : Type 0 where
-  pub no_table : (problem : Problem) (about : About) (old : SessionState) (name : ℕ) (answer : Reply) (new : SessionState)
-      → any_table old name ≡ None → TellsAsked problem about old name answer new → (answer ≡ reply.Unknown name) × (new ≡ old)
-  pub not_saved : (problem : Problem) (old : SessionState) (name : ℕ) (answer : Reply) (new : SessionState) (table : Table)
-      (cause : SaveWhy) → any_table old name ≡ Some table → RefusesWriting table cause → TellsAsked problem Save old name answer new
-      → (answer ≡ reply.SaveRefused name cause) × (new ≡ old)
-  pub not_certified : (problem : Problem) (old : SessionState) (name : ℕ) (answer : Reply) (new : SessionState) (table : Table)
-      (cause : SaveWhy) → any_table old name ≡ Some table → RefusesWriting table cause → TellsAsked problem Certify old name answer new
-      → (answer ≡ reply.CertifyRefused name cause) × (new ≡ old)

@@ -9,6 +9,7 @@ use Rattle.px_ends.specs.WorkedEnds.{idle, p, p_at_once}
 use Rattle.px_printer.specs.declared.reply.EditWhy.{EditWhy}
 use Rattle.px_printer.specs.declared.reply.Reply.{Reply}
 use Rattle.px_printer.specs.declared.reply.Reply.TheVariants as reply
+use Rattle.px_printer.specs.declared.reply.SaveWhy.{SaveWhy}
 use Rattle.px_printer.specs.declared.reply.Why.{Why}
 use Rattle.px_printer.specs.declared.reply.Why.TheVariants.{TooLong, TooDeep}
 use Rattle.px_script.specs.declared.command.Command.{Command}
@@ -16,9 +17,25 @@ use Rattle.px_script.specs.declared.command.Command.TheVariants as command
 use Rattle.px_tree.specs.declared.nodes.Tree.{Tree}
 use Rattle.px_tree.specs.declared.nodes.TreeEnd.TheVariants.{Exhausted}
 use Rattle.px_tree.specs.declared.nodes.TreeNode.{TreeNode}
-use Rattle.px_session.specs.Asked.{AskedInOrder}
+use Rattle.px_session.specs.Asked.{RefusesWriting}
 use Rattle.px_session.specs.Lawful.{Lawful, RefusesEditing, RefusesLearning, first_unknown}
 use Rattle.px_session.specs.Sessions.{SessionState, any_table, opening}
+
+-- A name without a table is unknown, whatever is asked. Of the causes not to write a table each is the answer wherever it is the first.
+pub record AskedInOrder : Type 0 where
+  pub none_to_show : (problem : Problem) (old : SessionState) (name : ℕ) (answer : Reply) (new : SessionState)
+      → any_table old name ≡ None → Lawful problem old (command.Show name) answer new → (answer ≡ reply.Unknown name) × (new ≡ old)
+  pub none_to_save : (problem : Problem) (old : SessionState) (name : ℕ) (answer : Reply) (new : SessionState)
+      → any_table old name ≡ None → Lawful problem old (command.Save name) answer new → (answer ≡ reply.Unknown name) × (new ≡ old)
+  pub none_to_certify : (problem : Problem) (old : SessionState) (name : ℕ) (answer : Reply) (new : SessionState)
+      → any_table old name ≡ None → Lawful problem old (command.Certify name) answer new → (answer ≡ reply.Unknown name) × (new ≡ old)
+  pub not_saved : (problem : Problem) (old : SessionState) (name : ℕ) (answer : Reply) (new : SessionState) (table : Table) (why : SaveWhy)
+      → any_table old name ≡ Some table → RefusesWriting table why → Lawful problem old (command.Save name) answer new
+      → (answer ≡ reply.SaveRefused name why) × (new ≡ old)
+  pub not_certified : (problem : Problem) (old : SessionState) (name : ℕ)
+      (answer : Reply) (new : SessionState) (table : Table) (why : SaveWhy)
+      → any_table old name ≡ Some table → RefusesWriting table why → Lawful problem old (command.Certify name) answer new
+      → (answer ≡ reply.CertifyRefused name why) × (new ≡ old)
 
 -- A name without a table is unknown, whatever is bound, and so is a plan's name without a plan, whatever is learned. A bound parameter
 -- that the table does not have comes before the run. After these answers nothing has changed, what is recorded included.

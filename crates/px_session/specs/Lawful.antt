@@ -31,7 +31,7 @@ pub use Rattle.px_turns.specs.Told.{end_told, turn_told}
 use Rattle.px_ends.specs.Trees.{IsTree}
 use Rattle.px_script.specs.declared.command.Command.{Command}
 use Rattle.px_script.specs.declared.command.Command.TheVariants as command
-use Rattle.px_session.specs.Asked.{TellsAsked}
+use Rattle.px_session.specs.Asked.{TellsCertifying, TellsSaving, TellsShow}
 use Rattle.px_session.specs.DuoRuns.{RunsDuo}
 use Rattle.px_session.specs.Sessions.{Edit, SessionState, any_table, leaves_edit, of_atoms, of_rooms}
 
@@ -251,7 +251,9 @@ Lawful problem old (command.Plan name goal variable_count) answer new =
     TellsSearch (task_of problem old.learned.tables old.atoms goal variable_count) name old answer new
 Lawful problem old (command.Learn name source) answer new = TellsLearning problem old name source answer new
 Lawful problem old (command.Edit name source prefix wanted) answer new = TellsEditing problem old name source prefix wanted answer new
-Lawful problem old (command.Ask about name) answer new = TellsAsked problem about old name answer new
+Lawful problem old (command.Show name) answer new = TellsShow old name answer new
+Lawful problem old (command.Save name) answer new = TellsSaving old name answer new
+Lawful problem old (command.Certify name) answer new = TellsCertifying problem old name answer new
 Lawful problem old (command.DisturbAtoms turn between edits) answer new =
     Notes old (recorded_for turn between (map of_atoms edits)) answer new
 Lawful problem old (command.DisturbRooms turn between edits) answer new =

@@ -6,7 +6,7 @@ use Rattle.px_terms.specs.Validity.{IsAtomOf, IsValid}
 use Rattle.px_printer.specs.Replies.{IsReplyNamed}
 use Rattle.px_printer.specs.declared.reply.Reply.{Reply}
 use Rattle.px_script.specs.declared.command.Command.{Command}
-use Rattle.px_script.specs.declared.command.Command.TheVariants.{Plan, Learn, Ask, DisturbAtoms, DisturbRooms, Run, Duo, Edit, Pursue, Tree, Facts}
+use Rattle.px_script.specs.declared.command.Command.TheVariants.{Plan, Learn, Show, Save, Certify, DisturbAtoms, DisturbRooms, Run, Duo, Edit, Pursue, Tree, Facts}
 use Rattle.px_script.specs.Content.{ScriptValue}
 use Rattle.px_script.specs.Ranges.{IsInRange}
 use Rattle.px_session.specs.Lawful.{Lawful}
@@ -26,7 +26,9 @@ IsTellable problem results (Plan name goal variable_count) = (name < results) ×
 IsTellable problem results (Pursue name goal variable_count) = (name < results) × All (IsAtomOf problem variable_count) goal
 IsTellable problem results (Tree name nodes goal variable_count) = (name < results) × All (IsAtomOf problem variable_count) goal
 IsTellable problem results (Learn name source) = (name < results) × (source < results)
-IsTellable problem results (Ask about name) = name < results
+IsTellable problem results (Show name) = name < results
+IsTellable problem results (Save name) = name < results
+IsTellable problem results (Certify name) = name < results
 IsTellable problem results (DisturbAtoms turn between edits) = Unit {0}
 IsTellable problem results (DisturbRooms turn between edits) = Unit {0}
 IsTellable problem results (Run name bindings) = name < results

@@ -8,7 +8,6 @@ use Rattle.px_printer.specs.declared.reply.Reply.{Reply}
 use Rattle.px_printer.specs.declared.reply.Reply.TheVariants as reply
 use Rattle.px_printer.specs.declared.turn.Turn.{Turn}
 use Rattle.px_printer.specs.declared.turn.TurnEnd.TheVariants.{Goal, NoKernel}
-use Rattle.px_script.specs.declared.command.About.TheVariants.{Show}
 use Rattle.px_script.specs.declared.command.Command.TheVariants as command
 use Rattle.px_script.specs.Content.{ScriptValue}
 use Rattle.px_session.specs.Transcripts.{AreAnswersTo, Transcript, texts}
@@ -29,12 +28,12 @@ idle_script = record {
   saved = [];
   commands =
       command.Plan 0 (p ∷ []) 0
-      ∷ command.Ask Show 0
+      ∷ command.Show 0
       ∷ command.DisturbAtoms 1 false (Remove p ∷ [])
       ∷ command.Run 0 []
       ∷ command.Facts
       ∷ command.Plan 1 (p ∷ []) 0
-      ∷ command.Ask Show 1
+      ∷ command.Show 1
       ∷ command.DisturbAtoms 1 false (Add p ∷ [])
       ∷ command.Run 1 []
       ∷ command.DisturbAtoms 2 false (Remove p ∷ [])

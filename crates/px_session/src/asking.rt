@@ -4,14 +4,14 @@ ghost use Rattle.px_terms.specs.Validity.{IsValid};
 ghost use Rattle.px_proof.specs.Derivation.{height};
 ghost use Rattle.px_proof.specs.ProofTerm.{derivation_of};
 ghost use Rattle.px_general.specs.Limits.{IsTooDeep, most_proof_height};
-ghost use Rattle.px_session.specs.Asked.{IsFirstCause, TellsAsked, TellsCertifying, TellsSaving, TellsShow};
+ghost use Rattle.px_session.specs.Asked.{IsFirstCause, TellsCertifying, TellsSaving, TellsShow};
 
 use crate::state::State;
 use px_base::{NoMemory, Sequence};
 use px_cert::cert_text;
 use px_printer::{Reply, SaveWhy};
 use px_proof::{Proof, higher_than};
-use px_script::{About, LAST_NUMBER};
+use px_script::LAST_NUMBER;
 use px_table::{MOST_STEPS, Row, Table};
 use px_terms::Problem;
 use std::alloc::Global;
@@ -60,31 +60,11 @@ fn has_high_proof(proofs: &[Proof]) -> bool
 }
 
 impl State {
-    /// Answers what is asked for of the table of that name.
-    ///
-    /// # Errors
-    /// `NoMemory` where there is no memory for the reply.
-    pub(crate) fn ask(
-        &self,
-        alloc: Global,
-        problem: &Problem,
-        about: About,
-        name: u32,
-    ) -> Result<Reply, NoMemory>
-        ensures told { IfOk result (λ reply. TellsAsked problem.now about self.now name reply self.now) }
-    {
-        match about {
-            About::Show => self.show(name),
-            About::Save => self.save(name),
-            About::Certify => self.certify(alloc, problem, name),
-        }
-    }
-
     /// Shows the table of that name.
     ///
     /// # Errors
     /// `NoMemory` where there is no memory for a copy of the table.
-    fn show(&self, name: u32) -> Result<Reply, NoMemory>
+    pub(crate) fn show(&self, name: u32) -> Result<Reply, NoMemory>
         ensures told { IfOk result (λ reply. TellsShow self.now name reply self.now) }
     {
         match self.table(name) {
@@ -100,7 +80,7 @@ impl State {
     ///
     /// # Errors
     /// `NoMemory` where there is no memory for a copy of the table.
-    fn save(&self, name: u32) -> Result<Reply, NoMemory>
+    pub(crate) fn save(&self, name: u32) -> Result<Reply, NoMemory>
         ensures told { IfOk result (λ reply. TellsSaving self.now name reply self.now) }
     {
         let Some(table) = self.table(name) else {
@@ -119,7 +99,12 @@ impl State {
     ///
     /// # Errors
     /// `NoMemory` where there is no memory for the certificate.
-    fn certify(&self, alloc: Global, problem: &Problem, name: u32) -> Result<Reply, NoMemory>
+    pub(crate) fn certify(
+        &self,
+        alloc: Global,
+        problem: &Problem,
+        name: u32,
+    ) -> Result<Reply, NoMemory>
         ensures told { IfOk result (λ reply. TellsCertifying problem.now self.now name reply self.now) }
     {
         let Some(table) = self.table(name) else {

@@ -49,7 +49,9 @@ pub(crate) fn run_command(
             variable_count,
         } => { state.plan(alloc, problem, *name, goal.as_slice(), *variable_count) }
         Command::Learn { name, source } => state.learn(alloc, problem, *name, *source),
-        Command::Ask { about, name } => state.ask(alloc, problem, *about, *name),
+        Command::Show { name } => state.show(*name),
+        Command::Save { name } => state.save(*name),
+        Command::Certify { name } => state.certify(alloc, problem, *name),
         Command::DisturbAtoms {
             turn,
             between,

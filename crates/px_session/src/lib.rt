@@ -15,7 +15,7 @@
 //!   name in the order of learning, and the disturbances that are recorded for the next run. `opening` is the one before the
 //!   first command: its learned tables are those that the script has saved. An `Edit` is one of atoms or one of a building.
 //! - `Lawful` in `specs/Lawful` says which reply a command may have in a state, and which state it leaves: one relation for all
-//!   commands, a line for each, and one for those that ask for a table, such as `show` (`specs/Asked`). It stands on the ends of a search
+//!   commands, a line for each; what is asked for of a table, as by `show`, stands in `specs/Asked`. It stands on the ends of a search
 //!   and its tree (`px_ends`), generalising (`px_general`), editing (`px_edit`), certificates (`px_cert`), the executor's runs
 //!   (`px_planex`, `px_turns`), two executors in one world (`px_duo`, `specs/DuoRuns`), pursuits (`px_pursue`) and tables by name
 //!   (`px_library`).

@@ -1,6 +1,8 @@
 -- What the definitions see of statements.
-use Rattle.std.specs.Prelude.{map}
+use Rattle.std.specs.Prelude.{◌≡◌, Bool, true, Option, Some, map}
 use Rattle.px_script.specs.Statements as spec
+use Rattle.px_script.specs.Declarations.{Declared, has_building}
+use Rattle.px_script.specs.Forms.{is_formed}
 use Rattle.px_lines.specs.ItemViews.{binding_view, room_edit_view, signed_view, text_of, argument_view, part_view}
 use Rattle.px_statements.specs.declared.statement_kinds.Statement.{Statement}
 use Rattle.px_statements.specs.declared.statement_kinds.Statement.TheVariants as statement
@@ -42,3 +44,8 @@ statement_view (statement.Edit n source prefix ps) = spec.edit n.now source.now 
 statement_view (statement.Pursue n atoms) = spec.pursue n.now (map signed_view atoms.now)
 statement_view (statement.Tree n most atoms) = spec.tree n.now most (map signed_view atoms.now)
 statement_view (statement.Param n ps) = spec.param n.now (map text_of ps.now)
+
+-- Where the line is that of a statement, in the form that lines have after some lines, the answer is this statement.
+abbrev pub UndoesLineOf : Bool → spec.Line → Option spec.Statement → Type 0
+UndoesLineOf with_building line answer = (d : Declared) (s : spec.Statement) → has_building d ≡ with_building
+    → is_formed d (spec.line_of s) ≡ true → line ≡ spec.line_of s → answer ≡ Some s

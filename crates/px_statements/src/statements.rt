@@ -6,7 +6,7 @@ ghost use Rattle.px_script.specs.Statements.{time_word};
 ghost use Rattle.px_script.specs.Rows.{entries_of_three, entries_of_two, entry_among, entry_of, make_ask, make_atoms, make_box, make_disturb, make_door, make_duo, make_edit, make_learn, make_nothing, make_number, make_object, make_operator, make_param, make_plan, make_predicate, make_proof, make_pursue, make_robot, make_room, make_run, make_sort, make_step, make_table, make_tree, row_among, row_of, statement_of};
 ghost use Rattle.px_lines.specs.ItemViews.{rest_view, said_items};
 ghost use Rattle.px_lines.specs.LineViews.{line_view, IsShaped};
-ghost use Rattle.px_statements.specs.Common.{bytes_eq, option_and_then, option_map, time_of, signed_view, statement_view};
+ghost use Rattle.px_statements.specs.Common.{UndoesLineOf, bytes_eq, option_and_then, option_map, time_of, signed_view, statement_view};
 
 use crate::statement_kinds::Statement;
 use px_lines::{Line, Rest, Said, SignedAtom, open_of};
@@ -731,9 +731,8 @@ fn made_of_three<'line, 'text>(
     }
 }
 
-/// Returns the statement that a line in its form is, in a script with or without a building so far, or `None` where it is none: a word of
-/// few, such as `open`, is another one.
-pub fn statement<'line, 'text>(
+/// Returns the statement that the table of the words makes of a line's items, in a script with or without a building so far.
+fn made_by_rows<'line, 'text>(
     with_building: bool,
     line: &'line Line<'text>,
 ) -> Option<Statement<'line, 'text>>
@@ -741,4 +740,17 @@ pub fn statement<'line, 'text>(
     ensures { option_map statement_view result ≡ statement_of with_building (line_view line.now) }
 {
     made(with_building, line.row.word, &line.ones, &line.last)
+}
+
+/// Returns the statement that a line in its form is, in a script with or without a building so far, or `None` where it is none: a word of
+/// few, such as `open`, is another one.
+pub fn statement<'line, 'text>(
+    with_building: bool,
+    line: &'line Line<'text>,
+) -> Option<Statement<'line, 'text>>
+    requires shaped { IsShaped with_building line.now }
+    ensures by_rows { option_map statement_view result ≡ statement_of with_building (line_view line.now) }
+    ensures undoes_line_of { UndoesLineOf with_building (line_view line.now) (option_map statement_view result) }
+{
+    made_by_rows(with_building, line)
 }

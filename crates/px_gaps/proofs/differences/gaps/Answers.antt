@@ -1,49 +1,43 @@
-use Rattle.std.proofs.Common.{◌≡◌, ◌∙◌, List, sym, subst}
+use Rattle.std.proofs.Common.{◌≡◌, ℕ, List, subst, sym}
 use Rattle.std.specs.Prelude.{◌↔◌, All, Contains}
-use Rattle.px_prover.specs.PatternLists.{lists_of}
-use Rattle.px_prover.specs.declared.pattern.GapPattern.{GapPattern}
-use Rattle.px_question.specs.Gaps.{IsGapOf}
+use Rattle.px_proof.specs.declared.shape.Tick.{Tick}
+use Rattle.px_question.specs.Answers.{IsAnswer}
+use Rattle.px_question.specs.Gaps.{IsGapOf, MeetsGapLimit}
 use Rattle.px_question.proofs.DecidedLaws.{questions-are_decided}
 use Rattle.px_question.specs.Settings.{setting_of}
+use Rattle.px_terms.specs.Validity.{IsAtomOf}
 use Rattle.px_terms.specs.declared.atom.Atom.{Atom}
-use Rattle.px_gaps.specs.Closings.{IsMissingIn}
-use Rattle.px_gaps.specs.Described.{IsPlainPattern}
-use Rattle.px_gaps.proofs.Describing.{closings-ground, closings-plain}
-use Rattle.px_gaps.proofs.GapLemmas.{missing-is_gap, not_limited}
 use Rattle.px_gaps.proofs.differences.gaps.Goals as goal
 
-pub missing_by-requires-clause-patterns : goal.missing_by-requires-clause-patterns
-missing_by-requires-clause-patterns c =
-    subst (All (IsPlainPattern c.args.problem.now.objects)) (sym c.deref.ensures.value)
-    (closings-plain c.args.problem.now c.requires.problem c.args.model.now.atoms c.args.formula.now c.args.variable_count c.requires.formula
-    c.in_ok-answer.answer.patterns.items c.in_ok-answer.ensures.answer.all)
+pub gaps_by_atoms-requires-clause-formula : goal.gaps_by_atoms-requires-clause-formula
+gaps_by_atoms-requires-clause-formula c =
+    subst (λ (n : ℕ). All (IsAtomOf c.args.problem.now n) c.args.formula.now) (c.asks_apart.ensures c.if-not-asks_apart.false)
+    c.requires.formula
 
-pub missing_by-requires-clause-provable : goal.missing_by-requires-clause-provable
-missing_by-requires-clause-provable c =
-    closings-ground c.args.problem.now c.requires.problem c.args.model.now.atoms c.args.formula.now c.args.variable_count c.requires.formula
-    c.in_ok-answer.answer.patterns.items c.in_ok-answer.ensures.answer.all c.in_ok-answer.answer.provable.atoms c.in_ok-answer.ensures.answer
+pub gaps_by_atoms-requires-clause-no_answer : goal.gaps_by_atoms-requires-clause-no_answer
+gaps_by_atoms-requires-clause-no_answer c =
+    subst (λ (n : ℕ). ¬ IsAnswer (setting_of c.args.problem.now c.args.model.now.atoms) c.args.formula.now n)
+    (c.asks_apart.ensures c.if-not-asks_apart.false) c.requires.no_answer
 
-pub returns-clause-exact : goal.returns-clause-exact
-returns-clause-exact c = λ atom.
+pub returns-in_ok-gaps-in-Ok-Some-clause-exact : goal.returns-in_ok-gaps-in-Ok-Some-clause-exact
+returns-in_ok-gaps-in-Ok-Some-clause-exact c = λ atom.
     let s = setting_of c.args.problem.now c.args.model.now.atoms in
-    let provable = c.in_ok-answer.answer.provable.atoms in
-    let is =
-    missing-is_gap s c.args.formula.now c.args.variable_count c.in_ok-answer.answer.patterns.items provable c.in_ok-answer.ensures.answer
-    c.requires.no_answer atom in
-    let missing =
-    subst (λ (ps : List GapPattern). Contains c.in_ok-missing.missing.atoms atom
-    ↔ IsMissingIn (lists_of c.args.problem.now.objects ps) provable atom) c.deref.ensures.value (c.in_ok-missing.ensures atom) in
-    let same : c.into_vec.result.items ≡ c.in_ok-missing.missing.atoms =
-    c.into_vec.ensures ∙ c.in_ok-from_slice.ensures ∙ c.atoms.ensures.value in
-    subst (λ (l : List Atom). Contains l atom ↔ IsGapOf s c.args.formula.now c.args.variable_count atom) (sym same)
-    (λ h. is.0 (missing.0 h), λ g. missing.1 (is.1 g))
+    let known = rw c.in-Ok-Some.field-0-is at c.in-Ok-Some.ensures in
+    let none : c.args.variable_count ≡ 0 = c.asks_apart.ensures c.if-not-asks_apart.false in
+    subst (λ (n : ℕ). Contains c.in_ok-gaps-in-Ok-Some.gaps.items atom ↔ IsGapOf s c.args.formula.now n atom) (sym none)
+    (subst (λ (l : List Atom). Contains l atom ↔ IsGapOf s c.args.formula.now 0 atom) (sym c.in_ok-gaps-in-Ok-Some.ensures.same) (known.exact atom))
 
-pub returns-clause-unlimited : goal.returns-clause-unlimited
-returns-clause-unlimited c =
-    not_limited (setting_of c.args.problem.now c.args.model.now.atoms) c.args.formula.now c.args.variable_count c.in_ok-answer.answer.patterns.items
-    c.in_ok-answer.answer.provable.atoms c.in_ok-answer.ensures.answer
+pub returns-in_ok-gaps-in-Ok-Some-clause-unlimited : goal.returns-in_ok-gaps-in-Ok-Some-clause-unlimited
+returns-in_ok-gaps-in-Ok-Some-clause-unlimited c =
+    let s = setting_of c.args.problem.now c.args.model.now.atoms in
+    let known = rw c.in-Ok-Some.field-0-is at c.in-Ok-Some.ensures in
+    subst (λ (n : ℕ). (kept : List Atom) (shapes : List (List Tick)) → ¬ MeetsGapLimit s c.args.formula.now n kept shapes)
+    (sym (c.asks_apart.ensures c.if-not-asks_apart.false)) known.unlimited
 
-pub returns-clause-below : goal.returns-clause-below
-returns-clause-below c =
+pub returns-in_ok-gaps-in-Ok-Some-clause-below : goal.returns-in_ok-gaps-in-Ok-Some-clause-below
+returns-in_ok-gaps-in-Ok-Some-clause-below c =
+    let known = rw c.in-Ok-Some.field-0-is at c.in-Ok-Some.ensures in
     questions-are_decided.gaps_below (setting_of c.args.problem.now c.args.model.now.atoms) c.args.formula.now c.args.variable_count
-    (returns-clause-unlimited c)
+    (subst (λ (n : ℕ). (kept : List Atom) (shapes : List (List Tick))
+    → ¬ MeetsGapLimit (setting_of c.args.problem.now c.args.model.now.atoms) c.args.formula.now n kept shapes)
+    (sym (c.asks_apart.ensures c.if-not-asks_apart.false)) known.unlimited)

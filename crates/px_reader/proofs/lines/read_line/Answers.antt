@@ -45,7 +45,7 @@ read_statement-requires-clause-same c =
     let read = rw c.in-Some-2.is at (c.in_ok-formed.ensures.line d lexed.0 (sym c.has_building-with_building.ensures)
     c.in-Some-word_of.ensures.1 lexed.1) in
     let is = is-statement d lexemes _ (sym c.has_building-with_building.ensures) (line_view c.in-Some-2.formed) read
-    (statement_view c.in-Some-statement.statement) (rw c.in-Some-statement.is at c.statement.ensures) in
+    (statement_view c.in-Some-statement.statement) (rw c.in-Some-statement.is at c.statement.ensures.by_rows) in
     is.1
 
 pub read_statement-requires-clause-formed : goal.read_statement-requires-clause-formed
@@ -56,7 +56,7 @@ read_statement-requires-clause-formed c =
     let read = rw c.in-Some-2.is at (c.in_ok-formed.ensures.line d lexed.0 (sym c.has_building-with_building.ensures)
     c.in-Some-word_of.ensures.1 lexed.1) in
     let is = is-statement d lexemes _ (sym c.has_building-with_building.ensures) (line_view c.in-Some-2.formed) read
-    (statement_view c.in-Some-statement.statement) (rw c.in-Some-statement.is at c.statement.ensures) in
+    (statement_view c.in-Some-statement.statement) (rw c.in-Some-statement.is at c.statement.ensures.by_rows) in
     is.0.1
 
 pub read_statement-requires-clause-named : goal.read_statement-requires-clause-named
@@ -69,7 +69,7 @@ read_statement-requires-clause-named c =
     let read = rw c.in-Some-2.is at (c.in_ok-formed.ensures.line d lexed.0 (sym c.has_building-with_building.ensures)
     c.in-Some-word_of.ensures.1 lexed.1) in
     let is = is-statement d lexemes _ (sym c.has_building-with_building.ensures) (line_view c.in-Some-2.formed) read
-    (statement_view c.in-Some-statement.statement) (rw c.in-Some-statement.is at c.statement.ensures) in
+    (statement_view c.in-Some-statement.statement) (rw c.in-Some-statement.is at c.statement.ensures.by_rows) in
     named (stage_view c.args.stage.now) d (chars c.args.line.now) lexemes (chars c.in-Some.rest.now, word, lexed.1)
     (scalars-chars c.args.line.now c.utf8.line) (statement_view c.in-Some-statement.statement) is.0
 
@@ -83,7 +83,7 @@ returns-in-Some-statement c =
     let read = rw c.in-Some-2.is at (c.in_ok-formed.ensures.line d lexed.0 (sym c.has_building-with_building.ensures)
     c.in-Some-word_of.ensures.1 lexed.1) in
     let is = is-statement d lexemes _ (sym c.has_building-with_building.ensures) (line_view c.in-Some-2.formed) read
-    (statement_view c.in-Some-statement.statement) (rw c.in-Some-statement.is at c.statement.ensures) in
+    (statement_view c.in-Some-statement.statement) (rw c.in-Some-statement.is at c.statement.ensures.by_rows) in
     ends-read (stage_view c.args.stage.now) d (chars c.args.line.now) c.args.number (declared_of c.read_statement.new.so_far) lexemes
     (chars c.in-Some.rest.now, word, lexed.1) (statement_view c.in-Some-statement.statement) is.0
     c.read_statement.result c.read_statement.ensures.fault c.read_statement.ensures.declared
@@ -96,4 +96,4 @@ returns c =
     let read = rw c.in-Some-2.is at (c.in_ok-formed.ensures.line d lexed.0 (sym c.has_building-with_building.ensures)
     c.in-Some-word_of.ensures.1 lexed.1) in
     is-made d lexemes _ (sym c.has_building-with_building.ensures) (line_view c.in-Some-2.formed) read
-    (rw c.in-None.is at c.statement.ensures)
+    (rw c.in-None.is at c.statement.ensures.by_rows)

@@ -9,8 +9,8 @@ explore-requires-clause-explored c = c.new-explored.ensures (task_for c.args.ask
 pub returns-in-Ok-clause-ends : goal.returns-in-Ok-clause-ends
 returns-in-Ok-clause-ends c = c.in-Ok.ensures.gone.2.0
 
-pub path-requires : goal.path-requires
-path-requires c = record {
+pub path-moves-requires : goal.path-moves-requires
+path-moves-requires c = record {
   reached = (subst (StopsAt (task_for c.args.asked.now) c.explore.new.self) c.in-Err-Solved.field-0-is c.in-Err-Solved.ensures.stops).1;
 }
 
@@ -19,7 +19,7 @@ node_limit-requires c = record {
   full = (subst (StopsAt (task_for c.args.asked.now) c.explore.new.self) c.in-Err-Full.field-0-is c.in-Err-Full.ensures.stops).1;
 }
 
-pub shape_limit-requires : goal.shape_limit-requires
-shape_limit-requires c = record {
+pub shape_limit-end-requires : goal.shape_limit-end-requires
+shape_limit-end-requires c = record {
   limited = (subst (StopsAt (task_for c.args.asked.now) c.explore.new.self) c.in-Err-Limited.field-0-is c.in-Err-Limited.ensures.stops).1;
 }

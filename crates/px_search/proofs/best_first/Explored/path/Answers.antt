@@ -16,7 +16,7 @@ path_to-requires-clause-traced c = (c.requires.reached.0, c.requires.reached.1.n
 pub returns : goal.returns
 returns c =
     let task = task_for c.args.asked.now in
-    let e = c.args.self in
+    let e = c.args.self.now in
     ok_map (λ (path : List Move). (found : List (List Move)) → Trace e.cache.numbers e.origins.items found
     → slice_get found (length e.origins.items) ≡ Some path) (IsFound task task.problem.weight)
     (λ path traced. reached-moves task e.cache.numbers e.nodes e.origins.items path c.requires.reached traced) c.path_to.result
