@@ -30,7 +30,9 @@ fn has_bad_table(so_far: &SoFar) -> Result<bool, NoMemory>
     match so_far.open_table() {
         Some(table) => {
             let problem = so_far.problem_here()?;
-            table.is_bad(so_far.alloc, &problem)
+            let bad = table.is_bad(so_far.alloc, &problem);
+            drop(problem);
+            bad
         }
         None => Ok(false),
     }

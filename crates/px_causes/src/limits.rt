@@ -274,13 +274,8 @@ fn tree_limit(
         (length (variable_names_of (map signed_view goal.now))) ∷ over (declared_of so_far.now) limit.GoalAtoms (length goal.now)
         ∷ over (declared_of so_far.now) limit.Commands (length so_far.now.commands.items + 1) ∷ outside of_tree nodes ∷ [])) }
 {
-    let many = has_many_variables(so_far.alloc, goal)?;
-    Ok(
-        passed(many, PassedLimit::Most(Limit::Variables))
-            .or(over(so_far, goal.len(), Limit::GoalAtoms))
-            .or(commands_over(so_far))
-            .or(outside(nodes, 1, MOST_TREE_NODES)),
-    )
+    let limit = plan_limit(so_far, goal)?;
+    Ok(limit.or(outside(nodes, 1, MOST_TREE_NODES)))
 }
 
 fn commands_over(so_far: &SoFar) -> Option<PassedLimit>

@@ -105,7 +105,7 @@ fn part_lacks_argument(so_far: &SoFar, part: &Part<'_>) -> bool
     ensures { result ≡ part_has (λ a. not (is_known_argument (declared_of so_far.now) a)) part.now }
 {
     match part {
-        Part::Fact(_, _, atom) => has_unknown_argument(so_far, atom),
+        Part::Fact(_, _, atom) => are_unknown(so_far, &atom.arguments),
         Part::Ancestor(_) => false,
         Part::Axiom(_, _, _, terms) => are_unknown(so_far, terms),
     }
@@ -122,13 +122,9 @@ fn lack_predicates(so_far: &SoFar, atoms: &[SignedAtom<'_>]) -> bool
 fn lack_arguments(so_far: &SoFar, atoms: &[SignedAtom<'_>]) -> bool
     ensures { result ≡ list_any (lacks_argument (declared_of so_far.now)) atoms.now }
 {
-    atoms.iter().any(|atom| has_unknown_argument(so_far, atom))
-}
-
-fn has_unknown_argument(so_far: &SoFar, atom: &SignedAtom<'_>) -> bool
-    ensures { result ≡ lacks_argument (declared_of so_far.now) atom.now }
-{
-    atom.arguments.iter().any(|x| !is_known(so_far, x))
+    atoms
+        .iter()
+        .any(|atom| are_unknown(so_far, &atom.arguments))
 }
 
 fn is_known(so_far: &SoFar, argument: &Argument<'_>) -> bool
@@ -327,7 +323,7 @@ fn have_unbound(so_far: &SoFar, manner: Manner, atoms: &[SignedAtom<'_>]) -> boo
 fn has_unbound(so_far: &SoFar, manner: Manner, atom: &SignedAtom<'_>) -> bool
     ensures { result ≡ refuses (declared_of so_far.now) manner atom.now }
 {
-    atom.arguments.iter().any(|x| !takes(so_far, manner, x))
+    are_unbound(so_far, manner, &atom.arguments)
 }
 
 /// Returns whether the argument may stand in atoms of the manner.

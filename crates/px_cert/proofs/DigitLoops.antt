@@ -33,22 +33,6 @@ counts [] i below is = absurd (omega (arith, below))
 counts (b ∷ bytes) zero below is = cond-true (is_ascii_digit b) (suc (digit_count bytes)) 0 is
 counts (b ∷ bytes) (suc i) below is = counts bytes i (omega (arith, below)) is
 
-pub count_goes_on : (bytes : List ℕ) (i : ℕ) → i < length bytes → is_ascii_digit (get_or bytes i 0) ≡ true
-    → digit_count (drop i bytes) ≡ suc (digit_count (drop (i + 1) bytes))
-count_goes_on bytes i below is =
-    let next : suc i ≡ i + 1 = omega arith in counts bytes i below is ∙ ap (λ (k : ℕ). suc (digit_count (drop k bytes))) next
-
-pub count_stops : (bytes : List ℕ) (i : ℕ) → i < length bytes → is_ascii_digit (get_or bytes i 0) ≡ false → digit_count (drop i bytes) ≡ 0
-count_stops [] i below is = absurd (omega (arith, below))
-count_stops (b ∷ bytes) zero below is = cond-false (is_ascii_digit b) (suc (digit_count bytes)) 0 is
-count_stops (b ∷ bytes) (suc i) below is = count_stops bytes i (omega (arith, below)) is
-
-pub count_past : (bytes : List ℕ) (i : ℕ) → length bytes ≤ i → digit_count (drop i bytes) ≡ 0
-count_past [] zero past = refl
-count_past [] (suc i) past = refl
-count_past (b ∷ bytes) zero past = absurd (omega (arith, past))
-count_past (b ∷ bytes) (suc i) past = count_past bytes i (omega (arith, past))
-
 passes : (test : ℕ → Bool) (xs : List ℕ) (i : ℕ) → i < length xs → list_all test (take i xs) ≡ true → test (get_or xs i 0) ≡ true
     → list_all test (take (suc i) xs) ≡ true
 passes test [] i below all is = absurd (omega (arith, below))
@@ -57,11 +41,6 @@ passes test (x ∷ xs) (suc i) below all is =
     let both = and_parts (test x) (list_all test (take i xs)) all in
     ap (λ t. t && list_all test (take (suc i) xs)) both.0 ∙ passes test xs i (omega (arith, below)) both.1 is
 
-pub one_more_passes : (test : ℕ → Bool) (xs : List ℕ) (i : ℕ) → i < length xs → list_all test (take i xs) ≡ true
-    → test (get_or xs i 0) ≡ true → list_all test (take (i + 1) xs) ≡ true
-one_more_passes test xs i below all is =
-    let next : i + 1 ≡ suc i = omega arith in ap (λ (k : ℕ). list_all test (take k xs)) next ∙ passes test xs i below all is
-
 -- ---- the number of the digits
 
 reads : (value : ℕ) (digits : List ℕ) (i : ℕ) → i < length digits
@@ -69,18 +48,6 @@ reads : (value : ℕ) (digits : List ℕ) (i : ℕ) → i < length digits
 reads value [] i below = absurd (omega (arith, below))
 reads value (d ∷ digits) zero below = refl
 reads value (d ∷ digits) (suc i) below = reads value digits i (omega (arith, below))
-
-pub read_goes_on : (value : ℕ) (digits : List ℕ) (i : ℕ) → i < length digits
-    → read_on value (drop i digits) ≡ read_on (10 * value + (get_or digits i 0 - 48)) (drop (i + 1) digits)
-read_goes_on value digits i below =
-    let next : suc i ≡ i + 1 = omega arith in
-    reads value digits i below ∙ ap (λ (k : ℕ). read_on (10 * value + (get_or digits i 0 - 48)) (drop k digits)) next
-
-pub read_past : (value : ℕ) (digits : List ℕ) (i : ℕ) → length digits ≤ i → read_on value (drop i digits) ≡ value
-read_past value [] zero past = refl
-read_past value [] (suc i) past = refl
-read_past value (d ∷ digits) zero past = absurd (omega (arith, past))
-read_past value (d ∷ digits) (suc i) past = read_past value digits i (omega (arith, past))
 
 pub read_is_more : (value : ℕ) (digits : List ℕ) → value ≤ read_on value digits
 read_is_more value [] = omega arith

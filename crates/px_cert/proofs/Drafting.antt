@@ -12,11 +12,6 @@ pub follow_more : (d : Draft) (lines : List Line) (last : Draft) (line : Line) �
 follow_more d [] last line follow next = (subst (λ e. IsNext e line) follow next, ap (λ e. after_line e line) follow)
 follow_more d (first ∷ lines) last line follow next = (follow.0, follow_more (after_line d first) lines last line follow.1 next)
 
--- the draft that lines leave is one
-pub follow_is_one : (d : Draft) (lines : List Line) (a b : Draft) → Follow d lines a → Follow d lines b → a ≡ b
-follow_is_one d [] a b f g = f ∙ sym g
-follow_is_one d (line ∷ lines) a b f g = follow_is_one (after_line d line) lines a b f.1 g.1
-
 -- ---- counts of what is due
 
 pub axioms_then-left : (count : ℕ) → axioms_left (axioms_then count) ≡ count

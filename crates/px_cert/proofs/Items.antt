@@ -91,9 +91,6 @@ module _ (limit variable_count : ℕ) (wild : Bool) (low : limit ≤ 2 ^ 64) (fe
 -- ---- lists
 
 module _ {A : Type 0} (item : Reader A) (text : A → List ℕ) (Is : A → Type 0) (exact : IsExact item text Is) (starts : StartsWell text) where
-  pub list_start : StartsWell (list_item text)
-  list_start = record { starts = λ xs rest stop. refl }
-
   pub list_exact : (most : ℕ) → most < 2 ^ 64 → IsExact (list_at item most) (list_item text) (AreAtMost most Is)
   unfolding list_at
   list_exact most small =

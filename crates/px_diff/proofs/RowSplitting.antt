@@ -26,12 +26,6 @@ module _ (params : ℕ) where
   widens-next old made new first second =
       record { long = λ all. second.long (first.long all); kept = λ sigma fit. second.kept sigma (first.kept sigma fit) }
 
-  pub widens-push : (old new : List (List Term)) (one : List Term) → length one ≡ params → new ≡ old ++ one ∷ [] → Widens params old new
-  widens-push old new one long put = record {
-    long = λ all. pushed-all (λ (choice : List Term). length choice ≡ params) old new one all long put;
-    kept = λ sigma. pushed-kept (λ (choice : List Term). FitsTerms choice sigma) old new one put;
-  }
-
 -- ---- objects for one parameter, one after the other
 
 -- the objects extend the terms, and that of the parameter is before this one
@@ -43,18 +37,6 @@ module _ (s : Setting) (table : Table) (row : ℕ) where
       → IsInstanceKnown s table row old sigma → IsInstanceKnown s table row new sigma
   known-wider old new sigma wider known =
       record { few = known.few; atoms = known.atoms; covers = λ objects gaps list. wider (known.covers objects gaps list) }
-
-  -- where no question meets the limit, each is asked of
-  pub asked-known : (IsPart : List ℕ → Type 0) (choices limited : List (List Term)) → AreInstancesKnown s table row IsPart choices
-      → AreAskedOf s table row IsPart choices limited
-  asked-known IsPart choices limited known sigma part = inr (known sigma part)
-
-  -- where the row meets it, each is one of those at which it does
-  pub asked-limited : (limit : ℕ) (terms : List Term) (choices old new : List (List Term)) (one : List Term) → one ≡ terms
-      → new ≡ old ++ one ∷ [] → AreAskedOf s table row (ExtendsTerms limit terms) choices new
-  asked-limited limit terms choices old new one same put sigma extends =
-      inl (pushed-last (λ (choice : List Term). FitsTerms choice sigma) old new one put
-      (subst (λ (l : List Term). FitsTerms l sigma) (sym same) (extends-fits limit terms sigma extends)))
 
   module _ (limit : ℕ) (terms : List Term) (v : ℕ) (is_open : slice_get terms v ≡ Some (Var v)) where
     pub asked-none : (choices limited : List (List Term)) → AreAskedOf s table row (IsBefore limit terms v 0) choices limited

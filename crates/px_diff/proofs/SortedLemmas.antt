@@ -52,12 +52,6 @@ args-fit sorts wanted values args fits k below =
     (ap object_of (mapped-term (substitute (object_terms values)) args k within) ∙ sym (mapped-object (object_under values) args k within))
     (fits k (omega (arith, within, length-map args (substitute (object_terms values)))))
 
--- an object that stands at a place fits it
-pub stands-fits : (sorts wanted values : List ℕ) (args : List Term) (k n : ℕ) → k < length args → slice_index_or args k Wild ≡ Obj n
-    → ObjectsFit sorts wanted (map (object_under values) args) → FitsSort sorts (slice_index wanted k) n
-stands-fits sorts wanted values args k n within is fits =
-    subst (FitsSort sorts (slice_index wanted k)) (ap (object_under values) is) (place-fits sorts wanted values args k within fits)
-
 -- what is read of the sorts and of the terms fits, too
 pub read-fits : (sorts wanted read_sorts read_wanted values : List ℕ) (args read_args : List Term) → read_sorts ≡ sorts
     → read_wanted ≡ wanted → read_args ≡ args → ObjectsFit sorts wanted (map (object_under values) args)

@@ -52,13 +52,6 @@ pub bad-prefix-not : (problem : Problem) (table : Table) (prefix : ℕ) (wanted 
 bad-prefix-not problem table prefix wanted may (inl none) = omega (arith, none, may.least)
 bad-prefix-not problem table prefix wanted may (inr past) = omega (arith, past, may.most)
 
--- the steps of the pairs are the table's
-pub wanted-within : (problem : Problem) (table : Table) (prefix : ℕ) (wanted : List (ℕ × ℕ)) → IsEditable problem table prefix wanted
-    → All (λ (pair : ℕ × ℕ). (1 ≤ pair.0) × (pair.0 ≤ length table.steps)) wanted
-wanted-within problem table prefix wanted may = All-each (λ (pair : ℕ × ℕ). (1 ≤ pair.0) × (pair.0 ≤ length table.steps)) wanted (λ pair has.
-    let add = All-at (IsAddOf problem table prefix) wanted pair may.adds_are has in
-    (add.counted, omega (arith, add.within, may.most)))
-
 pub if_ok : {A E : Type 0} (P Q : A → Type 0) → ((a : A) → P a → Q a) → (r : Result A E) → IfOk r P → IfOk r Q
 if_ok P Q f (Ok a) h = f a h
 if_ok P Q f (Err e) h = tt

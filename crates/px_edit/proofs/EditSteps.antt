@@ -83,15 +83,6 @@ module _ (problem : Problem) (table : Table) (prefix : ℕ) (wanted : List (ℕ 
     ]
   ]
 
-  -- the pair at the place is bad where it is no add, or stands before
-  pub bad-at : (place : ℕ) (pair : ℕ × ℕ) → slice_get wanted place ≡ Some pair
-      → (IsBadWantAt problem table prefix wanted place
-      ↔ ((¬ IsAddOf problem table prefix pair) ⊎ Contains (take place wanted) pair))
-  bad-at place pair at = (
-    λ bad. subst (λ p. (¬ IsAddOf problem table prefix p) ⊎ Contains (take place wanted) p) (some_same (sym bad.1 ∙ at)) bad.2,
-    λ why. (pair, at, why),
-  )
-
   -- where none is bad, all may be asked
   pub all-editable : ((place : ℕ) → ¬ IsBadWantAt problem table prefix wanted place)
       → 1 ≤ prefix → prefix ≤ length table.steps → IsEditable problem table prefix wanted
@@ -133,19 +124,6 @@ module _ (problem : Problem) (table : Table) (prefix : ℕ) (wanted : List (ℕ 
     where
       order : (a b : ℕ) → (a < b) ⊎ ((b < a) ⊎ (a ≡ b))
       order a b = grind arith
-
-  -- the test of a place, by those of its pair
-  pub bad-test : (place : ℕ) → place < length wanted → (is_add stands : Bool) → IsTrue is_add ↔ IsAddOf problem table prefix (slice_index_or wanted place (0, 0))
-      → IsTrue stands ↔ Contains (take place wanted) (slice_index_or wanted place (0, 0))
-      → IsTrue (not is_add || stands) ↔ IsBadWantAt problem table prefix wanted place
-  bad-test place within false stands add before =
-      let by = bad-at place (slice_index_or wanted place (0, 0)) (slice_get-read wanted place (0, 0) within) in
-      (λ _. by.1 (inl (λ is. both_answers false refl (add.1 is))), λ _. refl)
-  bad-test place within true stands add before =
-      let by = bad-at place (slice_index_or wanted place (0, 0)) (slice_get-read wanted place (0, 0) within) in (
-        λ h. by.1 (inr (before.0 h)),
-        λ bad. elim (by.0 bad) [ inl none ↦ absurd (none (add.0 refl)) | inr has ↦ before.1 has ],
-      )
 
   -- a place past the end has no pair
   pub none-past : (at : ℕ) → length wanted ≤ at → ((k : ℕ) → k < at → ¬ IsBadWantAt problem table prefix wanted k) → (place : ℕ)

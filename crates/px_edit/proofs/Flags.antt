@@ -218,15 +218,6 @@ flagged-next start before after marks count at mark marks_are there long exact a
 
 -- ---- the numbers whose flags are set
 
-pub numbers-none : (flags : List Bool) (k : ℕ) (numbers : List ℕ) → k ≤ 1 → numbers ≡ [] → AreFlagged flags k numbers
-numbers-none flags k numbers low is = record {
-  in_order = subst IsStrictlyIncreasing (sym is) (λ i within. absurd (omega (arith, within)));
-  exact = λ j. (
-    λ has. absurd (Contains-none j (subst (λ (l : List ℕ). Contains l j) is has)),
-    λ h. absurd (omega (arith, h.0, h.1, low)),
-  );
-}
-
 push-prefix : (xs : List ℕ) (y k : ℕ) → k < length xs → slice_index (xs ++ y ∷ []) k ≡ slice_index xs k
 push-prefix [] y k below = absurd (omega (arith, below))
 push-prefix (x ∷ xs) y zero below = refl

@@ -9,21 +9,7 @@ use Rattle.px_terms.specs.Substitution.{variables_from}
 use Rattle.px_table.specs.Parameters.{is_parameter}
 use Rattle.px_edit.specs.Editing.{names_by, parameters_in, place_name}
 use Rattle.px_edit.specs.Parts.{AreNamesAlong, is_wild_card, unnamed}
-use Rattle.px_edit.proofs.Names.{length-names, name-of, names-new, parameters-kept, parameters-new, parameters-none, past-is_none}
-
--- what is no parameter gets no name
-pub name-none : (params : ℕ) (walked names : List Term) (next : ℕ) (t : Term) → is_parameter params t ≡ false
-    → AreNamesAlong params walked names next → AreNamesAlong params (walked ++ t ∷ []) names next
-name-none params walked names next t not_one are =
-    let same = sym (parameters-none params walked t not_one) in
-    record {
-      names_are = are.names_are ∙ ap (names_by params) same;
-      count = are.count ∙ ap length same;
-    }
-
-pub name-past : (params v : ℕ) (walked names : List Term) (next : ℕ) → params ≤ v
-    → AreNamesAlong params walked names next → AreNamesAlong params (walked ++ Var v ∷ []) names next
-name-past params v walked names next past = name-none params walked names next (Var v) (past-is_none params v past)
+use Rattle.px_edit.proofs.Names.{length-names, name-of, names-new, parameters-kept, parameters-new}
 
 -- the name at a place, whatever is given for a place past the end
 read-name : (names : List Term) (v : ℕ) (d e : Term) → v < length names → slice_index_or names v d ≡ slice_index_or names v e
@@ -64,29 +50,6 @@ name-new params v walked names next d below none are =
     }
 
 -- ---- how many have no name yet
-
-pub unnamed-set : (names : List Term) (v n : ℕ) (d : Term) → v < length names → slice_index_or names v d ≡ WildCard
-    → unnamed names ≡ unnamed (set names v (Var n)) + 1
-unnamed-set [] v n d below none = absurd (omega (arith, below))
-unnamed-set (t ∷ names) zero n d below none =
-    omega (
-      arith,
-      sum_by-cons (λ x. cond (is_wild_card x) 1 0) t names,
-      ap {B = ℕ} (λ x. cond (is_wild_card x) 1 0) none,
-      sum_by-cons (λ x. cond (is_wild_card x) 1 0) (Var n) names,
-    )
-unnamed-set (t ∷ names) (suc v) n d below none =
-    omega (
-      arith,
-      sum_by-cons (λ x. cond (is_wild_card x) 1 0) t names,
-      sum_by-cons (λ x. cond (is_wild_card x) 1 0) t (set names v (Var n)),
-      unnamed-set names v n d (omega (arith, below)) none,
-    )
-
-pub length-set_name : (names : List Term) (v : ℕ) (t : Term) → length (set names v t) ≡ length names
-length-set_name [] v t = refl
-length-set_name (x ∷ names) zero t = refl
-length-set_name (x ∷ names) (suc v) t = ap suc (length-set_name names v t)
 
 -- ---- before the walk
 

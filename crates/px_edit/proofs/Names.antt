@@ -81,16 +81,6 @@ parameters-more : (params : ℕ) (terms : List Term) (t : Term) → parameters_i
     ≡ each_once term_eq (filter (is_parameter params) terms ++ filter (is_parameter params) (t ∷ []))
 parameters-more params terms t = ap (each_once term_eq) (filter-append (is_parameter params) terms (t ∷ []))
 
-pub parameters-none : (params : ℕ) (terms : List Term) (t : Term) → is_parameter params t ≡ false
-    → parameters_in params (terms ++ t ∷ []) ≡ parameters_in params terms
-parameters-none params terms t not_one =
-    parameters-more params terms t
-    ∙ ap (λ b. each_once term_eq (filter (is_parameter params) terms ++ cond b (t ∷ []) [])) not_one
-    ∙ ap (each_once term_eq) (append-nil (filter (is_parameter params) terms))
-
-pub past-is_none : (params v : ℕ) → params ≤ v → is_parameter params (Var v) ≡ false
-past-is_none params v past = lt-false v params past
-
 parameters-one : (params : ℕ) (terms : List Term) (v : ℕ) → v < params
     → parameters_in params (terms ++ Var v ∷ []) ≡ put_once term_eq (parameters_in params terms) (Var v)
 parameters-one params terms v below =

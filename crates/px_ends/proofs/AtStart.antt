@@ -62,8 +62,3 @@ module _ (task : Task) (weight : ℕ) (room : 1 ≤ task.nodes) where
           (subst (λ (x : List Move). MeetsLimit task.problem (goal_question task (node_of task x)) met.0 met.1)
           (sym (only-place r.0 moves r.1))
           (subst (λ (x : Question). MeetsLimit task.problem x met.0 met.1) tries.1 met.2))
-
-  -- trying the goal there meets the limit
-  pub limited_at_start : (limit : MetLimit) → limit.question ≡ goal_question task (initial_node task) → IsMetLimit task.problem limit
-      → IsShapeLimit task weight (initial_node task) limit
-  limited_at_start limit is met = record { moves = []; node_is = refl; asked = inr (tested, (refl, is)); met = met }

@@ -51,12 +51,6 @@ unlimited_one problem model inst proving finding question formula shapes asks me
       | inr is ↦ finding formula shapes is.0 (subst (λ q. MeetsLimit problem q formula shapes) is.1 met)
     ]
 
--- where it has an answer, and proving it doesn't meet the limit, no question about it does
-pub answered_unlimited : (problem : Problem) (model : List Atom) (inst : OpInst) → HasAnswer problem (needed_by problem model inst)
-    → ((shapes : List (List Tick)) → ¬ IsLimited (setting_of problem model) (precondition problem inst) 0 shapes)
-    → AreUnlimited problem (needed_by problem model inst ∷ [])
-answered_unlimited problem model inst answer proving = unlimited_one problem model inst proving (λ formula shapes none met. none answer)
-
 -- a list has an element, or none
 pub some-or-none : (atoms : List Atom) → ((atom : Atom) × Contains atoms atom) ⊎ ((atom : Atom) → ¬ Contains atoms atom)
 some-or-none [] = inr (λ atom has. Contains-none atom has)

@@ -199,13 +199,6 @@ module _ (limit : ℕ) (terms others : List Term) (alike : length others ≡ len
       (fits-at terms sigma v Any (extends-fits limit terms sigma extends) within)
       (fits-at others sigma v Any fits (omega (arith, within, alike)))
 
-  pub merged-never : (sigma : List ℕ) → ExtendsTerms limit terms sigma → FitsTerms others sigma → (v : ℕ) → v < length terms
-      → ¬ (merged_term limit (get_or terms v Any) (get_or others v Any) ≡ None)
-  merged-never sigma extends fits v within is =
-      let both = both-fit sigma extends fits v within in
-      let never : Some both.0 ≡ None = sym both.1 ∙ is in
-      cc
-
   module _ (next : List Term) (long : length next ≡ length terms)
       (each : (v : ℕ) → v < length terms → merged_term limit (get_or terms v Any) (get_or others v Any) ≡ Some (get_or next v Any)) where
     pub merged-binding : IsBinding limit terms → IsBinding limit next

@@ -108,9 +108,6 @@ bound-either problem high pred leaves uses one other = record {
 
 -- ---- the table
 
-pub table-none : (problem : Problem) (high : ℕ) → AreBounds problem high []
-table-none problem high = record { each = λ pred. tt }
-
 pub table-push : (problem : Problem) (high : ℕ) (old new : List (Option Bound)) (bound : Option Bound) → AreBounds problem high old
     → IfSome bound (IsBound problem high (length old)) → new ≡ old ++ bound ∷ [] → AreBounds problem high new
 table-push problem high old new bound before here is =

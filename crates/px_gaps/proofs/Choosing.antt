@@ -393,3 +393,20 @@ module _ {X : Type 0} (limit : ℕ) (terms : List Term) (atoms taken : List Atom
 
   pub before-none : (x : X) → ¬ IsOpenBefore limit terms atoms taken made v 0 x
   before-none x b = omega (arith, b.2)
+
+-- ---- a place that is set again and again
+
+-- the terms, with another one at the place
+abbrev pub IsSetAt : List Term → ℕ → List Term → Type 0
+IsSetAt terms v next = (x : Term) × (next ≡ set terms v x)
+
+pub set-again : (xs : List Term) (v : ℕ) (x y : Term) → set (set xs v x) v y ≡ set xs v y
+set-again [] v x y = refl
+set-again (z ∷ xs) zero x y = refl
+set-again (z ∷ xs) (suc v) x y = ap (λ l. z ∷ l) (set-again xs v x y)
+
+pub put-again : (terms next new : List Term) (v : ℕ) (y : Term) → IsSetAt terms v next → new ≡ set next v y → new ≡ set terms v y
+put-again terms next new v y is made = made ∙ ap (λ l. set l v y) is.1 ∙ set-again terms v is.0 y
+
+pub long-again : (terms next : List Term) (v : ℕ) → IsSetAt terms v next → length next ≡ length terms
+long-again terms next v is = ap length is.1 ∙ length-set terms v is.0

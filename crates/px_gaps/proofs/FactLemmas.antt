@@ -168,9 +168,6 @@ module _ (problem : Problem) (form : Atom) (is : IsForm problem form) (q : Atom)
     args-are : map (substitute (object_terms instance.0)) form.args ≡ q.args
     args-are = ap (λ (a : Atom). a.args) instance.2
 
-    pub instance-long : length q.args ≡ length form.args
-    instance-long = ap length (sym args-are) ∙ length-map form.args (substitute (object_terms instance.0))
-
     pub instance-objects : All (IsObjectBelow problem.objects) q.args
     instance-objects k d within = object _ ((instance-of_problem instance).1 k d within)
       where

@@ -62,12 +62,6 @@ inserted atom q old new is =
 pub nothing_comes : {Old Here : Type 0} → (¬ Here) → Old ↔ (Old ⊎ Here)
 nothing_comes never = (λ o. inl o, λ h. elim h [ inl o ↦ o | inr here ↦ absurd (never here) ])
 
--- one more of the items, mapped
-pub mapped_next : {X Y : Type 0} (f : X → Y) (xs : List X) (i : ℕ) (x : X) (made after : List Y) (y : Y) → i < length xs → x ≡ get_or xs i x
-    → made ≡ map f (take i xs) → after ≡ made ++ y ∷ [] → y ≡ f x → after ≡ map f (take (i + 1) xs)
-mapped_next f xs i x made after y below is was put same =
-    put ∙ (λ j. was j ++ same j ∷ []) ∙ sym (ap (map f) (take_next xs i x below is) ∙ map-append f (take i xs) (x ∷ []))
-
 -- one item last, of which something holds
 pub kept_one : {X : Type 0} (P : X → Type 0) (one same q : X) (old new : List X) → one ≡ same → P one → new ≡ old ++ one ∷ []
     → Contains new q ↔ (Contains old q ⊎ ((same ≡ q) × P q))

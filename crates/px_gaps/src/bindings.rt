@@ -55,6 +55,14 @@ pub fn bound(
     Ok(next)
 }
 
+/// Puts the object in the place of the variable.
+pub(crate) fn bind(terms: &mut Vec<Term>, variable: u32, object: u32)
+    requires { variable < length terms.old.items }
+    ensures { terms.new.items ≡ set_at terms.old.items variable (Obj object) }
+{
+    terms[variable as usize] = Term::Obj(object);
+}
+
 /// Returns whether one of the atoms, with the objects that are chosen, is in the set.
 pub fn meets_under(terms: &[Term], atoms: &[Atom], set: &Model) -> bool
     requires { ArePlain (length terms.now) atoms.now }

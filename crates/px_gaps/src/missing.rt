@@ -1,5 +1,5 @@
 //! The atoms that the patterns of a formula close together with none that is provable.
-ghost use Rattle.std.specs.Prelude.{◌≡◌, ◌↔◌, ◌⊎◌, length, All, Contains, IfOk, OnOk};
+ghost use Rattle.std.specs.Prelude.{◌≡◌, ◌<◌, ◌↔◌, ◌⊎◌, length, All, Contains, IfOk, OnOk, IsTrue};
 ghost use Rattle.px_prover.specs.PatternLists.{lists_of};
 ghost use Rattle.px_terms.specs.Instances.{IsGround};
 ghost use Rattle.px_terms.specs.Substitution.{substitute_atom};
@@ -8,16 +8,46 @@ ghost use Rattle.px_gaps.specs.Bindings.{AreBound, IsOpenInstance, IsPlain};
 ghost use Rattle.px_gaps.specs.Closings.{IsMissingIn};
 ghost use Rattle.px_gaps.specs.Described.{IsMissingBy, IsPlainPattern};
 
-use crate::bindings::{Avoidance, bound, can_avoid, meets_under, open_variable, unbound};
+use crate::bindings::{Avoidance, bind, bound, can_avoid, meets_under, open_variable, unbound};
 use px_ops::Model;
 use px_prover::GapPattern;
 use px_terms::{Atom, NoMemory, Term, apply};
 use std::alloc::Global;
 
+/// Returns whether the atom stands at the place.
+fn stands_at(atoms: &[Atom], place: usize, atom: &Atom) -> bool
+    ensures { IsTrue result → ((place < length atoms.now) × Contains atoms.now atom.now) }
+{
+    place < atoms.len() && atoms[place] == *atom
+}
+
+/// Returns whether the atom is in the set. If it stands at `near`, one comparison is enough; then `near` is the place where the next atom of
+/// the set stands.
+fn holds_near(set: &Model, near: &mut usize, atom: &Atom) -> bool
+    ensures { IsTrue result ↔ Contains set.now.atoms atom.now }
+{
+    let atoms = set.atoms();
+    if stands_at(atoms, *near, atom) {
+        *near += 1;
+        return true;
+    }
+    match atoms.binary_search(atom) {
+        Ok(place) => {
+            *near = place + 1;
+            true
+        }
+        Err(place) => {
+            *near = place;
+            false
+        }
+    }
+}
+
 /// Puts the atom with the chosen objects into the set of those found, where the other variables can have objects under which none of the
 /// atoms is in the set to be avoided.
 fn insert_one(
     found: &mut Model,
+    near: &mut usize,
     avoidance: &Avoidance,
     terms: &[Term],
     target: &Atom,
@@ -30,7 +60,7 @@ fn insert_one(
         target.now q)) }
 {
     let here = apply(terms, target);
-    if found.holds(&here) {
+    if holds_near(found, near, &here) {
         return Ok(());
     }
     if !can_avoid(avoidance, terms)? {
@@ -45,6 +75,7 @@ fn insert_one(
 /// objects so that no atom is in the set to be avoided. Each recursive call has one variable less.
 fn insert_open(
     found: &mut Model,
+    near: &mut usize,
     avoidance: &Avoidance,
     terms: &[Term],
     target: &Atom,
@@ -57,14 +88,15 @@ fn insert_open(
 {
     let variable = match open_variable(terms, target) {
         Some(variable) => variable,
-        None => return insert_one(found, avoidance, terms, target),
+        None => return insert_one(found, near, avoidance, terms, target),
     };
     if meets_under(terms, avoidance.atoms, avoidance.set) {
         return Ok(());
     }
+    let mut next = bound(avoidance.alloc, terms, variable, 0)?;
     for object in 0..avoidance.limit {
-        let next = bound(avoidance.alloc, terms, variable, object)?;
-        insert_open(found, avoidance, &next, target)?;
+        bind(&mut next, variable, object);
+        insert_open(found, near, avoidance, &next, target)?;
     }
     Ok(())
 }
@@ -90,8 +122,9 @@ fn insert_missing(
         atoms,
         set: provable,
     };
+    let mut near = 0;
     for target in atoms {
-        insert_open(found, &avoidance, &terms, target)?;
+        insert_open(found, &mut near, &avoidance, &terms, target)?;
     }
     Ok(())
 }

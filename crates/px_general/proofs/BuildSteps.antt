@@ -22,24 +22,11 @@ pub mapped_all : {X Y : Type 0} (f : X → Y) (xs : List X) (k : ℕ) (made : Li
     → made ≡ map f xs
 mapped_all f xs k made past made_is = made_is ∙ ap (map f) (whole_taken xs (take k xs) k refl past)
 
--- the same of what is seen of the items
-pub made_next : {X Z W : Type 0} (view : Z → W) (f : X → W) (xs : List X) (k : ℕ) (x : X) (made after : List Z) (z : Z) → k < length xs
-    → x ≡ get_or xs k x
-    → map view made ≡ map f (take k xs) → after ≡ made ++ z ∷ [] → view z ≡ f x → map view after ≡ map f (take (k + 1) xs)
-made_next view f xs k x made after z below is made_is after_is z_is =
-    mapped f xs k x (map view made) (map view after) (view z) below is made_is (ap (map view) after_is ∙ map-append view made (z ∷ [])) z_is
-
 pub map_twice : {X Y Z : Type 0} (f : Y → Z) (g : X → Y) (xs : List X) → map (λ x. f (g x)) xs ≡ map f (map g xs)
 map_twice f g [] = refl
 map_twice f g (x ∷ xs) = ap (λ l. f (g x) ∷ l) (map_twice f g xs)
 
 -- ---- proofs and rows
-
-abbrev pub proof_under : List Term → Proof → Derivation
-proof_under names p = derivation_under names (derivation_of p)
-
-abbrev pub row_under : List Term → List Proof → List Derivation
-row_under names row = map (derivation_under names) (map derivation_of row)
 
 -- ---- the terms of an item
 

@@ -91,13 +91,6 @@ resolved-below n (t ∷ ts) below = All-cons (IsVariableBelow n) t ts (here t re
 
 -- ---- labels
 
-abbrev one_free : Term → ℕ
-one_free t = cond (is_unlabelled t) 1 0
-
-pub free-count : (count : ℕ) → unlabelled (replicate count WildCard) ≡ count
-free-count zero = refl
-free-count (suc count) = sum_by-cons one_free WildCard (replicate count WildCard) ∙ omega (arith, free-count count)
-
 unlabelled_at : (count v p : ℕ) → ¬ (slice_get (replicate count WildCard) v ≡ Some (Var p))
 unlabelled_at zero v p at = cc
 unlabelled_at (suc count) zero p at = cc

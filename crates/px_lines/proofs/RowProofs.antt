@@ -22,12 +22,3 @@ too-many-owed n parts all same more = let least = still-owed n parts in by_count
   where
     by_count : (k : ℕ) → 0 < k → false ≡ (k == 0)
     by_count k some = by_test (k == 0) (λ e. absurd (omega (arith, eqb-true k 0 e, some))) (λ e. sym e)
-
--- one part more is counted
-pub one-part-more : (parts : List Part) (place : ℕ) (d : Part) (n whole : ℕ) → place < length parts
-    → fold owed n (map part_view (drop place parts)) ≡ whole
-    → fold owed (owed n (part_view (get_or parts place d))) (map part_view (drop (place + 1) parts)) ≡ whole
-one-part-more [] place d n whole below e = absurd (omega (arith, below))
-one-part-more (x ∷ xs) zero d n whole below e = e
-one-part-more (x ∷ xs) (suc place) d n whole below e =
-    let same : suc place + 1 ≡ suc (place + 1) = omega arith in rw same (one-part-more xs place d n whole (omega (arith, below)) e)

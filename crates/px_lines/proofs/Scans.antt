@@ -1,9 +1,10 @@
 -- The lexemes of a text: its first token and the others, and the readings of its characters.
-use Rattle.px_lines.proofs.Common.{◌≡◌, ◌<◌, ℕ, zero, suc, Bool, true, false, List, [], ◌∷◌, length, refl, sym, ap, ◌∙◌, subst, arith, Lexeme, Lexes, found, ignored, bad, first, chars, begins-found, ignored-scanned, found-begins, scanned-ignored, Begins-same, Begins-shorter, Begins-not-ignored, scan_within, scan, with_first, lexemes_in, is_whole, Result, Ok, Err, Option, Some, None, Token, lexeme_of, IsNext, is_end, Begins, IfOk, IfSome, IsUtf8}
-use Rattle.std.specs.Prelude.{IfNone, OnErr}
-use Rattle.px_script.specs.Scanning.{First}
-use Rattle.px_script.specs.Lexemes.{IsIgnored}
-use Rattle.px_lines.specs.Tokens.{Scans}
+use Rattle.px_lines.proofs.Common.{◌≡◌, ◌<◌, ℕ, zero, suc, Bool, true, false, List, [], ◌∷◌, ◌++◌, length, refl, sym, ap, ◌∙◌, subst, arith, Lexeme, Lexes, found, ignored, bad, first, chars, begins-found, ignored-scanned, found-begins, scanned-ignored, Begins-same, Begins-shorter, Begins-not-ignored, scan_within, scan, with_first, sign, sign_in, stops, after-is, and_parts, list_all, lexemes_in, is_whole, Result, Ok, Err, Option, Some, None, Token, lexeme_of, IsNext, is_end, Begins, IfOk, IfSome, IsUtf8}
+use Rattle.std.specs.Prelude.{IfNone, OnErr, not}
+use Rattle.px_script.specs.Scanning.{First, first_at}
+use Rattle.px_script.specs.Lexemes.{IsIgnored, is_blank, is_sign}
+use Rattle.px_lines.specs.Tokens.{Scans, Skips}
+use Rattle.px_lines.proofs.Texts.{chars-parts, skipped}
 use Rattle.px_lines.specs.declared.token.BadToken.{BadToken}
 use denote.Ref.{Bor}
 
@@ -73,6 +74,42 @@ module _ (text : List ℕ) where
   no-end (Ok None) token no_token not_lexed other = false-true (other refl)
   no-end (Ok (Some p)) token no_token not_lexed other = let both = scan-found p.1.now (lexeme_of p.0) token in rw both.0 refl
   no-end (Err x) token no_token not_lexed other = let both = scan-bad no_token not_lexed in rw (both.0, both.1) refl
+
+-- ---- a sign in front
+
+-- the characters begin with the sign that is found in front, since they begin with no blank
+sign-first : (cs : List ℕ) (s : ℕ) (rest : List ℕ) → stops is_blank cs ≡ true → first_at cs ≡ found (sign s) rest
+    → (cs ≡ s ∷ rest) × (is_sign s ≡ true)
+sign-first cs s rest stop e = let begins = found-begins cs (sign s) rest (ap first_at (after-is is_blank [] cs refl stop) ∙ e) in
+    (no_blanks begins.blanks (begins.whole ∙ ap (λ t. begins.blanks ++ (t ++ rest)) begins.is_lexeme.1) begins.blank, begins.is_lexeme.0)
+  where
+    no_blanks : (blanks : List ℕ) → cs ≡ blanks ++ (s ∷ rest) → list_all is_blank blanks ≡ true → cs ≡ s ∷ rest
+    no_blanks [] whole blank = whole
+    no_blanks (x ∷ xs) whole blank = let both = and_parts (is_blank x) (list_all is_blank xs) blank in
+        let stops_there : stops is_blank (x ∷ (xs ++ (s ∷ rest))) ≡ true = rw whole at stop in
+        false-true (sym (ap not both.0) ∙ stops_there)
+
+none-unless : (others : List ℕ → List Lexeme × Bool) (f : First) → ((s : ℕ) (rest : List ℕ) → ¬ (f ≡ found (sign s) rest))
+    → None ≡ sign_in (with_first others f).0
+none-unless others (found (sign s) rest) never = absurd (never s rest refl)
+none-unless others _ never = refl
+
+-- what stands after the blanks of a text
+module _ (text after : List ℕ) (u : IsUtf8 text) (v : IsUtf8 after) (skip : Skips is_blank text after) where
+  pub sign-begins : (c : ℕ) (rest : List ℕ) → chars after ≡ c ∷ chars rest → is_sign c ≡ true → Begins (chars text) (sign c) (chars rest)
+  sign-begins c rest characters is = record {
+    blanks = chars skip.prefix;
+    text = c ∷ [];
+    whole = chars-parts text skip.prefix after u skip.whole v ∙ ap (λ t. chars skip.prefix ++ t) characters;
+    blank = skip.all;
+    is_lexeme = (is, refl);
+    ends = tt;
+  }
+
+  pub no-sign : ((s : ℕ) (rest : List ℕ) → chars after ≡ s ∷ rest → ¬ (is_sign s ≡ true)) → None ≡ sign_in (lexemes_in text)
+  unfolding scan scan_within
+  no-sign never = none-unless (scan_within (length (chars text))) (first (chars text)) (λ s rest e.
+      let both = sign-first (chars after) s rest skip.stop (ap first_at (skipped is_blank text after u v skip) ∙ e) in never s rest both.0 both.1)
 
 -- ---- the readings of characters
 

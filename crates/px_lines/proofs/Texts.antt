@@ -1,6 +1,7 @@
 -- A text that is gone through character by character.
-use Rattle.px_lines.proofs.Common.{◌≡◌, ℕ, Bool, true, List, [], ◌∷◌, ◌++◌, length, take, refl, sym, ap, ◌∙◌, ◌-◌, subst, append_assoc, length-append, arith, list_all, IsUtf8, IsCharBoundary, chars, all_scalars, IsUtf8-take, IsUtf8-encode, IsCharBoundary-at_seam, chars-append, chars_past_char, chars-nil, cons_from_encodes, take-append_seam, append-nil, list_all-append, prefix_while, after_while, stops, prefix-is, after-is, and_parts}
+use Rattle.px_lines.proofs.Common.{◌≡◌, ℕ, Bool, true, List, [], ◌∷◌, ◌++◌, length, take, refl, sym, ap, ◌∙◌, ◌-◌, subst, append_assoc, length-append, arith, list_all, IsUtf8, IsCharBoundary, chars, all_scalars, IsUtf8-take, IsUtf8-encode, IsCharBoundary-at_seam, chars-append, chars_past_char, chars-nil, cons_from_encodes, take-append_seam, append-nil, list_all-append, prefix_while, after_while, stops, prefix-is, after-is, and_parts, encodes-chars, encode_utf8_all}
 use Rattle.std.specs.Prelude.{encode_utf8}
+use Rattle.px_lines.specs.Tokens.{Skips}
 
 -- what stands before a text in a text is text
 pub IsUtf8-prefix : (text prefix rest : List ℕ) → IsUtf8 text → text ≡ prefix ++ rest → IsUtf8 rest → IsUtf8 prefix
@@ -30,13 +31,16 @@ prefix-grows p text prefix rest after c u whole v next all passes = let one = Is
       ) refl,
     )
 
+-- the characters of a text that ends with a text
+pub chars-parts : (text prefix rest : List ℕ) → IsUtf8 text → text ≡ prefix ++ rest → IsUtf8 rest → chars text ≡ chars prefix ++ chars rest
+chars-parts text prefix rest u whole v = rw whole (chars-append prefix rest (IsUtf8-prefix text prefix rest u whole v))
+
 -- the front at which the text stops
 pub prefix-ends : (p : ℕ → Bool) (text prefix rest : List ℕ) → IsUtf8 text → text ≡ prefix ++ rest → IsUtf8 rest
     → list_all p (chars prefix) ≡ true → stops p (chars rest) ≡ true
     → (chars prefix ≡ prefix_while p (chars text)) × (chars rest ≡ after_while p (chars text))
 prefix-ends p text prefix rest u whole v all stop =
-    let characters : chars text ≡ chars prefix ++ chars rest = rw whole (chars-append prefix rest (IsUtf8-prefix text prefix rest u whole v))
-    in (
+    let characters = chars-parts text prefix rest u whole v in (
       sym (ap (prefix_while p) characters ∙ prefix-is p (chars prefix) (chars rest) all stop),
       sym
           (ap (after_while p) characters ∙ after-is p (chars prefix) (chars rest) all stop),
@@ -52,3 +56,18 @@ cut-boundary text prefix rest whole v = let P : ℕ → Type 0 = λ n. IsCharBou
 
 pub cut-prefix : (text prefix rest : List ℕ) → text ≡ prefix ++ rest → take (length text - length rest) text ≡ prefix
 cut-prefix text prefix rest whole = rw (cut-place text prefix rest whole, whole) (take-append_seam prefix rest)
+
+-- what follows the characters that are passed
+pub skipped : (p : ℕ → Bool) (text rest : List ℕ) → IsUtf8 text → IsUtf8 rest → Skips p text rest → chars rest ≡ after_while p (chars text)
+skipped p text rest u v skip = (prefix-ends p text skip.prefix rest u skip.whole v skip.all skip.stop).1
+
+-- a character, those after it that pass, and the rest
+module _ (p : ℕ → Bool) (text others rest : List ℕ) (c : ℕ) (first : text ≡ encode_utf8 c ++ others) (skip : Skips p others rest) where
+  pub first-whole : text ≡ (encode_utf8 c ++ skip.prefix) ++ rest
+  first-whole = first ∙ ap (λ t. encode_utf8 c ++ t) skip.whole ∙ sym (append_assoc (encode_utf8 c) skip.prefix rest)
+
+  pub first-cut : IsUtf8 others → IsUtf8 rest → take (length text - length rest) text ≡ encode_utf8_all (c ∷ prefix_while p (chars others))
+  first-cut u v = let ends = prefix-ends p others skip.prefix rest u skip.whole v skip.all skip.stop in
+      let same = encodes-chars skip.prefix (IsUtf8-prefix others skip.prefix rest u skip.whole v) in
+      cut-prefix text (encode_utf8 c ++ skip.prefix) rest first-whole
+      ∙ ap (λ t. encode_utf8 c ++ t) (sym same ∙ ap encode_utf8_all ends.0)

@@ -121,6 +121,15 @@ module _ {T A : Type 0} {view : T → A} {one : List Lexeme → Option (A × Lis
     things-end ends = let both = nothing-more one advances (lexemes_in rest) (is_whole rest) none ends in
         rw (← read.follows.1, both.0, read.whole, both.1) (ap Some (sym (append-nil (map view got))))
 
+-- what is made of what a whole text is
+pub made-whole : {A B : Type 0} (f : A → B) (text : List ℕ) (result found : Option A) → result ≡ if_whole text found
+    → option_map f result ≡ if_whole text (option_map f found)
+made-whole f text result found is = ap (option_map f) is ∙ by_whole (is_whole text)
+  where
+    by_whole : (b : Bool) → option_map f (if b then found else None) ≡ (if b then option_map f found else None)
+    by_whole true = refl
+    by_whole false = refl
+
 pub map-same : {A : Type 0} (xs : List A) → map (λ x. x) xs ≡ xs
 map-same [] = refl
 map-same (x ∷ xs) = ap (λ t. x ∷ t) (map-same xs)

@@ -1,9 +1,11 @@
 //! Lists: names or numbers to the end of a line, and items between parentheses.
 ghost use Rattle.std.specs.Prelude.{◌≡◌, IfOk, map};
-ghost use Rattle.px_script.specs.Parsing.{names_of, numbers_of};
-ghost use Rattle.px_lines.specs.Common.{at_end, option_and_then, option_map, argument_of, names_among, names_at, item_at, items_after, items_at, lexeme_of, lexemes_in, if_whole, ReadsFirst, ReadsItemFirst, argument_view, text_of, list_view, items_view};
+ghost use Rattle.px_script.specs.Parsing.{names_of};
+ghost use Rattle.px_script.specs.Rows.{last_at};
+ghost use Rattle.px_script.specs.declared.kinds.Last.TheVariants as last;
+ghost use Rattle.px_lines.specs.Common.{at_end, option_and_then, option_map, argument_of, names_among, names_at, item_at, items_after, items_at, lexeme_of, lexemes_in, if_whole, ReadsFirst, ReadsItemFirst, argument_view, text_of, list_view, items_view, rest_view};
 
-use crate::items::Argument;
+use crate::items::{Argument, Rest};
 use crate::token::{Token, after_sign, ends, name, next, number, sign};
 use px_base::NoMemory;
 use std::alloc::Global;
@@ -39,8 +41,8 @@ pub fn names<'a>(alloc: Global, text: &'a str) -> Result<Option<Vec<&'a str>>, N
 }
 
 /// Returns the numbers that a text is.
-pub fn numbers(alloc: Global, text: &str) -> Result<Option<Vec<u32>>, NoMemory>
-    ensures { IfOk result (λ found. option_map (λ v. v.items) found ≡ if_whole text.now (numbers_of (lexemes_in text.now))) }
+pub fn numbers<'a>(alloc: Global, text: &'a str) -> Result<Option<Rest<'a>>, NoMemory>
+    ensures { IfOk result (λ found. option_map rest_view found ≡ if_whole text.now (last_at last.Numbers (lexemes_in text.now))) }
 {
     let mut numbers = Vec::new(alloc);
     let mut rest = text;
@@ -49,7 +51,7 @@ pub fn numbers(alloc: Global, text: &str) -> Result<Option<Vec<u32>>, NoMemory>
         rest = after;
     }
     if ends(rest) {
-        Ok(Some(numbers))
+        Ok(Some(Rest::Numbers(numbers)))
     } else {
         Ok(None)
     }

@@ -2,9 +2,11 @@
 ghost use Rattle.std.specs.Prelude.{◌≡◌, ◌<◌, ◌^◌, map, IfOk};
 ghost use Rattle.px_script.specs.Items.{are_proofs, atoms_of_part, owed, terms_of_part};
 ghost use Rattle.px_script.specs.Parsing.{ancestor_at, axiom_at, fact_at, part_at, part_for, terms_after, terms_at};
-ghost use Rattle.px_lines.specs.Common.{ReadsFirst, all_of, argument_view, if_whole, items_view, lexemes_in, list_view, part_view, signed_view};
+ghost use Rattle.px_lines.specs.Common.{ReadsFirst, argument_view, if_whole, items_view, lexemes_in, option_map, part_view, rest_view, signed_view};
+ghost use Rattle.px_script.specs.Rows.{last_at};
+ghost use Rattle.px_script.specs.declared.kinds.Last.TheVariants as last;
 
-use crate::items::{Argument, SignedAtom};
+use crate::items::{Argument, Rest, SignedAtom};
 use crate::lists::arguments_after;
 use crate::series::atom;
 use crate::token::{after_sign, ends, name, number};
@@ -133,8 +135,8 @@ fn next_part<'a>(alloc: Global, text: &'a str) -> Result<Option<(Part<'a>, &'a s
 }
 
 /// Returns the parts of the proofs that a text is.
-pub fn proofs<'a>(alloc: Global, text: &'a str) -> Result<Option<Vec<Part<'a>>>, NoMemory>
-    ensures { IfOk result (λ found. list_view part_view found ≡ if_whole text.now (all_of part_at (lexemes_in text.now))) }
+pub fn proofs<'a>(alloc: Global, text: &'a str) -> Result<Option<Rest<'a>>, NoMemory>
+    ensures { IfOk result (λ found. option_map rest_view found ≡ if_whole text.now (last_at last.Proofs (lexemes_in text.now))) }
 {
     let mut parts = Vec::new(alloc);
     let mut rest = text;
@@ -143,7 +145,7 @@ pub fn proofs<'a>(alloc: Global, text: &'a str) -> Result<Option<Vec<Part<'a>>>,
         rest = after;
     }
     if ends(rest) {
-        Ok(Some(parts))
+        Ok(Some(Rest::Proofs(parts)))
     } else {
         Ok(None)
     }

@@ -96,15 +96,15 @@ fn last_item<'a>(alloc: Global, last: Last, text: &'a str) -> Result<Option<Rest
             Ok(listed_names(alloc, text)?.map(|names| Rest::Listed(kind, names)))
         }
         Last::Known(kind) => Ok(names(alloc, text)?.map(|names| Rest::Wanted(kind, names))),
-        Last::Numbers => Ok(numbers(alloc, text)?.map(|numbers| Rest::Numbers(numbers))),
-        Last::Atoms => Ok(atoms(alloc, text)?.map(|atoms| Rest::Atoms(atoms))),
-        Last::Bindings => Ok(bindings(alloc, text)?.map(|bindings| Rest::Bindings(bindings))),
-        Last::Pairs => Ok(pairs(alloc, text)?.map(|pairs| Rest::Pairs(pairs))),
+        Last::Numbers => numbers(alloc, text),
+        Last::Atoms => atoms(alloc, text),
+        Last::Bindings => bindings(alloc, text),
+        Last::Pairs => pairs(alloc, text),
         Last::Arguments => {
             Ok(listed_arguments(alloc, text)?.map(|arguments| Rest::Arguments(arguments)))
         }
-        Last::Proofs => Ok(proofs(alloc, text)?.map(|parts| Rest::Proofs(parts))),
-        Last::RoomEdits => Ok(room_edits(alloc, text)?.map(|edits| Rest::RoomEdits(edits))),
+        Last::Proofs => proofs(alloc, text),
+        Last::RoomEdits => room_edits(alloc, text),
     }
 }
 

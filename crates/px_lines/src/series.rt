@@ -1,9 +1,11 @@
 //! What is written one after another to the end of a line: atoms, edits and bindings.
 ghost use Rattle.std.specs.Prelude.{◌≡◌, ◌∷◌, IfOk};
-ghost use Rattle.px_lines.specs.Common.{option_map, all_of, atom_at, atom_after, sign_of, room_edit_at, room_edit_for, binding_at, open_of, pair_at, parameter_of, lexemes_in, if_whole, ReadsFirst, signed_view, room_edit_view, binding_view, list_view};
+ghost use Rattle.px_lines.specs.Common.{option_map, atom_at, atom_after, sign_of, room_edit_at, room_edit_for, binding_at, open_of, pair_at, parameter_of, lexemes_in, if_whole, ReadsFirst, signed_view, room_edit_view, rest_view, binding_view};
+ghost use Rattle.px_script.specs.Rows.{last_at};
+ghost use Rattle.px_script.specs.declared.kinds.Last.TheVariants as last;
 ghost use Rattle.px_script.specs.Lexemes.{name as name_lexeme, sign as sign_lexeme};
 
-use crate::items::{SignedAtom, WrittenBinding, WrittenRoomEdit};
+use crate::items::{Rest, SignedAtom, WrittenBinding, WrittenRoomEdit};
 use crate::lists::arguments;
 use crate::token::{Token, after_sign, ends, name, next, number};
 use px_base::NoMemory;
@@ -148,8 +150,8 @@ fn pair(text: &str) -> Option<((u32, u32), &str)>
 // Alike: the four functions below, one for each kind of thing, since each reads another type of things.
 
 /// Returns the atoms that a text is.
-pub fn atoms<'a>(alloc: Global, text: &'a str) -> Result<Option<Vec<SignedAtom<'a>>>, NoMemory>
-    ensures { IfOk result (λ found. list_view signed_view found ≡ if_whole text.now (all_of atom_at (lexemes_in text.now))) }
+pub fn atoms<'a>(alloc: Global, text: &'a str) -> Result<Option<Rest<'a>>, NoMemory>
+    ensures { IfOk result (λ found. option_map rest_view found ≡ if_whole text.now (last_at last.Atoms (lexemes_in text.now))) }
 {
     let mut atoms = Vec::new(alloc);
     let mut rest = text;
@@ -158,18 +160,15 @@ pub fn atoms<'a>(alloc: Global, text: &'a str) -> Result<Option<Vec<SignedAtom<'
         rest = after;
     }
     if ends(rest) {
-        Ok(Some(atoms))
+        Ok(Some(Rest::Atoms(atoms)))
     } else {
         Ok(None)
     }
 }
 
 /// Returns the edits of a building that a text is.
-pub fn room_edits<'a>(
-    alloc: Global,
-    text: &'a str,
-) -> Result<Option<Vec<WrittenRoomEdit<'a>>>, NoMemory>
-    ensures { IfOk result (λ found. list_view room_edit_view found ≡ if_whole text.now (all_of room_edit_at (lexemes_in text.now))) }
+pub fn room_edits<'a>(alloc: Global, text: &'a str) -> Result<Option<Rest<'a>>, NoMemory>
+    ensures { IfOk result (λ found. option_map rest_view found ≡ if_whole text.now (last_at last.RoomEdits (lexemes_in text.now))) }
 {
     let mut edits = Vec::new(alloc);
     let mut rest = text;
@@ -178,18 +177,15 @@ pub fn room_edits<'a>(
         rest = after;
     }
     if ends(rest) {
-        Ok(Some(edits))
+        Ok(Some(Rest::RoomEdits(edits)))
     } else {
         Ok(None)
     }
 }
 
 /// Returns the bindings that a text is.
-pub fn bindings<'a>(
-    alloc: Global,
-    text: &'a str,
-) -> Result<Option<Vec<WrittenBinding<'a>>>, NoMemory>
-    ensures { IfOk result (λ found. list_view binding_view found ≡ if_whole text.now (all_of binding_at (lexemes_in text.now))) }
+pub fn bindings<'a>(alloc: Global, text: &'a str) -> Result<Option<Rest<'a>>, NoMemory>
+    ensures { IfOk result (λ found. option_map rest_view found ≡ if_whole text.now (last_at last.Bindings (lexemes_in text.now))) }
 {
     let mut bindings = Vec::new(alloc);
     let mut rest = text;
@@ -198,15 +194,15 @@ pub fn bindings<'a>(
         rest = after;
     }
     if ends(rest) {
-        Ok(Some(bindings))
+        Ok(Some(Rest::Bindings(bindings)))
     } else {
         Ok(None)
     }
 }
 
 /// Returns the pairs of numbers that a text is.
-pub fn pairs(alloc: Global, text: &str) -> Result<Option<Vec<(u32, u32)>>, NoMemory>
-    ensures { IfOk result (λ found. list_view (λ pair. pair) found ≡ if_whole text.now (all_of pair_at (lexemes_in text.now))) }
+pub fn pairs<'a>(alloc: Global, text: &'a str) -> Result<Option<Rest<'a>>, NoMemory>
+    ensures { IfOk result (λ found. option_map rest_view found ≡ if_whole text.now (last_at last.Pairs (lexemes_in text.now))) }
 {
     let mut pairs = Vec::new(alloc);
     let mut rest = text;
@@ -215,7 +211,7 @@ pub fn pairs(alloc: Global, text: &str) -> Result<Option<Vec<(u32, u32)>>, NoMem
         rest = after;
     }
     if ends(rest) {
-        Ok(Some(pairs))
+        Ok(Some(Rest::Pairs(pairs)))
     } else {
         Ok(None)
     }

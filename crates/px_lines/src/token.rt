@@ -49,8 +49,7 @@ pub fn first_token(text: &str) -> Result<Option<(Token<'_>, &str)>, BadToken>
     ensures no_token { OnErr result ((lexeme : Lexeme) (rest : List ℕ) → ¬ Begins (chars text.now) lexeme rest) }
     ensures not_lexed { OnErr result ((all : List Lexeme) → ¬ Lexes (chars text.now) all) }
 {
-    let (_, text) = split_while(text, Class::Blank);
-    token_at(text)
+    token_at(skip_while(text, Class::Blank))
 }
 
 /// Returns the first token of a text, and what follows it.
@@ -89,10 +88,11 @@ pub fn number(text: &str) -> Option<(u32, &str)>
 pub fn sign(text: &str) -> Option<(char, &str)>
     ensures { ReadsFirst (λ sign. sign) text.now (sign_in (lexemes_in text.now)) result }
 {
-    let (token, rest) = next(text)?;
-    match token {
-        Token::Sign(sign) => Some((sign, rest)),
-        _ => None,
+    let (first, rest) = split_first(skip_while(text, Class::Blank))?;
+    if is_sign(first) {
+        Some((first, rest))
+    } else {
+        None
     }
 }
 
@@ -144,9 +144,10 @@ fn is_sign(ch: char) -> bool
 fn name_at(text: &str) -> Option<(&str, &str)>
     ensures { NameAt (chars text.now) result }
 {
-    let (first, _) = split_first(text)?;
+    let (first, others) = split_first(text)?;
     if starts_name(first) {
-        Some(split_while(text, Class::Continues))
+        let rest = skip_while(others, Class::Continues);
+        Some((&text[..text.len() - rest.len()], rest))
     } else {
         None
     }

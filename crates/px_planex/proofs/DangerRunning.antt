@@ -28,9 +28,6 @@ add_q : edited (Add (q (Obj a))) (p (Obj a) ∷ q (Obj b) ∷ []) ≡ danger_fac
 unfolding with_item
 add_q = refl
 
-remove_p : edited (Remove (p (Obj a))) danger_facts ≡ q (Obj a) ∷ q (Obj b) ∷ []
-remove_p = refl
-
 -- P(a), Q(b), R(a), and then G(a)
 abbrev after_a : List Atom
 after_a = p (Obj a) ∷ q (Obj b) ∷ r (Obj a) ∷ []

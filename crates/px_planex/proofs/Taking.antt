@@ -52,11 +52,6 @@ same_result one other atoms inst same =
 abbrev pub HoldsIfOf : ℕ → List ℕ → List Atom → Mark → Type 0
 HoldsIfOf row objects atoms mark = mark.row ≡ row → Contains atoms (atom_under objects mark.atom)
 
-pub row_is_true : (table : Table) (objects : List ℕ) (row i : ℕ) (atoms : List Atom)
-    → AllBefore (HoldsIfOf row objects atoms) table.marks i → length table.marks ≤ i → KernelRowHolds table (kernel_with objects row) atoms
-row_is_true table objects row i atoms before past mark has =
-    All-at (HoldsIfOf row objects atoms) table.marks mark (all_whole (HoldsIfOf row objects atoms) table.marks i before past) has
-
 -- a term of the one is a term of the other
 same_term : (one other : Problem) (term : Term) → one.objects ≡ other.objects → IsTermOf other 0 term → IsTermOf one 0 term
 same_term one other (Obj n) same within = subst (λ (objects : ℕ). n < objects) (sym same) within

@@ -32,17 +32,6 @@ pub record IsOnTheWayUp (old : ProofStateValue) (goal : OpenGoal) (from : ℕ) (
   pub path : drop number (path_at old.goals goal.above) ≡ path_at old.goals at
   pub never : (j : ℕ) → from ≤ j → j < number → NeverAncestor (path_at old.goals goal.above) old goal j
 
-pub way-start : (old : ProofStateValue) (goal : OpenGoal) (from : ℕ) → goal.above ≤ length old.goals
-    → IsOnTheWayUp old goal from old goal.above 0
-way-start old goal from older =
-    record {
-      same = refl;
-      within = older;
-      short = omega (arith, older);
-      path = refl;
-      never = λ j after before. absurd (omega (arith, before));
-    }
-
 pub way-end : (old : ProofStateValue) (goal : OpenGoal) (from : ℕ) (now : ProofStateValue) (at number : ℕ)
     → IsOnTheWayUp old goal from now at number → at ≡ 0
     → TriesRange (NeverAncestor (path_at old.goals goal.above) old goal) (ComesAncestor (path_at old.goals goal.above) old goal) from

@@ -24,13 +24,6 @@ with_room number clause goal from old new found room tried = record {
   no_more = λ is_not. let none = tried.no_more is_not in (none.0, λ j after within has. none.1 j after within);
 }
 
-pub without_room : (number : ℕ) (clause : Clause) (goal : OpenGoal) (from : ℕ) (old : ProofStateValue) → ¬ HasBudget goal clause.lits
-    → TriesClause number clause goal from old old false
-without_room number clause goal from old no_room = record {
-  least = λ is_found. absurd (cc);
-  no_more = λ is_not. (refl, λ j after within has. absurd (no_room has));
-}
-
 -- the place to begin with is one
 same_start : (number from place a b : ℕ) → IsFrom number from place a → IsFrom number from place b → a ≡ b
 same_start number from place a b h k = elim (cases_lt number from) [

@@ -35,16 +35,6 @@ not_found old new a b same never = record {
   same = λ is_not. same;
 }
 
--- literals of different signs are never equal
-pub other_sign : (changes : List Change) (a b : Lit) → ¬ (a.positive ≡ b.positive) → IsMatch changes changes a b false
-other_sign changes a b differ = record {
-  agree = λ is_found. absurd (cc);
-  grows = λ is_found. absurd (cc);
-  solvable = λ is_found. absurd (cc);
-  never = λ is_not sigma fits e. differ (ap (λ (l : Lit). l.positive) e);
-  same = λ is_not. refl;
-}
-
 -- the test of two signs
 pub same_sign : (x y : Bool) → mathlib.Core.Bool.not (mathlib.Core.Bool.beq x y) ≡ false → x ≡ y
 same_sign true true e = refl

@@ -32,12 +32,6 @@ plain_variable n (Obj o) below = tt
 plain_variable n (Var v) below = below
 plain_variable n Any below = tt
 
-pub lit_variables : (m n : ℕ) → m ≡ n → (l : Lit) → IsLitBelow n l → All (IsVariableBelow m) l.atom.args
-lit_variables m n same l below = rw same (λ k d within. plain_variable n _ (below k d within))
-
-pub lits_variables : (m n : ℕ) → m ≡ n → (ls : List Lit) → ArePlainBelow n ls → All (λ (l : Lit). All (IsVariableBelow m) l.atom.args) ls
-lits_variables m n same ls below = λ k d within. lit_variables m n same (get_or ls k d) (below k d within)
-
 -- the numbers of the new variables
 pub variables-more : (first count : ℕ) → variables_from first (suc count) ≡ variables_from first count ++ Var (first + count) ∷ []
 variables-more first zero = ap (λ (k : ℕ). Var k ∷ []) (omega arith)

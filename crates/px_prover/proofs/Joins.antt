@@ -1,6 +1,6 @@
 -- Attempts of one kind after another, for a question.
-use Rattle.std.proofs.Common.{◌≡◌, ℕ, Bool, true, false, ◌&&◌, ◌||◌, List, [], ◌∷◌, length, map, refl, ap, sym, subst, ◌∙◌}
-use Rattle.std.specs.Prelude.{◌↔◌, Any, IsTrue, nat_eq, flat_map}
+use Rattle.std.proofs.Common.{◌≡◌, ℕ, Bool, true, false, ◌&&◌, ◌||◌, List, [], ◌∷◌, length, map, refl, ap, sym, subst, ◌∙◌, arith}
+use Rattle.std.specs.Prelude.{◌↔◌, ◌≤◌, Any, IsTrue, nat_eq, flat_map}
 use Rattle.std.specs.List.{list_any}
 use Rattle.std.proofs.lemmas.Bool.{eqb-true, eq-eqb}
 use Rattle.std.proofs.lemmas.List.Folds.{Any-from_list_any, list_any-append, list_any-from_Any}
@@ -20,7 +20,16 @@ use Rattle.px_proof_state.specs.Ranges.{TriesRange, NeverFact, ComesFact}
 use Rattle.px_proof_state.specs.States.{ProofStateValue}
 use Rattle.px_proof_state.specs.declared.open.OpenGoal.{OpenGoal}
 use Rattle.px_terms.specs.declared.atom.Atom.{Atom}
+use Rattle.px_terms.specs.declared.clause.Lit.{Lit}
 use Rattle.px_terms.specs.declared.problem.Schema.{Schema}
+
+-- from a number on that is past the last ancestor, none closes the goal
+pub past-ancestors : (path : List Lit) (old : ProofStateValue) (goal : OpenGoal) (from : ℕ) → length path ≤ from
+    → TriesRange (NeverAncestor path old goal) (ComesAncestor path old goal) from (length path) old old false
+past-ancestors path old goal from past = record {
+  least = λ is. absurd (cc);
+  no_more = λ _. (refl, λ j low high. absurd (omega (arith, past, low, high)));
+}
 
 module _ (q : ProofQuestion) (old mid : ProofStateValue) (goal : OpenGoal) where
   -- a state that is the same is ready too

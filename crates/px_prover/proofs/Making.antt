@@ -15,11 +15,10 @@ use Rattle.px_terms.specs.Clauses.{IsArena}
 use Rattle.px_terms.specs.declared.clause.Clause.{Clause}
 use Rattle.px_terms.specs.declared.clause.Lit.{Lit}
 use Rattle.px_terms.specs.declared.term.Term.{Term}
-use Rattle.px_proof.specs.declared.shape.Tick.{Tick}
 use Rattle.px_question.specs.Settings.{Setting}
 use Rattle.px_proof_state.specs.declared.open.Choice.{Choice}
 use Rattle.px_unify.specs.declared.change.Change.{Change}
-use Rattle.px_proof_walk.specs.Pending.{fresh_of, variable_count_of}
+use Rattle.px_proof_walk.specs.Pending.{fresh_of}
 
 -- ---- objects
 
@@ -78,9 +77,6 @@ module _ {X : Type 0} (R : List X) (t : ℕ) (made : List X) (rest : reverse mad
       nil-back (x ∷ xs) e = absurd (cc)
 
 -- ---- the proofs of the choices
-
-abbrev pub tick_of : Choice → Tick
-tick_of c = c.tick
 
 drop-tick : (choices : List Choice) (k : ℕ) (c : Choice) → slice_get choices k ≡ Some c
     → map (λ (d : Choice). d.tick) (drop k choices) ≡ c.tick ∷ map (λ (d : Choice). d.tick) (drop (suc k) choices)
@@ -206,18 +202,6 @@ parts-are axioms number lits within are =
   where
     no_clause : Clause
     no_clause = record { variable_count = 0; lits = [] }
-
-pub variable_count-are : (axioms : List Clause) (number variable_count : ℕ) → number < length axioms → ((d : Clause) → variable_count ≡ (get_or axioms number d).variable_count)
-    → variable_count ≡ variable_count_of (slice_get axioms number)
-variable_count-are axioms number variable_count within are = are no_clause ∙ ap variable_count_of (sym (slice_get-read axioms number no_clause within))
-  where
-    no_clause : Clause
-    no_clause = record { variable_count = 0; lits = [] }
-
--- the objects of a step
-pub objects-are : (objects : List ℕ) (start variable_count end : ℕ) → start + variable_count ≡ end
-    → take (end - start) (drop start objects) ≡ take variable_count (drop start objects)
-objects-are objects start variable_count end is = ap (λ n. take n (drop start objects)) (omega (arith, is))
 
 -- an axiom has a literal
 pub lits-some : (axioms : List Clause) (number : ℕ) (lits : List Lit) → IsArena axioms → number < length axioms

@@ -13,7 +13,7 @@ use Rattle.px_question.specs.Settings.{Setting}
 use Rattle.px_proof_state.specs.Arena.{goals_at, AreOlder}
 use Rattle.px_proof_state.specs.Matches.{choice_by}
 use Rattle.px_proof_state.specs.Parts.{goals_under}
-use Rattle.px_proof_state.specs.States.{ProofStateValue, IsOpening, CanRetract, retracted}
+use Rattle.px_proof_state.specs.States.{ProofStateValue, IsOpening, CanRetract}
 use Rattle.px_proof_state.specs.declared.open.Choice.{Choice}
 use Rattle.px_proof_state.specs.declared.open.OpenGoal.{OpenGoal}
 use Rattle.px_proof_state.proofs.Hanging.{goals_at-index, goals_at-nothing}
@@ -177,13 +177,6 @@ module _ (loose : Bool) (s : Setting) (formula : List Atom) (variable_count : �
       → WasSound loose s formula variable_count choices v.changes v.goals v.first → CanRetract v
   can [] v is was = rw is tt
   can (c ∷ rest) v is was = rw is (was.1, was.2)
-
-  pub standing-can : (v : ProofStateValue) → IsStanding loose s formula variable_count v → CanRetract v
-  standing-can v standing = can v.choices v refl standing.was
-
-  pub standing-retracted : (old new : ProofStateValue) (c : Choice) (rest : List Choice) → IsStanding loose s formula variable_count old
-      → old.choices ≡ c ∷ rest → new ≡ retracted old c rest → IsStanding loose s formula variable_count new
-  standing-retracted old new c rest standing is new_is = rw new_is (record { asked = standing.asked; was = (rw is at standing.was).3 })
 
   -- ---- the start
 

@@ -111,14 +111,3 @@ module _ (loose : Bool) (s : Setting) (formula : List Atom) (variable_count : �
       (rw lit_is at (closes.is_match.agree refl))
       (closes.is_match.variables refl ∙ ap (λ k. variables_of old.changes + k) (sym fresh))
       parts
-
-  pub none-stepped : ClosesByStep old new (Step number place) g clause place false
-      → ¬ IsFeasible loose s formula variable_count (ticks ++ Step number place ∷ [])
-  none-stepped closes =
-      none-agree loose s formula variable_count ticks old new stands (Step number place) goal goals open_is
-      (record {
-        equal_to = new_literal (variables_of old.changes) clause place;
-        parts = goals_below goal (parts_of clause.lits (variables_from (variables_of old.changes) clause.variable_count) place);
-      })
-      is
-      (rw lit_is at (closes.is_match.never refl))

@@ -59,6 +59,10 @@ fn try_since_ancestor(
     requires { IsReadyIn question.now state.old goal.now }
     ensures { IfOk result (λ found. TriesSince question.now (Tick.Anc from) state.old state.new found) }
 {
+    // no path is that long
+    if from > u32::MAX as usize {
+        return try_since_axiom(state, question, goal, 0, 0);
+    }
     match try_ancestors(state, goal, from) {
         Ok(true) => return Ok(true),
         Ok(false) => {}

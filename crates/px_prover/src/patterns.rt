@@ -37,7 +37,7 @@ const MANY_PATTERNS: usize = 1024;
 const RECENT_PATTERNS: usize = 8;
 
 /// Up to how many lists patterns are gathered at once. Where there are more, a walk first tells whether they are too many.
-const FEW_LISTS: u32 = 256;
+const FEW_LISTS: u32 = 1024;
 
 /// Returns the place of the variable in the list of `count` variables, or `count` if it is not there.
 fn place(free: &[u32], count: u32, variable: u32) -> u32

@@ -62,19 +62,6 @@ named_args-more names own first (suc k) (t ∷ ts) d below =
     ∙ sym (ap (λ l. l ++ named_term names own (first + count_by is_object (t ∷ take k ts)) (get_or ts k d) ∷ [])
     (named_args-cons names own first t (take k ts)))
 
-pub length-named_args : (names : List Term) (own first : ℕ) (args : List Term) → length (named_args names own first args) ≡ length args
-length-named_args names own first [] = refl
-length-named_args names own first (t ∷ ts) =
-    ap length (named_args-cons names own first t ts) ∙ ap suc (length-named_args names own (first + objects_one t) ts)
-
--- how many objects stand in a prefix of the arguments and at the next place
-pub objects-prefix : (args : List Term) (k : ℕ) (d : Term) → k < length args
-    → count_by is_object (take k args) + objects_one (get_or args k d) ≤ count_by is_object args
-objects-prefix [] k d below = absurd (omega (arith, below))
-objects-prefix (t ∷ ts) zero d below = omega (arith, objects-cons t ts)
-objects-prefix (t ∷ ts) (suc k) d below =
-    omega (arith, objects-cons t ts, objects-cons t (take k ts), objects-prefix ts k d (omega (arith, below)))
-
 pub objects-more : (args : List Term) (k : ℕ) (d : Term) → k < length args
     → count_by is_object (take (k + 1) args) ≡ count_by is_object (take k args) + objects_one (get_or args k d)
 objects-more [] k d below = absurd (omega (arith, below))
@@ -90,13 +77,6 @@ objects-more (t ∷ ts) (suc k) d below =
 
 abbrev pub objects_of : Atom → ℕ
 objects_of atom = count_by is_object atom.args
-
-pub goal_objects-prefix : (goal : List Atom) (k : ℕ) (d : Atom) → k < length goal
-    → goal_objects (take k goal) + objects_of (get_or goal k d) ≤ goal_objects goal
-goal_objects-prefix [] k d below = absurd (omega (arith, below))
-goal_objects-prefix (a ∷ goal) zero d below = omega (arith, sum_by-cons objects_of a goal)
-goal_objects-prefix (a ∷ goal) (suc k) d below =
-    omega (arith, sum_by-cons objects_of a goal, sum_by-cons objects_of a (take k goal), goal_objects-prefix goal k d (omega (arith, below)))
 
 pub named_goal-more : (names : List Term) (own first k : ℕ) (goal : List Atom) (d : Atom) → k < length goal
     → named_goal names own first (take (k + 1) goal)

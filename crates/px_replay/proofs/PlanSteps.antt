@@ -49,18 +49,3 @@ pub schemas_opened : (problem : Problem) (plan : Table) → IsTable problem plan
     → All (HasSchema problem) (steps_opened plan)
 schemas_opened problem plan is_table no_params =
     schemas problem 0 plan.steps (subst (λ (k : ℕ). All (IsStepOf problem k) plan.steps) no_params is_table.in_range.steps)
-
--- the goal's own variables stay far below all that a number can be
-pub goal_within : (problem : Problem) (plan : Table) (own : ℕ) → IsTable problem plan → plan.params ≡ 0 → plan.goal_variable_count ≤ 1000000
-    → own ≤ 1000000
-    → All (λ (atom : Atom). All (IsVariableBelow (u32_max + 1 - own)) atom.args) plan.goal
-goal_within problem plan own is_table no_params most few k d below =
-    λ j e inside. term_within _ ((is_table.in_range.goal k d below).1 j e inside)
-  where
-    room : (v : ℕ) → v < plan.params + plan.goal_variable_count → v < u32_max + 1 - own
-    room v low = omega (arith, low, no_params, most, few)
-
-    term_within : (t : Term) → IsTermOf problem (plan.params + plan.goal_variable_count) t → IsVariableBelow (u32_max + 1 - own) t
-    term_within (Obj n) is = tt
-    term_within (Var v) is = room v is
-    term_within WildCard is = tt

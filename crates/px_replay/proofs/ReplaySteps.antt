@@ -223,10 +223,6 @@ pub record Goes (axioms : List Clause) (path lits : List Lit) (ds : List Derivat
   pub whole : (new : List Change) → IsReplayOf now new (all_pairs_of axioms path (drop k lits) (derivations (drop k ds)))
       → IsReplayOf start new (all_pairs_of axioms path lits (derivations ds))
 
-pub goes-first : (axioms : List Clause) (path lits : List Lit) (ds : List Derivation) (start : List Change)
-    → CanReplayEach axioms path lits (derivations ds) start → Goes axioms path lits ds start start 0
-goes-first axioms path lits ds start can = record { can = can; grows = Binds-itself start; whole = λ new is. is }
-
 pub forms-length : (axioms : List Clause) (path lits : List Lit) (ds : List Derivation) → HaveForms axioms path lits (derivations ds)
     → length ds ≡ length lits
 forms-length axioms path [] [] forms = refl

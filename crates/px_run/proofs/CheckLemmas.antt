@@ -33,26 +33,6 @@ run-unread source sink status.Usage unread nothing = elim unread [ ]
 run-unread source sink status.WriteFault unread nothing = elim unread [ ]
 run-unread source sink (status.Refused refused) unread nothing = elim unread [ ]
 
-pub check-unread : (source : SourceEnds) (sink : SinkEnds) (result : Status) → IsUnread source result → Wrote sink []
-    → CheckRight source sink result
-check-unread source sink status.ReadFault (rose, within, fails) nothing = (rose, within, fails, nothing)
-check-unread source sink status.TooLong (more, quiet) nothing = (more, quiet, nothing)
-check-unread source sink status.NoMemory (quiet, within) nothing = (quiet, within, nothing)
-check-unread source sink status.Done unread nothing = elim unread [ ]
-check-unread source sink status.Usage unread nothing = elim unread [ ]
-check-unread source sink status.WriteFault unread nothing = elim unread [ ]
-check-unread source sink (status.Refused refused) unread nothing = elim unread [ ]
-
-pub check-judged : (source : SourceEnds) (sink : SinkEnds) (bytes : List ℕ) (claim : Claim) (result : Status) → Came source bytes
-    → IsCertificate bytes claim → JudgedRight claim sink result → CheckRight source sink result
-check-judged source sink bytes claim status.Done came is right = (bytes, claim, right.0, came, is, right.1, right.2)
-check-judged source sink bytes claim status.WriteFault came is right = (bytes, right.0, came, inl (claim, is, right.1), right.2)
-check-judged source sink bytes claim status.NoMemory came is right = (came.no_fault, came-short source bytes came, right)
-check-judged source sink bytes claim status.Usage came is right = elim right [ ]
-check-judged source sink bytes claim status.ReadFault came is right = elim right [ ]
-check-judged source sink bytes claim status.TooLong came is right = elim right [ ]
-check-judged source sink bytes claim (status.Refused refused) came is right = elim right [ ]
-
 pub check-refused : (source : SourceEnds) (sink : SinkEnds) (bytes : List ℕ) (refused : Refused) (result : Status) → Came source bytes
     → IsCertRefused bytes refused → RefusalRight refused sink result → CheckRight source sink result
 check-refused source sink bytes refused (status.Refused answered) came fault right =

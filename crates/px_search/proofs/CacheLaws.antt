@@ -166,6 +166,3 @@ module _ (task : Task) (old mid new : Cache) (before : HaveGrown task old mid) w
   pub answer-grown : {A : Type 0} (result : Result A MoveErr) → OnAnswer result (HaveGrown task mid new)
       → OnAnswer result (HaveGrown task old new)
   answer-grown result grown = on_answer (HaveGrown task mid new) (HaveGrown task old new) result grown (grown-both task old mid new before)
-
-  pub ok-grown : {A E : Type 0} (result : Result A E) → OnOk result (HaveGrown task mid new) → OnOk result (HaveGrown task old new)
-  ok-grown result = on_ok result (grown-both task old mid new before)

@@ -193,13 +193,13 @@ module _ (problem : Problem) (tables : List Table) (facts : List Atom) (entry : 
           → IsPushable problem tables us [] facts entry
       of p has = record { relevant = relevant-for p.relevant has; open_entry = p.open_entry }
 
--- the entries for one more atom, after those for the atoms before it
-pub exact-more : (problem : Problem) (tables : List Table) (facts ws : List Atom) (atom : Atom) (es fs gs : List Entry)
+-- the entries for more atoms, after those for the atoms before them
+pub exact-more : (problem : Problem) (tables : List Table) (facts ws vs : List Atom) (es fs gs : List Entry)
     → ((entry : Entry) → Contains es entry ↔ IsPushable problem tables ws [] facts entry)
-    → ((entry : Entry) → Contains fs entry ↔ IsPushable problem tables (atom ∷ []) [] facts entry) → gs ≡ es ++ fs → (entry : Entry)
-    → Contains gs entry ↔ IsPushable problem tables (ws ++ atom ∷ []) [] facts entry
-exact-more problem tables facts ws atom es fs gs before here is entry =
-    let both = pushable-both problem tables facts entry ws (atom ∷ []) in (
+    → ((entry : Entry) → Contains fs entry ↔ IsPushable problem tables vs [] facts entry) → gs ≡ es ++ fs → (entry : Entry)
+    → Contains gs entry ↔ IsPushable problem tables (ws ++ vs) [] facts entry
+exact-more problem tables facts ws vs es fs gs before here is entry =
+    let both = pushable-both problem tables facts entry ws vs in (
       λ has. both.1 (elim (Contains-append_cases es fs entry (subst (λ (l : List Entry). Contains l entry) is has)) [
         | inl left ↦ inl ((before entry).0 left)
         | inr right ↦ inr ((here entry).0 right)
@@ -217,12 +217,12 @@ whole-none task facts = record {
   unlimited = λ entry relevant. absurd (Contains-none relevant.atom relevant.is_wanted);
 }
 
--- all those for one more atom
-pub whole-more : (task : Task) (facts ws : List Atom) (atom : Atom) (es fs gs : List Entry) → AreWhole task facts ws es
-    → AreWhole task facts (atom ∷ []) fs → gs ≡ es ++ fs → AreWhole task facts (ws ++ atom ∷ []) gs
-whole-more task facts ws atom es fs gs before here is = record {
-  exact = exact-more task.problem task.tables facts ws atom es fs gs before.exact here.exact is;
-  unlimited = λ entry relevant. elim (Contains-append_cases ws (atom ∷ []) relevant.atom relevant.is_wanted) [
+-- all those for more atoms
+pub whole-more : (task : Task) (facts ws vs : List Atom) (es fs gs : List Entry) → AreWhole task facts ws es
+    → AreWhole task facts vs fs → gs ≡ es ++ fs → AreWhole task facts (ws ++ vs) gs
+whole-more task facts ws vs es fs gs before here is = record {
+  exact = exact-more task.problem task.tables facts ws vs es fs gs before.exact here.exact is;
+  unlimited = λ entry relevant. elim (Contains-append_cases ws vs relevant.atom relevant.is_wanted) [
     | inl left ↦ before.unlimited entry (relevant-for task.problem task.tables facts entry relevant left)
     | inr right ↦ here.unlimited entry (relevant-for task.problem task.tables facts entry relevant right)
   ];
@@ -236,22 +236,6 @@ apply-pushes kept s entry same is = subst (λ (x : Step). DescribesMove kept x (
 pub push-entry : (kept : Kept) (s : Step) (n : ℕ) (entry : Entry) → s ≡ step.Push n → DescribesMove kept s (Push entry)
     → slice_get kept.entries n ≡ Some entry
 push-entry kept s n entry same is = subst (λ (x : Step). DescribesMove kept x (Push entry)) same is
-
--- the entry of the step at a place
-pub pushed_here : (kept : Kept) (ss : List Step) (es : List Entry) (i : ℕ) (s : Step) → AreStepsOf kept ss (map Push es)
-    → slice_get ss i ≡ Some s → (e : Entry) × (slice_get es i ≡ Some e) × DescribesMove kept s (Push e)
-pushed_here kept [] [] i s are at = absurd (cc)
-pushed_here kept [] (e ∷ es) i s are at = absurd are
-pushed_here kept (x ∷ ss) [] i s are at = absurd are
-pushed_here kept (x ∷ ss) (e ∷ es) zero s are at =
-    let same : x ≡ s = cc in (e, refl, subst (λ (y : Step). DescribesMove kept y (Push e)) same are.0)
-pushed_here kept (x ∷ ss) (e ∷ es) (suc i) s are at = pushed_here kept ss es i s are.1 at
-
-pub pushed_count : (kept : Kept) (ss : List Step) (es : List Entry) → AreStepsOf kept ss (map Push es) → length ss ≡ length es
-pushed_count kept [] [] are = refl
-pushed_count kept [] (e ∷ es) are = absurd are
-pushed_count kept (s ∷ ss) [] are = absurd are
-pushed_count kept (s ∷ ss) (e ∷ es) are = ap suc (pushed_count kept ss es are.1)
 
 -- ---- over a stack
 

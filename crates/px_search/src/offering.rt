@@ -173,8 +173,34 @@ impl Cache {
         }
     }
 
+    /// Returns all pushes for the atom over the empty stack, in order, by what is kept for it; or `None` where that isn't all.
+    fn offered_for(
+        &mut self,
+        asked: &Asked,
+        current: &CurrentModel,
+        atom: Atom,
+    ) -> Result<Option<Vec<Step>>, MoveErr>
+        requires asked { IsAskable asked.now }
+        requires cache { AreRight (task_for asked.now) self.old }
+        requires part { IsPartAt (task_for asked.now) self.old.numbers current.now.part current.now.model.atoms }
+        ensures cache { OnAnswer result (HaveGrown (task_for asked.now) self.old self.new) }
+        ensures whole { IfOk result (λ whole. IfSome whole (λ steps. IsOfferedWhole (task_for asked.now) self.new.numbers
+            current.now.model.atoms (atom ∷ []) steps.items)) }
+    {
+        let part = current.part;
+        let want = Want { part, atom };
+        let successors = match self.offer(asked, current, &want) {
+            Ok(successors) => successors,
+            Err(error) => return Err(error),
+        };
+        if !successors.is_all {
+            return Ok(None);
+        }
+        Ok(Some(successors.steps))
+    }
+
     /// Returns all pushes for one of the atoms over the empty stack, in order, by what is kept for each of them; or `None` where that
-    /// isn't all, or where they are many.
+    /// isn't all, or where they are many. Each recursive call has half of the atoms, so that a push is compared in few joins.
     fn offered_each(
         &mut self,
         asked: &Asked,
@@ -188,20 +214,31 @@ impl Cache {
         ensures whole { IfOk result (λ whole. IfSome whole (λ steps. IsOfferedWhole (task_for asked.now) self.new.numbers
             current.now.model.atoms gaps.now steps.items)) }
     {
-        let mut steps = Vec::new(asked.alloc);
-        for place in 0..gaps.len() {
-            let atom = gaps[place];
-            let part = current.part;
-            let want = Want { part, atom };
-            let successors = match self.offer(asked, current, &want) {
-                Ok(successors) => successors,
-                Err(error) => return Err(error),
-            };
-            if !successors.is_all || steps.len() >= enough_of(asked) {
-                return Ok(None);
-            }
-            steps = merged(asked.alloc, &self.numbers, &steps, &successors.steps)?;
+        if gaps.len() == 0 {
+            return Ok(Some(Vec::new(asked.alloc)));
         }
+        if gaps.len() == 1 {
+            return self.offered_for(asked, current, gaps[0]);
+        }
+        let half = gaps.len() / 2;
+        let before = match self.offered_each(asked, current, &gaps[..half]) {
+            Ok(before) => before,
+            Err(error) => return Err(error),
+        };
+        let Some(first) = before else {
+            return Ok(None);
+        };
+        if first.len() >= enough_of(asked) {
+            return Ok(None);
+        }
+        let after = match self.offered_each(asked, current, &gaps[half..]) {
+            Ok(after) => after,
+            Err(error) => return Err(error),
+        };
+        let Some(second) = after else {
+            return Ok(None);
+        };
+        let steps = merged(asked.alloc, &self.numbers, &first, &second)?;
         Ok(Some(steps))
     }
 

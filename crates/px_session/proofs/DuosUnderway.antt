@@ -34,11 +34,6 @@ pub senses-next : (who : Who) (remembered : Option KernelInstance) → remembere
     → duo_event.Sense who ≡ event_of {E = Edit} who remembered
 senses-next who remembered none = sym (ap (event_of who) none)
 
-pub acts-next : (who : Who) (remembered : Option KernelInstance) → ¬ (remembered ≡ None)
-    → duo_event.Act who ≡ event_of {E = Edit} who remembered
-acts-next who None some = absurd (some refl)
-acts-next who (Some kernel) some = refl
-
 -- a sensing is told by a line
 pub sensed-line : (duo next : DuoValue) (number : ℕ) (who : Who) (old new : List Atom) (end : DuoEnd) (answer : Outcome) (op : Option OpInst)
     → who ≡ who_of number → (own (who_of number) duo.memories).remembered ≡ None → answer ≡ outcome_told end
@@ -59,34 +54,6 @@ sensed-line duo next number who old new end answer op who_is none answer_is fram
           (subst (λ (o : Outcome). Comes (duo_event.Sense who) o) answer_is happens);
       step = op_is ∙ (λ i. step_told end (remembered_step (own (who_is i) (tables i)) (own (who_is i) next.memories)));
     }
-
--- and so is an action
-pub acted-line : (duo next : DuoValue) (number : ℕ) (who : Who) (old new : List Atom) (end : DuoEnd) (answer : Outcome)
-    → who ≡ who_of number → ¬ ((own (who_of number) duo.memories).remembered ≡ None)
-    → ((answer ≡ outcome.Acted) × (end ≡ told.Acted)) ⊎ ((answer ≡ outcome.Slipped) × (end ≡ told.Slipped))
-    → HappensInDuo leaves_edit duo.problem duo.tables (duo_running old duo.memories) (duo_event.Act who) answer (duo_running new next.memories)
-    → IsDuoLine leaves_edit duo.problem duo.tables number (duo_running old duo.memories) (record { who = number; end = end; op = None })
-    (duo_running new next.memories)
-acted-line duo next number who old new end answer who_is some ends happens =
-    let Comes : DuoEvent Edit → Outcome → Type 0 = λ event outcome.
-    HappensInDuo leaves_edit duo.problem duo.tables (duo_running old duo.memories) event outcome (duo_running new next.memories) in
-    let event : duo_event.Act who ≡ next_event {E = Edit} number duo.memories =
-    ap duo_event.Act who_is ∙ acts-next (who_of number) (own (who_of number) duo.memories).remembered some in
-    let Told : DuoEnd → Type 0 = λ one. IsDuoLine leaves_edit duo.problem duo.tables number (duo_running old duo.memories)
-    (record { who = number; end = one; op = None }) (duo_running new next.memories) in
-    elim ends [
-      | inl both ↦ subst Told (sym both.1) (record {
-        who = refl;
-        happens = subst (λ (e : DuoEvent Edit). Comes e outcome.Acted) event (subst (λ (o : Outcome). Comes (duo_event.Act who) o) both.0 happens);
-        step = refl;
-      })
-      | inr both ↦ subst Told (sym both.1) (record {
-        who = refl;
-        happens = subst (λ (e : DuoEvent Edit). Comes e outcome.Slipped) event
-            (subst (λ (o : Outcome). Comes (duo_event.Act who) o) both.0 happens);
-        step = refl;
-      })
-    ]
 
 -- ---- lines so far
 

@@ -97,24 +97,12 @@ few-rows problem params sorts steps goal goal_variable_count rows is =
 -- ---- bad blocks
 
 module _ (problem : Problem) (valid : IsValid problem) (t : OpenTable) where
-  pub without-goal : t.has_goal ≡ false → true ≡ is_bad_block problem (table_kind t.has_goal (table_view t))
-  without-goal none = rw none refl
-
   pub too-wide : t.has_goal ≡ true → list_any is_wide t.steps.items ≡ true
       → true ≡ is_bad_block problem (table_kind t.has_goal (table_view t))
   too-wide goal wide = rw (
     goal,
     no-table problem valid t.parameters _ t.steps.items t.goal.items t.goal_variable_count (rows_of t.rows.items) wide,
   ) refl
-
-  pub as-tested : (steps : List OpInst) (sorts : List ℕ) (is_one : Bool) → t.has_goal ≡ true → steps ≡ map step_view t.steps.items
-      → sorts ≡ sorts_by_places problem steps t.parameters
-      → is_one ≡ rows_are_table problem t.parameters sorts steps t.goal.items t.goal_variable_count (rows_of t.rows.items)
-      → not is_one ≡ is_bad_block problem (table_kind t.has_goal (table_view t))
-  as-tested steps sorts is_one goal steps_are sorts_are is = rw goal (ap not (is
-      ∙ ap (λ ss. rows_are_table problem t.parameters ss steps t.goal.items t.goal_variable_count (rows_of t.rows.items)) sorts_are
-      ∙ ap (λ os. rows_are_table problem t.parameters (sorts_by_places problem os t.parameters) os t.goal.items t.goal_variable_count
-      (rows_of t.rows.items)) steps_are))
 
   -- a good block has its goal, and its parts make a table
   pub good-table : is_bad_block problem (table_kind t.has_goal (table_view t)) ≡ false

@@ -10,8 +10,8 @@ problem_here-requires c = record {
       (rw c.in-Some.is at c.open_table.ensures) c.requires;
 }
 
-pub is_bad-requires : goal.is_bad-requires
-is_bad-requires c = record {
+pub is_bad-bad-requires : goal.is_bad-bad-requires
+is_bad-bad-requires c = record {
   valid = subst IsValid (sym c.in_ok-problem-in-Some.ensures)
       (table-problem (declared_of c.args.so_far.now) c.in-Some.table.now.has_goal (table_view c.in-Some.table.now)
       (rw c.in-Some.is at c.open_table.ensures) c.requires).valid;

@@ -1,5 +1,6 @@
-use Rattle.px_lines.proofs.Common.{◌∙◌, sym, arith, common_steps}
-use Rattle.px_lines.proofs.Walks.{binding-advances, things-more, things-none, things-end}
+use Rattle.px_lines.proofs.Common.{◌∙◌, ◌∷◌, [], sym, arith, common_steps}
+use Rattle.px_script.specs.Items.{bindings}
+use Rattle.px_lines.proofs.Walks.{made-whole, binding-advances, things-more, things-none, things-end}
 use Rattle.px_lines.proofs.series.bindings.Goals as goal
 
 pub things-preserved : goal.things-preserved
@@ -7,9 +8,11 @@ things-preserved c = let prefix = c.in-Some.ensures in
     things-more binding-advances c.things.invariant c.in-Some.binding c.in-Some.after.now prefix.0 prefix.1 _ (grind (arith, common_steps))
 
 pub returns-then-ends : goal.returns-then-ends
-returns-then-ends c = things-end binding-advances c.things.invariant c.in_default.ensures
-    (sym c.ends.ensures ∙ c.if-ends.true)
+returns-then-ends c = made-whole (λ things. bindings things ∷ []) c.args.text.now _ _
+    (things-end binding-advances c.things.invariant c.in_default.ensures
+    (sym c.ends.ensures ∙ c.if-ends.true))
 
 pub returns : goal.returns
-returns c = things-none binding-advances c.things.invariant c.in_default.ensures
-    (sym c.ends.ensures ∙ c.if-ends.false)
+returns c = made-whole (λ things. bindings things ∷ []) c.args.text.now _ _
+    (things-none binding-advances c.things.invariant c.in_default.ensures
+    (sym c.ends.ensures ∙ c.if-ends.false))

@@ -1,0 +1,5 @@
+use Rattle.px_causes.proofs.FirstLimits.{three-limits}
+use Rattle.px_causes.proofs.limits.edit_limit.Goals as goal
+
+pub returns : goal.returns
+returns c = rw (c.or-2.ensures, c.or.ensures, c.commands_over.ensures, c.great_number.ensures, c.over.ensures) (three-limits _ _ _ _ _ _)
